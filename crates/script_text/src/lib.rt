@@ -1,0 +1,7 @@
+//! The text of scripts.
+#![tactic(auto)]
+
+mod code;
+mod number;
+
+pub use code::{Code, LineError};

@@ -1,0 +1,5 @@
+pub mod Scene
+pub mod Step
+pub mod History
+pub mod Cause
+pub mod Query

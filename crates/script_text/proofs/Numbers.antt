@@ -82,7 +82,7 @@ read_number far word lo hi n small h e low high from to =
     let same : n ≡ number_of word = e ∙ w.0 in
     let at_most = near_abs far lo hi (number_of word) low high (subst (λ (z : ℤ). lo ≤ℤ z) e from) (subst (λ (z : ℤ). z ≤ℤ hi) e to) in
     let near : unsigned_abs (number_of word) < 2 ^ 64 = omega arith in
-    (rw (h, w.1, w.2) refl, record { text = number_text word h near ∙ ap signed_decimal (sym same); low = from; high = to })
+    (rw (h, w.1, w.2) refl, record { text = number_text word h near ∙ ap signed_decimal (sym same); value = same; low = from; high = to })
 
 -- a number's word outside a range
 pub number_below : (far : ℕ) (word : List ℕ) (lo hi n : ℤ) → is_number word ≡ true → n ≡ cut_off far (number_of word)

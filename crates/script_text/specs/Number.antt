@@ -1,7 +1,7 @@
 -- Numbers in a script.
-use Rattle.std.specs.Prelude.{ℕ, Bool, false, not, ◌&&◌, ◌||◌, ◌==◌, if◌then◌else◌, List, [], ◌∷◌, length, Option, Some, None, ℤ, pos, negsuc, neg_ℤ, ◌≤ℤ◌, ◌≡◌, min, suc, int_le, nat_le, bytes_eq, codes}
+use Rattle.std.specs.Prelude.{ℕ, Bool, false, not, ◌&&◌, ◌||◌, ◌==◌, if◌then◌else◌, List, [], ◌∷◌, length, Option, Some, None, ℤ, pos, negsuc, neg_ℤ, ◌≤ℤ◌, ◌≤◌, ◌≡◌, min, suc, int_le, nat_le, bytes_eq, codes}
 use Rattle.std.specs.List.{list_all}
-use Rattle.std.specs.Fmt.{signed_decimal}
+use Rattle.std.specs.Fmt.{decimal, signed_decimal}
 use Rattle.std.specs.Str.Parse.{digits_value}
 use Rattle.script_text.specs.declared.code.Code.{Code}
 use Rattle.script_text.specs.declared.code.Code.TheVariants as code
@@ -39,5 +39,13 @@ cut_off far (negsuc n) = neg_ℤ (pos (min (suc n) far))
 -- the word is the text of this number, which lies from lo to hi
 pub record Spells (word : List ℕ) (lo hi n : ℤ) : Type 0 where
   pub text : word ≡ signed_decimal n
+  pub value : n ≡ number_of word
   pub low : lo ≤ℤ n
   pub high : n ≤ℤ hi
+
+-- the same of a number without a minus
+pub record SpellsNatural (word : List ℕ) (lo hi n : ℕ) : Type 0 where
+  pub text : word ≡ decimal n
+  pub value : pos n ≡ number_of word
+  pub low : lo ≤ n
+  pub high : n ≤ hi

@@ -2,6 +2,11 @@
 #![tactic(auto)]
 
 mod code;
+mod command;
+mod fields;
 mod number;
+mod text;
 
 pub use code::{Code, LineError};
+pub use command::Command;
+pub use text::{Text, TextList};

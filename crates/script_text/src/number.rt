@@ -3,7 +3,7 @@ ghost use Rattle.std.specs.Fmt.{signed_decimal};
 ghost use Rattle.std.specs.List.{list_all};
 ghost use Rattle.std.specs.Str.Parse.{digits_value};
 ghost use Rattle.script_text.specs.Fault.{Reads};
-ghost use Rattle.script_text.specs.Number.{Spells, cut_off, is_digit, is_natural, is_number, number_of, number_fault};
+ghost use Rattle.script_text.specs.Number.{Spells, SpellsNatural, cut_off, is_digit, is_natural, is_number, number_of, number_fault};
 
 use crate::code::Code;
 
@@ -79,4 +79,13 @@ pub fn read_number(word: &[u8], lo: i64, hi: i64) -> Result<i64, Code>
         return Err(Code::Range);
     }
     Ok(number)
+}
+
+/// The number without a minus that a word spells, where it is one from `lo` to `hi`.
+pub fn read_natural(word: &[u8], lo: u32, hi: u32) -> Result<u32, Code>
+    requires { lo ≤ hi }
+    ensures { Reads result (number_fault (pos lo) (pos hi) word.now) (SpellsNatural word.now lo hi) }
+{
+    let number = read_number(word, i64::from(lo), i64::from(hi))?;
+    Ok(number as u32)
 }

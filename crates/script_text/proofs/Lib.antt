@@ -2,3 +2,5 @@ pub mod Digits
 pub mod Numbers
 pub mod Words
 pub mod Boxes
+pub mod Counts
+pub mod Cuts

@@ -1,9 +1,11 @@
 -- What a line of a script is, and what is wrong with one that is none.
-use Rattle.std.specs.Prelude.{ℕ, ◌-◌, if◌then◌else◌, List, [], ◌∷◌, ◌≡◌, map, Option, Some, None, pos, negsuc, int_le, zip}
+use Rattle.std.specs.Prelude.{ℕ, ◌-◌, if◌then◌else◌, List, [], ◌∷◌, ◌≡◌, map, Option, Some, None, pos, negsuc, int_le, nat_abs, zip}
 use Rattle.std.specs.List.{list_all}
 use Rattle.script_text.specs.declared.code.Code.{Code}
 use Rattle.script_text.specs.declared.code.Code.TheVariants as code
 use Rattle.fixed_box.specs.declared.coord.Coord.{Coord}
+use Rattle.word_map.specs.declared.config.TheConstants.{MAX_BODIES, MAX_SLOTS, MAX_NODES}
+use Rattle.word_map.specs.Limits.{is_stripe_count}
 use Rattle.script_text.specs.Command.{corner_words}
 use Rattle.script_text.specs.Fault.{first_of}
 use Rattle.script_text.specs.Number.{number_of, number_fault}
@@ -20,9 +22,32 @@ pub record SpellsCorner (x y z : List ℕ) (corner : List Coord) : Type 0 where
   pub words : corner_words corner ≡ x ∷ y ∷ z ∷ []
   pub values : map (λ c. c.value) corner ≡ number_of x ∷ number_of y ∷ number_of z ∷ []
 
+-- a number of stripes is one of a few
+abbrev pub stripes_fault : List ℕ → Option Code
+stripes_fault word = first_of (number_fault (pos 1) (pos 64) word ∷ (if is_stripe_count (nat_abs (number_of word)) then None else Some code.Range) ∷ [])
+
 -- a box may on no axis end before it begins
 abbrev pub order_fault : List (List ℕ) → List (List ℕ) → Option Code
 order_fault lo hi = if list_all (λ p. int_le (number_of p.0) (number_of p.1)) (zip lo hi) then None else Some code.Range
+
+-- `world BODIES STRIPES LAYERS SLOTS NODES`, below its first word; there is one layer for now
+abbrev pub world_fault : List (List ℕ) → Option Code
+world_fault (bodies ∷ stripes ∷ layers ∷ slots ∷ nodes ∷ []) =
+    first_of (number_fault (pos 1) (pos MAX_BODIES) bodies ∷ stripes_fault stripes ∷ number_fault (pos 1) (pos 1) layers
+    ∷ number_fault (pos 1) (pos MAX_SLOTS) slots ∷ number_fault (pos 1) (pos MAX_NODES) nodes ∷ [])
+world_fault _ = Some code.Count
+
+-- `create NAME LAYER BOX USER`, below its first word, in a world with so many layers
+abbrev pub create_fault : List (List ℕ) → ℕ → List (List ℕ) → Option Code
+create_fault names layers (name ∷ layer ∷ x0 ∷ y0 ∷ z0 ∷ x1 ∷ y1 ∷ z1 ∷ user ∷ []) =
+    first_of (new_name_fault names name ∷ number_fault (pos 0) (pos (layers - 1)) layer ∷ corner_fault x0 y0 z0 ∷ corner_fault x1 y1 z1
+    ∷ number_fault (pos 0) (pos 4294967295) user ∷ order_fault (x0 ∷ y0 ∷ z0 ∷ []) (x1 ∷ y1 ∷ z1 ∷ []) ∷ [])
+create_fault names layers _ = Some code.Count
+
+-- `add NAME`, below its first word; there is one name for now
+abbrev pub add_fault : List (List ℕ) → List (List ℕ) → Option Code
+add_fault names (name ∷ []) = known_name_fault names name
+add_fault names _ = Some code.Count
 
 -- `box MASK BOX`, below its first word
 abbrev pub box_fault : List (List ℕ) → Option Code

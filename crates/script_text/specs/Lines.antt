@@ -1,11 +1,7 @@
 -- The lines of a text, and the words of a line.
 use Rattle.std.specs.Prelude.{ℕ, ◌==◌, if◌then◌else◌, List, [], ◌∷◌, map}
+use Rattle.std.specs.List.{onto_first, slice_split}
 use Rattle.std.specs.Borrow.{Bor}
-
--- the pieces with a byte in front of the first
-abbrev pub onto_first : ℕ → List (List ℕ) → List (List ℕ)
-onto_first b [] = (b ∷ []) ∷ []
-onto_first b (piece ∷ pieces) = (b ∷ piece) ∷ pieces
 
 -- each line ends with a newline, which the last may lack
 abbrev pub lines_of : List ℕ → List (List ℕ)
@@ -14,8 +10,7 @@ lines_of (b ∷ bytes) = if b == 10 then [] ∷ lines_of bytes else onto_first b
 
 -- words stand one space apart
 abbrev pub words_of : List ℕ → List (List ℕ)
-words_of [] = [] ∷ []
-words_of (b ∷ line) = if b == 32 then [] ∷ words_of line else onto_first b (words_of line)
+words_of line = slice_split (λ b. b == 32) line
 
 -- the bytes of pieces that lie in a longer text
 abbrev pub texts : List (Bor (List ℕ)) → List (List ℕ)

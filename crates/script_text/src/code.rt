@@ -1,5 +1,5 @@
 ghost use Rattle.std.specs.Prelude.{◌≡◌};
-ghost use Rattle.script_text.specs.declared.code.LineError.TheVariants.{Memory};
+ghost use Rattle.script_text.specs.declared.code.LineError.TheVariants.{Fault, Memory};
 
 use std::alloc::{AllocError, AllocFailed};
 
@@ -39,6 +39,14 @@ pub enum LineError {
     Fault(Code),
     /// There was not enough memory.
     Memory,
+}
+
+impl From<Code> for LineError {
+    ghost from_gives = { λ code e. e ≡ Fault code };
+
+    fn from(code: Code) -> LineError {
+        LineError::Fault(code)
+    }
 }
 
 impl From<AllocError> for LineError {

@@ -1,15 +1,22 @@
-ghost use Rattle.std.specs.Prelude.{◌≡◌, ◌∷◌, [], map, codes, pos, negsuc, false, IsTrue, MatchResult};
+ghost use Rattle.std.specs.Prelude.{◌≡◌, ◌∷◌, [], map, codes, pos, negsuc, false, IsTrue, MatchResult, IfOk, ⊤, decimal, ◌<◌};
+ghost use Rattle.std.specs.List.{list_all};
+ghost use Rattle.word_map.specs.Limits.{is_stripe_count};
+ghost use Rattle.script_text.specs.Name.{is_name_byte, is_name, new_name_fault, known_name_fault};
 ghost use Rattle.fixed_box.specs.Corner.{is_at_most};
 ghost use Rattle.script_text.specs.Lines.{texts};
-ghost use Rattle.script_text.specs.Fault.{Reads};
+ghost use Rattle.script_text.specs.Fault.{Reads, ReadsInMemory};
 ghost use Rattle.script_text.specs.Number.{Spells, number_of};
-ghost use Rattle.script_text.specs.Command.{corner_words, command_words};
-ghost use Rattle.script_text.specs.Grammar.{SpellsCorner, coordinate_fault, corner_fault, box_fault};
+ghost use Rattle.script_text.specs.Command.{corner_words, world_words, command_words};
+ghost use Rattle.script_text.specs.Grammar.{SpellsCorner, coordinate_fault, corner_fault, stripes_fault, world_fault, create_fault, add_fault, box_fault};
 
-use crate::code::Code;
+use crate::code::{Code, LineError};
 use crate::command::Command;
+use crate::names::Names;
 use crate::number::{read_natural, read_number};
+use crate::text::{Text, TextList};
 use fixed_box::{Coord, FixBox};
+use std::alloc::{AllocError, Global};
+use word_map::{Config, MAX_BODIES, MAX_NODES, MAX_SLOTS, STRIPE_COUNTS};
 
 /// The coordinate that a word spells, in 1/1024 metre.
 fn read_coordinate(word: &[u8]) -> Result<Coord, Code>
@@ -36,9 +43,128 @@ fn box_between(lo: [Coord; 3], hi: [Coord; 3]) -> Result<FixBox, Code>
     FixBox::new(lo, hi).ok_or(Code::Range)
 }
 
+/// Whether all bytes are small letters, digits and low lines.
+fn are_name_bytes(bytes: &[u8]) -> bool
+    ensures { result ≡ list_all is_name_byte bytes.now }
+{
+    bytes
+        .iter()
+        .all(|b| (b'a' <= *b && *b <= b'z') || (b'0' <= *b && *b <= b'9') || *b == b'_')
+}
+
+/// Whether a word is a name.
+fn is_name(word: &[u8]) -> bool
+    ensures { result ≡ is_name word.now }
+{
+    1 <= word.len() && word.len() <= 32 && are_name_bytes(word)
+}
+
+/// A word that has to be a name which was not created above.
+fn check_new_name(names: &Names, word: &[u8]) -> Result<(), Code>
+    ensures { Reads result (new_name_fault names.now word.now) (λ _. ⊤) }
+{
+    if is_name(word) && !names.contains(word) {
+        Ok(())
+    } else {
+        Err(Code::Name)
+    }
+}
+
+/// A word that has to be a name which was created above.
+fn check_known_name(names: &Names, word: &[u8]) -> Result<(), Code>
+    ensures { Reads result (known_name_fault names.now word.now) (λ _. ⊤) }
+{
+    if names.contains(word) {
+        Ok(())
+    } else {
+        Err(Code::Name)
+    }
+}
+
+/// The number of stripes that a word spells.
+fn read_stripes(word: &[u8]) -> Result<u32, Code>
+    ensures { Reads result (stripes_fault word.now) (λ n. (word.now ≡ decimal n) × IsTrue (is_stripe_count n)) }
+{
+    let stripes = read_natural(word, 1, 64)?;
+    if STRIPE_COUNTS.contains(&stripes) {
+        Ok(stripes)
+    } else {
+        Err(Code::Range)
+    }
+}
+
+/// `world BODIES STRIPES LAYERS SLOTS NODES`, below its first word, for one caller.
+#[tactic(auto, using(crate::proofs::Words::words_5, crate::proofs::Counts::world_count))]
+pub fn read_world(args: &[&[u8]]) -> Result<Config, Code>
+    ensures { Reads result (world_fault (texts args.now)) (λ c. (world_words c ≡ codes "world" ∷ texts args.now) × (c.passes ≡ 1)) }
+{
+    let [bodies, stripes, layers, slots, nodes] = args else {
+        return Err(Code::Count);
+    };
+    let bodies = read_natural(bodies, 1, MAX_BODIES)?;
+    let stripes = read_stripes(stripes)?;
+    let layers = read_natural(layers, 1, 1)?;
+    let slots = read_natural(slots, 1, MAX_SLOTS)?;
+    let nodes = read_natural(nodes, 1, MAX_NODES)?;
+    Ok(Config {
+        bodies,
+        stripes,
+        layers,
+        slots,
+        nodes,
+        passes: 1,
+    })
+}
+
+/// `create NAME LAYER BOX USER`, below its first word.
+#[tactic(auto, using(crate::proofs::Words::words_9, crate::proofs::Boxes::in_order))]
+pub fn read_create(alloc: Global, names: &Names, layers: u32, args: &[&[u8]]) -> Result<Command, LineError>
+    requires { 0 < layers }
+    ensures { ReadsInMemory result (create_fault names.now layers (texts args.now)) (λ c. command_words c ≡ codes "create" ∷ texts args.now) }
+{
+    let [name, layer, x0, y0, z0, x1, y1, z1, user] = args else {
+        return Err(LineError::Fault(Code::Count));
+    };
+    check_new_name(names, name)?;
+    let layer = read_natural(layer, 0, layers - 1)?;
+    let lo = read_corner(x0, y0, z0)?;
+    let hi = read_corner(x1, y1, z1)?;
+    let user = read_natural(user, 0, u32::MAX)?;
+    let bounds = box_between(lo, hi)?;
+    Ok(Command::Create {
+        name: Text::from_slice(alloc, name)?,
+        layer,
+        bounds,
+        user,
+    })
+}
+
+/// A list of one text with these bytes.
+fn one_text(alloc: Global, word: &[u8]) -> Result<TextList, AllocError>
+    ensures { IfOk result (λ texts. texts ≡ word.now ∷ []) }
+{
+    let mut texts = Vec::new(alloc);
+    texts.push(Text::from_slice(alloc, word)?)?;
+    Ok(TextList::new(texts))
+}
+
+/// `add NAME`, below its first word.
+#[tactic(auto, using(crate::proofs::Words::words_1))]
+pub fn read_add(alloc: Global, names: &Names, args: &[&[u8]]) -> Result<Command, LineError>
+    ensures { ReadsInMemory result (add_fault names.now (texts args.now)) (λ c. command_words c ≡ codes "add" ∷ texts args.now) }
+{
+    let [name] = args else {
+        return Err(LineError::Fault(Code::Count));
+    };
+    check_known_name(names, name)?;
+    Ok(Command::Add {
+        names: one_text(alloc, name)?,
+    })
+}
+
 /// `box MASK BOX`, below its first word.
 #[tactic(auto, using(crate::proofs::Words::words_7, crate::proofs::Boxes::in_order))]
-fn read_box(args: &[&[u8]]) -> Result<Command, Code>
+pub fn read_box(args: &[&[u8]]) -> Result<Command, Code>
     ensures { Reads result (box_fault (texts args.now)) (λ c. command_words c ≡ codes "box" ∷ texts args.now) }
 {
     let [mask, x0, y0, z0, x1, y1, z1] = args else {

@@ -4,6 +4,8 @@
 mod code;
 mod command;
 mod fields;
+mod lines;
+mod names;
 mod number;
 mod text;
 

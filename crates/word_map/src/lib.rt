@@ -7,5 +7,7 @@
 mod config;
 mod map;
 
-pub use config::{BadConfig, Config, Field};
+pub use config::{
+    BadConfig, Config, Field, MAX_BODIES, MAX_LAYERS, MAX_NODES, MAX_PASSES, MAX_SLOTS, STRIPE_COUNTS,
+};
 pub use map::{Map, check};

@@ -4,3 +4,5 @@ pub mod Words
 pub mod Boxes
 pub mod Counts
 pub mod Cuts
+pub mod FirstWord
+pub mod Drafts

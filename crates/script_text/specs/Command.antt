@@ -1,6 +1,7 @@
 -- The words of a script's lines, as they are printed.
-use Rattle.std.specs.Prelude.{ℕ, List, [], ◌∷◌, ◌++◌, map, codes, decimal}
+use Rattle.std.specs.Prelude.{ℕ, List, [], ◌∷◌, ◌++◌, map, codes, decimal, pos, slice_index_or, ◌≡◌, ◌<◌}
 use Rattle.std.specs.Fmt.{signed_decimal}
+use Rattle.script_text.specs.Number.{number_of}
 use Rattle.fixed_box.specs.declared.coord.Coord.{Coord}
 use Rattle.fixed_box.specs.declared.fix_box.FixBox.{FixBox}
 use Rattle.word_map.specs.declared.config.Config.{Config}
@@ -24,3 +25,10 @@ command_words (Create name layer bounds user) =
     codes "create" ∷ name ∷ decimal layer ∷ (box_words bounds ++ decimal user ∷ [])
 command_words (Add names) = codes "add" ∷ names
 command_words (QueryBox mask bounds) = codes "box" ∷ decimal mask ∷ box_words bounds
+
+-- sizes, for one caller, that these words spell below `world`
+pub record SpellsWorld (args : List (List ℕ)) (c : Config) : Type 0 where
+  pub words : world_words c ≡ codes "world" ∷ args
+  pub layers : pos c.layers ≡ number_of (slice_index_or args 2 [])
+  pub some_layers : 0 < c.layers
+  pub passes : c.passes ≡ 1

@@ -1,12 +1,15 @@
 -- What a line of a script is, and what is wrong with one that is none.
-use Rattle.std.specs.Prelude.{ℕ, ◌-◌, if◌then◌else◌, List, [], ◌∷◌, ◌≡◌, map, Option, Some, None, pos, negsuc, int_le, nat_abs, zip}
+use Rattle.std.specs.Prelude.{ℕ, ◌-◌, if◌then◌else◌, List, [], ◌∷◌, ◌≡◌, map, Option, Some, None, pos, negsuc, int_le, nat_abs, zip, ◌++◌, bytes_eq, codes, slice_index_or}
 use Rattle.std.specs.List.{list_all}
 use Rattle.script_text.specs.declared.code.Code.{Code}
 use Rattle.script_text.specs.declared.code.Code.TheVariants as code
 use Rattle.fixed_box.specs.declared.coord.Coord.{Coord}
 use Rattle.word_map.specs.declared.config.TheConstants.{MAX_BODIES, MAX_SLOTS, MAX_NODES}
 use Rattle.word_map.specs.Limits.{is_stripe_count}
+use Rattle.script_text.specs.declared.keyword.Keyword.{Keyword}
+use Rattle.script_text.specs.declared.keyword.Keyword.TheVariants.{World, Create, Add, QueryBox}
 use Rattle.script_text.specs.Command.{corner_words}
+use Rattle.script_text.specs.Keyword.{keyword_of}
 use Rattle.script_text.specs.Fault.{first_of}
 use Rattle.script_text.specs.Number.{number_of, number_fault}
 use Rattle.script_text.specs.Name.{new_name_fault, known_name_fault}
@@ -54,3 +57,39 @@ abbrev pub box_fault : List (List ℕ) → Option Code
 box_fault (mask ∷ x0 ∷ y0 ∷ z0 ∷ x1 ∷ y1 ∷ z1 ∷ []) =
     first_of (number_fault (pos 0) (pos 255) mask ∷ corner_fault x0 y0 z0 ∷ corner_fault x1 y1 z1 ∷ order_fault (x0 ∷ y0 ∷ z0 ∷ []) (x1 ∷ y1 ∷ z1 ∷ []) ∷ [])
 box_fault _ = Some code.Count
+
+-- what stands above a line: how many layers the world has, and the names that were created
+pub record Above : Type 0 where
+  pub layers : ℕ
+  pub names : List (List ℕ)
+
+abbrev pub command_fault : Above → Option Keyword → List (List ℕ) → Option Code
+command_fault above None args = Some code.Word
+command_fault above (Some World) args = Some code.World
+command_fault above (Some Create) args = create_fault above.names above.layers args
+command_fault above (Some Add) args = add_fault above.names args
+command_fault above (Some QueryBox) args = box_fault args
+
+-- what is wrong with the words of a line below the world line
+abbrev pub line_fault : Above → List (List ℕ) → Option Code
+line_fault above [] = Some code.Word
+line_fault above (word ∷ args) = command_fault above (keyword_of word) args
+
+-- what stands above the next line: `create` takes a name
+abbrev pub after_line : Above → List (List ℕ) → Above
+after_line above (word ∷ name ∷ args) = if bytes_eq word (codes "create") then record above { names = above.names ++ name ∷ [] } else above
+after_line above _ = above
+
+abbrev pub first_command_fault : Option Keyword → List (List ℕ) → Option Code
+first_command_fault None args = Some code.Word
+first_command_fault (Some World) args = world_fault args
+first_command_fault (Some _) args = Some code.World
+
+-- what is wrong with the words of the first line
+abbrev pub first_line_fault : List (List ℕ) → Option Code
+first_line_fault [] = Some code.Word
+first_line_fault (word ∷ args) = first_command_fault (keyword_of word) args
+
+-- what stands above the second line
+abbrev pub below_world : List (List ℕ) → Above
+below_world words = record { layers = nat_abs (number_of (slice_index_or words 3 [])); names = [] }

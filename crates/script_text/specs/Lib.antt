@@ -2,5 +2,8 @@ pub mod Fault
 pub mod Number
 pub mod Name
 pub mod Lines
+pub mod Keyword
 pub mod Command
 pub mod Grammar
+pub mod Script
+pub mod Draft

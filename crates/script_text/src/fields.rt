@@ -6,7 +6,7 @@ ghost use Rattle.fixed_box.specs.Corner.{is_at_most};
 ghost use Rattle.script_text.specs.Lines.{texts};
 ghost use Rattle.script_text.specs.Fault.{Reads, ReadsInMemory};
 ghost use Rattle.script_text.specs.Number.{Spells, number_of};
-ghost use Rattle.script_text.specs.Command.{corner_words, world_words, command_words};
+ghost use Rattle.script_text.specs.Command.{SpellsWorld, corner_words, command_words};
 ghost use Rattle.script_text.specs.Grammar.{SpellsCorner, coordinate_fault, corner_fault, stripes_fault, world_fault, create_fault, add_fault, box_fault};
 
 use crate::code::{Code, LineError};
@@ -95,11 +95,11 @@ fn read_stripes(word: &[u8]) -> Result<u32, Code>
 
 /// `world BODIES STRIPES LAYERS SLOTS NODES`, below its first word, for one caller.
 #[tactic(auto, using(crate::proofs::Words::words_5, crate::proofs::Counts::world_count))]
-pub fn read_world(args: &[&[u8]]) -> Result<Config, Code>
-    ensures { Reads result (world_fault (texts args.now)) (λ c. (world_words c ≡ codes "world" ∷ texts args.now) × (c.passes ≡ 1)) }
+pub fn read_world(args: &[&[u8]]) -> Result<Config, LineError>
+    ensures { ReadsInMemory result (world_fault (texts args.now)) (SpellsWorld (texts args.now)) }
 {
     let [bodies, stripes, layers, slots, nodes] = args else {
-        return Err(Code::Count);
+        return Err(LineError::Fault(Code::Count));
     };
     let bodies = read_natural(bodies, 1, MAX_BODIES)?;
     let stripes = read_stripes(stripes)?;
@@ -164,11 +164,11 @@ pub fn read_add(alloc: Global, names: &Names, args: &[&[u8]]) -> Result<Command,
 
 /// `box MASK BOX`, below its first word.
 #[tactic(auto, using(crate::proofs::Words::words_7, crate::proofs::Boxes::in_order))]
-pub fn read_box(args: &[&[u8]]) -> Result<Command, Code>
-    ensures { Reads result (box_fault (texts args.now)) (λ c. command_words c ≡ codes "box" ∷ texts args.now) }
+pub fn read_box(args: &[&[u8]]) -> Result<Command, LineError>
+    ensures { ReadsInMemory result (box_fault (texts args.now)) (λ c. command_words c ≡ codes "box" ∷ texts args.now) }
 {
     let [mask, x0, y0, z0, x1, y1, z1] = args else {
-        return Err(Code::Count);
+        return Err(LineError::Fault(Code::Count));
     };
     let mask = read_natural(mask, 0, 255)?;
     let lo = read_corner(x0, y0, z0)?;

@@ -3,12 +3,16 @@
 
 mod code;
 mod command;
+mod draft;
 mod fields;
+mod keyword;
 mod lines;
 mod names;
 mod number;
+mod script;
 mod text;
 
 pub use code::{Code, LineError};
 pub use command::Command;
+pub use script::{CommandList, MAX_LINES, Script, ScriptFault};
 pub use text::{Text, TextList};

@@ -1,0 +1,49 @@
+-- What a script is: which bytes spell it, and what is wrong with bytes that spell none.
+use Rattle.std.specs.Prelude.{◌≡◌, ℕ, ◌+◌, nat_lt, if◌then◌else◌, List, [], ◌∷◌, map, Option, Some, None, Result, Ok, Err}
+use Rattle.script_text.specs.declared.code.Code.{Code}
+use Rattle.script_text.specs.declared.code.Code.TheVariants as code
+use Rattle.script_text.specs.declared.script.Script.{Script}
+use Rattle.script_text.specs.declared.script.ScriptFault.{ScriptFault}
+use Rattle.script_text.specs.declared.script.ScriptFault.TheVariants as faults
+use Rattle.script_text.specs.declared.script.TheConstants.{MAX_LINES}
+use Rattle.script_text.specs.Lines.{lines_of, words_of}
+use Rattle.script_text.specs.Command.{world_words, command_words}
+use Rattle.script_text.specs.Grammar.{Above, line_fault, after_line, first_line_fault, below_world}
+
+-- the words of a script's lines
+abbrev pub script_words : Script → List (List (List ℕ))
+script_words script = world_words script.world ∷ map command_words script.lines
+
+-- the words of the bytes' lines are those of the script
+abbrev pub Spells : List ℕ → Script → Type 0
+Spells bytes script = map words_of (lines_of bytes) ≡ script_words script
+
+-- the fault of a line with this number, or else what comes below it
+abbrev pub at_line : ℕ → Option Code → Option (ℕ × Code) → Option (ℕ × Code)
+at_line n (Some c) below = Some (n, c)
+at_line n None below = below
+
+-- a line too far down is none
+abbrev pub numbered_fault : ℕ → Above → List (List ℕ) → Option Code
+numbered_fault n above words = if nat_lt MAX_LINES n then Some code.Long else line_fault above words
+
+-- the first line that is none, and what is wrong with it; the first of these lines has this number
+abbrev pub lines_fault : Above → ℕ → List (List ℕ) → Option (ℕ × Code)
+lines_fault above n [] = None
+lines_fault above n (line ∷ lines) =
+    at_line n (numbered_fault n above (words_of line)) (lines_fault (after_line above (words_of line)) (n + 1) lines)
+
+abbrev pub text_fault : List (List ℕ) → Option (ℕ × Code)
+text_fault [] = Some (1, code.World)
+text_fault (line ∷ lines) = at_line 1 (first_line_fault (words_of line)) (lines_fault (below_world (words_of line)) 2 lines)
+
+-- what is wrong with bytes that are no script
+abbrev pub script_fault : List ℕ → Option (ℕ × Code)
+script_fault bytes = text_fault (lines_of bytes)
+
+-- what reading answers: where there is no fault, something with this fact, and else the line of the fault; the
+-- code is `Later` until all commands are built
+abbrev pub ReadsScript : {X : Type 0} → Result X ScriptFault → Option (ℕ × Code) → (X → Type 0) → Type 0
+ReadsScript (Ok x) fault P = (fault ≡ None) × P x
+ReadsScript (Err (faults.At line c)) fault P = (c ≡ code.Later) × ((d : Code) × (fault ≡ Some (line, d)))
+ReadsScript (Err faults.Memory) fault P = Unit {0}

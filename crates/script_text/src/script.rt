@@ -1,0 +1,66 @@
+use crate::code::Code;
+use crate::command::Command;
+use std::alloc::{AllocError, AllocFailed};
+use std::marker::Model;
+use word_map::Config;
+
+/// The most lines of a script.
+pub const MAX_LINES: u32 = 200_000;
+
+/// The command lines of a script, in order.
+#[derive(Debug, Drop)]
+pub struct CommandList {
+    commands: Vec<Command>,
+}
+
+impl Model for CommandList {
+    ghost use Rattle.std.specs.Prelude.{List};
+    ghost use Rattle.script_text.specs.declared.command.Command.{Command};
+
+    ghost Value = { List Command };
+
+    ghost view = { λ c. c.commands.items };
+}
+
+impl CommandList {
+    ghost use Rattle.std.specs.Prelude.{◌≡◌};
+
+    /// The list of these commands. It takes no memory.
+    pub fn new(items: Vec<Command>) -> Self
+        ensures { result ≡ items.items }
+    {
+        CommandList { commands: items }
+    }
+
+    /// The commands, in order.
+    pub fn items(&self) -> &[Command]
+        ensures { result.now ≡ self.now }
+    {
+        self.commands.as_slice()
+    }
+}
+
+/// What a text asks the player to do.
+#[derive(Debug, Drop)]
+pub struct Script {
+    /// The sizes of the world. `passes` is 1 + `actors` + `most_workers`.
+    pub world: Config,
+    /// One command for each line below `world`.
+    pub lines: CommandList,
+    /// How many actors there are: none, until they are built.
+    pub actors: u32,
+    /// The most workers of a block or a step: none, until these are built.
+    pub most_workers: u32,
+}
+
+/// Why bytes gave no script.
+#[derive(Clone, Copy, Debug, PartialEq, Eq)]
+pub enum ScriptFault {
+    /// The bytes are no script: the first line that is none of one, and what is wrong with it.
+    At {
+        line: u32,
+        code: Code,
+    },
+    /// There was not enough memory.
+    Memory,
+}

@@ -6,3 +6,4 @@ pub mod Counts
 pub mod Cuts
 pub mod FirstWord
 pub mod Drafts
+pub mod Parsing

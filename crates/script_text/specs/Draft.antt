@@ -2,6 +2,7 @@
 use Rattle.std.specs.Prelude.{◌≡◌, ℕ, ◌<◌, List, [], ◌∷◌, ◌++◌, map}
 use Rattle.word_map.specs.declared.config.Config.{Config}
 use Rattle.script_text.specs.declared.draft.Draft.{Draft}
+use Rattle.script_text.specs.Lines.{words_of}
 use Rattle.script_text.specs.Command.{world_words, command_words}
 use Rattle.script_text.specs.Grammar.{Above, below_world, after_line}
 
@@ -30,4 +31,9 @@ pub record Begins (words : List (List ℕ)) (draft : Draft) : Type 0 where
 pub record Adds (words : List (List ℕ)) (old new : Draft) : Type 0 where
   pub text : words_so_far new ≡ words_so_far old ++ words ∷ []
   pub above : above_next new ≡ after_line (above_next old) words
+  pub world : new.world ≡ old.world
+
+-- these lines more
+pub record AddsAll (lines : List (List ℕ)) (old new : Draft) : Type 0 where
+  pub text : words_so_far new ≡ words_so_far old ++ map words_of lines
   pub world : new.world ≡ old.world

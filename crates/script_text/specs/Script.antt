@@ -1,7 +1,9 @@
 -- What a script is: which bytes spell it, and what is wrong with bytes that spell none.
-use Rattle.std.specs.Prelude.{◌≡◌, ℕ, ◌+◌, nat_lt, if◌then◌else◌, List, [], ◌∷◌, map, Option, Some, None, Result, Ok, Err}
+use Rattle.std.specs.Prelude.{◌≡◌, ℕ, ◌+◌, ◌<◌, nat_lt, if◌then◌else◌, List, [], ◌∷◌, map, Option, Some, None, Result, Ok, Err, IsSome, option_map}
 use Rattle.script_text.specs.declared.code.Code.{Code}
 use Rattle.script_text.specs.declared.code.Code.TheVariants as code
+use Rattle.script_text.specs.declared.code.LineError.{LineError}
+use Rattle.script_text.specs.declared.code.LineError.TheVariants as errors
 use Rattle.script_text.specs.declared.script.Script.{Script}
 use Rattle.script_text.specs.declared.script.ScriptFault.{ScriptFault}
 use Rattle.script_text.specs.declared.script.ScriptFault.TheVariants as faults
@@ -41,9 +43,26 @@ text_fault (line ∷ lines) = at_line 1 (first_line_fault (words_of line)) (line
 abbrev pub script_fault : List ℕ → Option (ℕ × Code)
 script_fault bytes = text_fault (lines_of bytes)
 
--- what reading answers: where there is no fault, something with this fact, and else the line of the fault; the
--- code is `Later` until all commands are built
+-- what reading a line with this number answers: where it has no fault, something with this fact, and else its
+-- number; the code is `Later` until all commands are built
+abbrev pub ReadsLine : {X : Type 0} → Result X ScriptFault → ℕ → Option Code → (X → Type 0) → Type 0
+ReadsLine (Ok x) number fault P = (fault ≡ None) × P x
+ReadsLine (Err (faults.At line c)) number fault P = (line ≡ number) × (c ≡ code.Later) × IsSome fault
+ReadsLine (Err faults.Memory) number fault P = Unit {0}
+
+-- the same of all lines: the number is that of the first line with a fault
 abbrev pub ReadsScript : {X : Type 0} → Result X ScriptFault → Option (ℕ × Code) → (X → Type 0) → Type 0
 ReadsScript (Ok x) fault P = (fault ≡ None) × P x
-ReadsScript (Err (faults.At line c)) fault P = (c ≡ code.Later) × ((d : Code) × (fault ≡ Some (line, d)))
+ReadsScript (Err (faults.At line c)) fault P = (c ≡ code.Later) × (option_map (λ f. f.0) fault ≡ Some line)
 ReadsScript (Err faults.Memory) fault P = Unit {0}
+
+-- the fault of a line with this number
+abbrev pub FaultAt : ℕ → LineError → ScriptFault → Type 0
+FaultAt line (errors.Fault c) fault = fault ≡ faults.At line code.Later
+FaultAt line errors.Memory fault = fault ≡ faults.Memory
+
+-- the script is the one that the bytes spell, for one caller
+pub record IsScriptOf (bytes : List ℕ) (script : Script) : Type 0 where
+  pub text : Spells bytes script
+  pub some_layers : 0 < script.world.layers
+  pub passes : script.world.passes ≡ 1 + script.actors + script.most_workers

@@ -9,10 +9,12 @@ mod keyword;
 mod lines;
 mod names;
 mod number;
+mod reading;
 mod script;
 mod text;
 
 pub use code::{Code, LineError};
 pub use command::Command;
+pub use reading::parse;
 pub use script::{CommandList, MAX_LINES, Script, ScriptFault};
 pub use text::{Text, TextList};

@@ -1,10 +1,12 @@
 -- Histories: the scene after one, and what bodies a query over a part of one may answer.
-use Rattle.std.specs.Prelude.{◌≡◌, ℕ, ◌≤◌, ⊤, List, [], ◌∷◌, fold, map, take, All, Contains}
+use Rattle.std.specs.Prelude.{◌≡◌, ℕ, ◌≤◌, ◌==◌, ⊤, Bool, false, count_by, List, [], ◌∷◌, fold, map, take, All, Contains}
 use Rattle.std.specs.Int.{bit_at}
 use Rattle.std.specs.List.Sorted.{IsStrictlyIncreasing}
 use Rattle.fixed_box.specs.declared.fix_box.FixBox.{FixBox}
 use Rattle.body_ident.specs.Id.{Id, id_of}
 use Rattle.scene_model.specs.declared.body_view.Phase.TheVariants.{In}
+use Rattle.scene_model.specs.declared.entry.Entry.{Entry}
+use Rattle.scene_model.specs.declared.entry.Entry.TheVariants.{Create}
 use Rattle.scene_model.specs.declared.entry.Made.{Made}
 use Rattle.scene_model.specs.Scene.{Scene, Record, empty_scene}
 use Rattle.scene_model.specs.Step.{HasBody, IsLawful, after_entry}
@@ -63,3 +65,11 @@ pub record IsRightAnswer (touches : FixBox → Type 0) (mask bodies : ℕ) (inte
   pub ascending : IsStrictlyIncreasing (map (λ i. i.index) ids)
   pub complete : (index generation : ℕ) → IsDue touches mask bodies interval index generation → Contains ids (id_of index generation)
   pub sound : All (λ i. (generation : ℕ) × IsMet touches mask bodies interval i.index generation × (i ≡ id_of i.index generation)) ids
+
+-- whether the entry creates a body at the index, and how many of a history do
+abbrev pub creates : ℕ → Entry → Bool
+creates index (Create at layer bounds user) = at == index
+creates index entry = false
+
+abbrev pub creations_in : ℕ → List Made → ℕ
+creations_in index history = count_by (λ made. creates index made.entry) history

@@ -1,5 +1,10 @@
+pub mod Phase
 pub mod Scene
 pub mod Step
 pub mod History
 pub mod Cause
 pub mod Query
+pub mod Consistent
+pub mod Batch
+pub mod Shown
+pub mod Plain

@@ -1,13 +1,12 @@
 -- What is read of a scene: views, counts, and the bodies that a query finds.
-use Rattle.std.specs.Prelude.{ℕ, ◌==◌, Bool, true, false, ◌&&◌, List, count_by, filter_map, Option, Some, None, is_some, option_map, if◌then◌else◌}
-use Rattle.std.specs.List.{enumerate_from}
+use Rattle.std.specs.Prelude.{ℕ, ◌==◌, Bool, true, false, ◌&&◌, List, count_by, filter_map, length, Option, Some, None, is_some, option_map, option_and_then, if◌then◌else◌}
+use Rattle.std.specs.List.{range_with_len}
 use Rattle.std.specs.Option.{option_map_or}
 use Rattle.std.specs.Int.{bit_at}
 use Rattle.fixed_box.specs.declared.fix_box.FixBox.{FixBox}
 use Rattle.body_ident.specs.Id.{Id, id_of}
-use Rattle.scene_model.specs.declared.body_view.Phase.{Phase}
-use Rattle.scene_model.specs.declared.body_view.Phase.TheVariants.{Out, Held, In}
 use Rattle.scene_model.specs.declared.body_view.BodyView.{BodyView}
+use Rattle.scene_model.specs.Phase.{is_in}
 use Rattle.scene_model.specs.Scene.{Scene, Record, record_at}
 
 -- a record as a reader sees it
@@ -16,11 +15,6 @@ view_of index r = record { id = id_of index r.generation; layer = r.layer; bound
 
 abbrev pub view_at : Scene → ℕ → Option BodyView
 view_at scene index = option_map (view_of index) (record_at scene index)
-
-abbrev pub is_in : Phase → Bool
-is_in In = true
-is_in Held = false
-is_in Out = false
 
 -- how many bodies are live, and how many of them are in the broad phase
 abbrev pub live_count : Scene → ℕ
@@ -33,14 +27,13 @@ in_count scene = count_by (λ p. option_map_or (λ r. is_in r.phase) p.body fals
 abbrev pub is_hit : (FixBox → Bool) → ℕ → Record → Bool
 is_hit test mask r = is_in r.phase && (bit_at mask r.layer == 1) && test r.bounds
 
--- the id of the body at an index, where it is hit
+-- the id of a body at an index, where it is hit
 abbrev pub hit_id : (FixBox → Bool) → ℕ → ℕ → Record → Option Id
 hit_id test mask index r = if is_hit test mask r then Some (id_of index r.generation) else None
 
-abbrev pub hit_at : (FixBox → Bool) → ℕ → ℕ → Option Record → Option Id
-hit_at test mask index None = None
-hit_at test mask index (Some r) = hit_id test mask index r
+abbrev pub hit_at : (FixBox → Bool) → ℕ → Scene → ℕ → Option Id
+hit_at test mask scene index = option_and_then (hit_id test mask index) (record_at scene index)
 
 -- the ids of all bodies that are hit, ascending by index
 abbrev pub hits : (FixBox → Bool) → ℕ → Scene → List Id
-hits test mask scene = filter_map (λ p. hit_at test mask p.0 p.1.body) (enumerate_from 0 scene.places)
+hits test mask scene = filter_map (hit_at test mask scene) (range_with_len 0 (length scene.places))

@@ -52,8 +52,11 @@ with_body scene index body = record scene { places = slice_set scene.places inde
 abbrev pub with_change : (Record → Record) → Scene → ℕ → Scene
 with_change change scene index = with_body scene index (option_map change (record_at scene index))
 
+abbrev pub in_phase : Phase → Record → Record
+in_phase phase r = record r { phase = phase }
+
 abbrev pub with_phase : Phase → Scene → ℕ → Scene
-with_phase phase scene index = with_change (λ r. record r { phase = phase }) scene index
+with_phase phase scene index = with_change (in_phase phase) scene index
 
 -- the scene after an entry; of one that is not possible there this says nothing that is used
 abbrev pub after_entry : Scene → Entry → Scene

@@ -1,3 +1,6 @@
+ghost use Rattle.std.specs.Prelude.{◌≡◌};
+ghost use Rattle.scene_model.specs.Phase.{is_in};
+
 use body_ident::BodyId;
 use fixed_box::FixBox;
 
@@ -10,6 +13,15 @@ pub enum Phase {
     Held,
     /// It is in the broad phase, where queries find it.
     In,
+}
+
+impl Phase {
+    /// Whether it is in the broad phase.
+    pub fn is_in(self) -> bool
+        ensures { result ≡ is_in self }
+    {
+        matches!(self, Phase::In)
+    }
 }
 
 /// A live body as a reader sees it.

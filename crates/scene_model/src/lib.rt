@@ -6,6 +6,9 @@
 
 mod body_view;
 mod entry;
+pub mod laws;
+mod plain_scene;
 
 pub use body_view::{BodyView, Phase};
 pub use entry::{Entry, IndexList, Made};
+pub use plain_scene::PlainScene;

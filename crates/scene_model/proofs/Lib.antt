@@ -1,0 +1,9 @@
+pub mod Places
+pub mod Kept
+pub mod Lives
+pub mod Histories
+pub mod Creations
+pub mod Batches
+pub mod ShownSteps
+pub mod ShownReads
+pub mod Hits

@@ -1,1 +1,2 @@
 pub mod Id
+pub mod Text

@@ -1,5 +1,8 @@
-ghost use Rattle.std.specs.Prelude.{◌≡◌, ◌<◌, ◌+◌, ◌*◌, ◌/◌, ◌%◌, ◌^◌, ◌↔◌, IsSome, IfSome};
+ghost use Rattle.std.specs.Prelude.{◌≡◌, ◌<◌, ◌+◌, ◌*◌, ◌/◌, ◌%◌, ◌^◌, ◌↔◌, IsSome, IfSome, ◌++◌, OnOk, OnErr, take, length};
+ghost use Rattle.body_ident.specs.Text.{id_text};
 
+use itoa::Buffer;
+use std::alloc::AllocError;
 use std::marker::Model;
 
 /// The name of a body: a 23-bit index and an 8-bit sequence number.
@@ -51,5 +54,33 @@ impl BodyId {
         ensures { result ≡ self.seq }
     {
         (self.raw / (1 << 24)) as u8
+    }
+
+    /// Appends the text of the id: its index and its sequence number in decimal, with a colon between them.
+    /// After an error the bytes are as before.
+    pub fn write_text(self, out: &mut Vec<u8>) -> Result<(), AllocError>
+        ensures ok { OnOk result (out.new.items ≡ out.old.items ++ id_text self) }
+        ensures err { OnErr result (out.new.items ≡ out.old.items) }
+    {
+        let before = out.len();
+        match self.append_text(out) {
+            Ok(()) => Ok(()),
+            Err(error) => {
+                out.truncate(before);
+                Err(error)
+            }
+        }
+    }
+
+    /// The same, but an error may leave a part of the text.
+    fn append_text(self, out: &mut Vec<u8>) -> Result<(), AllocError>
+        ensures ok { OnOk result (out.new.items ≡ out.old.items ++ id_text self) }
+        ensures err { OnErr result (take (length out.old.items) out.new.items ≡ out.old.items) }
+    {
+        let mut buffer = Buffer::new();
+        out.extend_from_slice(buffer.format(self.index()).as_bytes())?;
+        out.extend_from_slice(b":")?;
+        out.extend_from_slice(buffer.format(self.seq()).as_bytes())?;
+        Ok(())
     }
 }

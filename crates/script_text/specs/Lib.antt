@@ -7,3 +7,4 @@ pub mod Command
 pub mod Grammar
 pub mod Script
 pub mod Draft
+pub mod Reply

@@ -1,0 +1,33 @@
+-- What a script is answered: the lines of its report.
+use Rattle.std.specs.Prelude.{ℕ, List, [], ◌∷◌, ◌++◌, codes, decimal}
+use Rattle.std.specs.List.{flat_map}
+use Rattle.scene_model.specs.Scene.{Scene}
+use Rattle.scene_model.specs.Query.{live_count, in_count}
+use Rattle.script_text.specs.declared.command.Command.{Command}
+use Rattle.script_text.specs.declared.script.Script.{Script}
+use Rattle.script_text.specs.declared.reply.Reply.{Reply}
+use Rattle.script_text.specs.Reply.{reply_text}
+use Rattle.broadphase.specs.Table.{Table, empty_table}
+use Rattle.broadphase.specs.Turn.{turn, table_after}
+
+-- the lines of the replies to commands, one below another
+abbrev pub replies_text : Table → List Command → List ℕ
+replies_text table [] = []
+replies_text table (command ∷ commands) =
+    let t = turn table command in
+    reply_text t.reply ++ replies_text (table_after table t) commands
+
+-- the table after commands
+abbrev pub table_below : Table → List Command → Table
+table_below table [] = table
+table_below table (command ∷ commands) = table_below (table_after table (turn table command)) commands
+
+-- the last line counts the live bodies, and those in the broad phase
+abbrev pub end_text : Scene → List ℕ
+end_text scene = codes "end live " ++ decimal (live_count scene) ++ codes " in " ++ decimal (in_count scene) ++ codes "\n"
+
+-- what the plain scene prints for a script
+abbrev pub serial_report : Script → List ℕ
+serial_report script =
+    let table = empty_table script.world in
+    replies_text table script.lines ++ end_text (table_below table script.lines).scene

@@ -1,1 +1,4 @@
 pub mod ReadingLemmas
+pub mod Playing
+pub mod Naming
+pub mod Joining

@@ -1,1 +1,6 @@
 pub mod Reading
+pub mod Table
+pub mod Turn
+pub mod Report
+pub mod Shown
+pub mod Fields

@@ -23,8 +23,11 @@ table_below table [] = table
 table_below table (command ∷ commands) = table_below (table_after table (turn table command)) commands
 
 -- the last line counts the live bodies, and those in the broad phase
+abbrev pub end_text_of : ℕ → ℕ → List ℕ
+end_text_of live inside = codes "end live " ++ decimal live ++ codes " in " ++ decimal inside ++ codes "\n"
+
 abbrev pub end_text : Scene → List ℕ
-end_text scene = codes "end live " ++ decimal (live_count scene) ++ codes " in " ++ decimal (in_count scene) ++ codes "\n"
+end_text scene = end_text_of (live_count scene) (in_count scene)
 
 -- what the plain scene prints for a script
 abbrev pub serial_report : Script → List ℕ

@@ -3,4 +3,6 @@
 //! It stands on every crate below, and nothing stands on it. Its promise is the contract of the top call.
 #![tactic(auto)]
 
+mod play;
+mod player;
 pub mod streams;

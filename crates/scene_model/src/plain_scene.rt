@@ -1,4 +1,4 @@
-ghost use Rattle.std.specs.Prelude.{◌≡◌, ◌≤◌, ◌^◌, ◌==◌, ◌&&◌, ◌∷◌, length, IfOk, Ok, Some, None, OnOk, OnErr, option_map, fold, slice_set};
+ghost use Rattle.std.specs.Prelude.{◌≡◌, ◌≤◌, ◌^◌, ◌+◌, ◌%◌, ◌==◌, ◌&&◌, ◌∷◌, length, IfOk, Ok, Some, None, OnOk, OnErr, option_map, fold, slice_set};
 ghost use Rattle.std.specs.Int.{bit_at};
 ghost use Rattle.fixed_box.specs.Corner.{is_at_most};
 ghost use Rattle.scene_model.specs.declared.body_view.Phase.TheVariants.{In};
@@ -88,6 +88,17 @@ impl PlainScene {
         }
         let used = self.places.len() as u32;
         if used < self.bodies { Some(used) } else { None }
+    }
+
+    /// The sequence number of the next body that is created at the index.
+    pub fn next_seq(&self, index: u32) -> u8
+        ensures { result ≡ ((place_at self.now index).creations + 1) % 256 }
+    {
+        let creations = self
+            .places
+            .get(index as usize)
+            .map_or(0, |slot| slot.creations);
+        creations.wrapping_add(1)
     }
 
     /// The body that is live at the index, and None where none is.

@@ -31,17 +31,19 @@ abbrev pub answered : Table → Reply → Turn
 answered table reply = record { entries = []; reply = reply; names = table.names; attached = table.attached }
 
 -- the name is kept, and stands for the id of the body that is created, or for none
+abbrev pub created_turn : Table → List ℕ → ℕ → FixBox → ℕ → ℕ → Id → Turn
+created_turn table name layer bounds user index id = record {
+  entries = entries.Create index layer bounds user ∷ [];
+  reply = replies.Id id;
+  names = table.names ++ record { name = name; id = Some id; layer = layer } ∷ [];
+  attached = table.attached;
+}
+
 abbrev pub create_turn : Table → List ℕ → ℕ → FixBox → ℕ → Option ℕ → Turn
 create_turn table name layer bounds user None =
     record (answered table (replies.Refused refusals.Full)) { names = table.names ++ record { name = name; id = None; layer = layer } ∷ [] }
 create_turn table name layer bounds user (Some index) =
-    let id = id_of index ((place_at table.scene index).creations + 1) in
-    record {
-      entries = entries.Create index layer bounds user ∷ [];
-      reply = replies.Id id;
-      names = table.names ++ record { name = name; id = Some id; layer = layer } ∷ [];
-      attached = table.attached;
-    }
+    created_turn table name layer bounds user index (id_of index ((place_at table.scene index).creations + 1))
 
 abbrev pub phase_refusal : Phase → ℕ → ℕ → Option Refusal
 phase_refusal Held own asked = Some refusals.Held

@@ -5,7 +5,7 @@ ghost use Rattle.world_io.specs.Faults.{Rose};
 ghost use Rattle.script_text.specs.Reply.{reply_text};
 ghost use Rattle.broadphase.specs.Table.{empty_table};
 ghost use Rattle.broadphase.specs.Turn.{turn};
-ghost use Rattle.broadphase.specs.Shown.{shown_after};
+ghost use Rattle.broadphase.specs.Shown.{shown_after, Plays, PlaysPart};
 ghost use Rattle.broadphase.specs.Report.{end_text_of, end_text, replies_text, table_below, serial_report};
 ghost use Rattle.broadphase.specs.declared.play.PlayFault.TheVariants.{Write, Memory};
 
@@ -41,7 +41,23 @@ impl From<Failed> for PlayFault {
     }
 }
 
+/// Carries a command out, and puts the line of its reply into a list, in the place of what it holds.
+fn answer(
+    alloc: Global,
+    player: &mut Player,
+    command: &Command,
+    line: &mut Vec<u8>,
+) -> Result<(), AllocError>
+    ensures line { OnOk result (line.new.items ≡ reply_text (turn player.old command.now).reply) }
+    ensures after { OnOk result (player.new ≡ shown_after player.old (turn player.old command.now)) }
+{
+    let reply = player.turn(alloc, command)?;
+    line.clear();
+    reply_line(&reply, line)
+}
+
 /// Carries a command out and writes the line of its reply.
+#[tactic(auto, using(crate::proofs::Writing::nothing_written))]
 fn play_command<K: Sink>(
     alloc: Global,
     player: &mut Player,
@@ -55,9 +71,7 @@ fn play_command<K: Sink>(
     ensures fault { IsErrOf result PlayFault.Write → Rose (K.faults sink.old) (K.faults sink.new) }
     ensures counted { K.faults sink.old ≤ K.faults sink.new }
 {
-    let reply = player.turn(alloc, command)?;
-    line.clear();
-    reply_line(&reply, line)?;
+    answer(alloc, player, command, line)?;
     write_all(sink, line.as_slice())?;
     Ok(())
 }
@@ -77,6 +91,7 @@ fn end_line(live: u32, inside: u32, line: &mut Vec<u8>) -> Result<(), AllocError
 }
 
 /// Writes the last line of a report.
+#[tactic(auto, using(crate::proofs::Writing::nothing_written))]
 fn play_end<K: Sink>(player: &Player, line: &mut Vec<u8>, sink: &mut K) -> Result<(), PlayFault>
     ensures ok { OnOk result (Appended (K.contents sink.old) (K.contents sink.new) (end_text player.now.scene)) }
     ensures part { OnErr result (AppendedPart (K.contents sink.old) (K.contents sink.new) (end_text player.now.scene)) }
@@ -86,5 +101,42 @@ fn play_end<K: Sink>(player: &Player, line: &mut Vec<u8>, sink: &mut K) -> Resul
     let (live, inside) = player.counts();
     end_line(live, inside, line)?;
     write_all(sink, line.as_slice())?;
+    Ok(())
+}
+
+/// Writes the replies to commands, one line each.
+#[tactic(auto, using(crate::proofs::Playing::one_more, crate::proofs::Playing::stops, crate::proofs::Playing::all_played))]
+fn play_commands<K: Sink>(
+    alloc: Global,
+    player: &mut Player,
+    commands: &[Command],
+    line: &mut Vec<u8>,
+    sink: &mut K,
+) -> Result<(), PlayFault>
+    ensures ok { OnOk result (Plays commands.now player.old player.new (K.contents sink.old) (K.contents sink.new)) }
+    ensures part { OnErr result (PlaysPart commands.now player.old (K.contents sink.old) (K.contents sink.new)) }
+    ensures fault { IsErrOf result PlayFault.Write → Rose (K.faults sink.old) (K.faults sink.new) }
+    ensures counted { K.faults sink.old ≤ K.faults sink.new }
+{
+    for command in commands {
+        play_command(alloc, player, command, line, sink)?;
+    }
+    Ok(())
+}
+
+/// Plays a script on the plain scene, and writes its report: a line for each reply as soon as it is known, and
+/// the line that counts the bodies. After an error the bytes written are a first part of the report.
+#[tactic(auto, using(crate::proofs::Playing::whole_report, crate::proofs::Playing::part_to_end, crate::proofs::Playing::part_of_replies))]
+pub fn play<K: Sink>(alloc: Global, script: &Script, sink: &mut K) -> Result<(), PlayFault>
+    requires { script.now.world.bodies ≤ 65536 }
+    ensures report { OnOk result (Appended (K.contents sink.old) (K.contents sink.new) (serial_report script.now)) }
+    ensures part { OnErr result (AppendedPart (K.contents sink.old) (K.contents sink.new) (serial_report script.now)) }
+    ensures fault { IsErrOf result PlayFault.Write → Rose (K.faults sink.old) (K.faults sink.new) }
+    ensures counted { K.faults sink.old ≤ K.faults sink.new }
+{
+    let mut player = Player::new(alloc, script.world)?;
+    let mut line = Vec::new(alloc);
+    play_commands(alloc, &mut player, script.lines.items(), &mut line, sink)?;
+    play_end(&player, &mut line, sink)?;
     Ok(())
 }

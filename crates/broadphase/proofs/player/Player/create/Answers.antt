@@ -1,4 +1,4 @@
-use Rattle.broadphase.proofs.Playing.{after_new_body}
+use Rattle.broadphase.proofs.GivingIds.{after_new_body}
 use Rattle.broadphase.proofs.player.Player.create.Goals as goal
 
 pub invariant_of-self-2 : goal.invariant_of-self-2

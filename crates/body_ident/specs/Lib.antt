@@ -1,2 +1,3 @@
 pub mod Id
+pub mod Word
 pub mod Text

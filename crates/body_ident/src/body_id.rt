@@ -1,8 +1,7 @@
-ghost use Rattle.std.specs.Prelude.{◌≡◌, ◌<◌, ◌+◌, ◌*◌, ◌/◌, ◌%◌, ◌^◌, ◌↔◌, IsSome, IfSome, ◌++◌, OnOk, OnErr, take, length};
-ghost use Rattle.body_ident.specs.Text.{id_text};
+ghost use Rattle.std.specs.Prelude.{◌≡◌, ◌<◌, ◌^◌, ◌↔◌, IsNone, IfSome};
+ghost use Rattle.std.specs.Int.{IsBitSet};
+ghost use Rattle.body_ident.specs.Word.{IsId, word_of};
 
-use itoa::Buffer;
-use std::alloc::AllocError;
 use std::marker::Model;
 
 /// The name of a body: a 23-bit index and an 8-bit sequence number.
@@ -38,7 +37,9 @@ impl BodyId {
         ensures index { result.index ≡ index }
         ensures seq { result.seq ≡ seq }
     {
-        BodyId { raw: u32::from(seq) * (1 << 24) + index }
+        BodyId {
+            raw: u32::from(seq) * (1 << 24) + index,
+        }
     }
 
     /// The index of the body that it names, below 8,388,608.
@@ -56,31 +57,43 @@ impl BodyId {
         (self.raw / (1 << 24)) as u8
     }
 
-    /// Appends the text of the id: its index and its sequence number in decimal, with a colon between them.
-    /// After an error the bytes are as before.
-    pub fn write_text(self, out: &mut Vec<u8>) -> Result<(), AllocError>
-        ensures ok { OnOk result (out.new.items ≡ out.old.items ++ id_text self) }
-        ensures err { OnErr result (out.new.items ≡ out.old.items) }
+    /// The word of the id: the index in bits 0 to 22, bit 23 zero, and the sequence number in bits 24 to 31.
+    pub fn raw(self) -> u32
+        ensures value { result ≡ word_of self }
+        ensures range { IsId self }
     {
-        let before = out.len();
-        match self.append_text(out) {
-            Ok(()) => Ok(()),
-            Err(error) => {
-                out.truncate(before);
-                Err(error)
-            }
-        }
+        self.raw
     }
 
-    /// The same, but an error may leave a part of the text.
-    fn append_text(self, out: &mut Vec<u8>) -> Result<(), AllocError>
-        ensures ok { OnOk result (out.new.items ≡ out.old.items ++ id_text self) }
-        ensures err { OnErr result (take (length out.old.items) out.new.items ≡ out.old.items) }
+    /// The id of a word, and `None` exactly where bit 23 of the word is set.
+    #[tactic(auto, using(crate::proofs::WordLemmas::index_where_clear))]
+    pub fn of_raw(raw: u32) -> Option<BodyId>
+        ensures none { IsNone result ↔ IsBitSet raw 23 }
+        ensures value { IfSome result (λ id. word_of id ≡ raw) }
+        ensures range { IfSome result IsId }
     {
-        let mut buffer = Buffer::new();
-        out.extend_from_slice(buffer.format(self.index()).as_bytes())?;
-        out.extend_from_slice(b":")?;
-        out.extend_from_slice(buffer.format(self.seq()).as_bytes())?;
-        Ok(())
+        if raw & (1 << 23) == 0 {
+            Some(BodyId { raw })
+        } else {
+            None
+        }
+    }
+}
+
+#[cfg(test)]
+mod tests {
+    use super::*;
+
+    #[test]
+    fn words(rt: HostRuntime) {
+        assert_eq!(rt; BodyId::new(5, 200).raw(), 3_355_443_205);
+        assert_eq!(rt; BodyId::of_raw(3_355_443_205), Some(BodyId::new(5, 200)));
+        assert_eq!(rt; BodyId::of_raw(8_388_608), None);
+        assert_eq!(rt;
+            BodyId::of_raw(u32::MAX - (1 << 23)),
+            Some(BodyId::new(8_388_607, 255))
+        );
+        assert_eq!(rt; BodyId::new(5, 200).index(), 5);
+        assert_eq!(rt; BodyId::new(5, 200).seq(), 200);
     }
 }

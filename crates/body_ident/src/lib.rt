@@ -5,5 +5,7 @@
 #![tactic(auto)]
 
 mod body_id;
+mod text;
 
 pub use body_id::BodyId;
+pub use text::same_text;

@@ -33,7 +33,7 @@ fn new_block(alloc: Global) -> Result<Vec<u8>, AllocError>
 
 /// Reads into `block` what comes next, up to one byte past the limit, and adds it to `bytes`.
 ///
-/// The answer is how many bytes came, none where none was left. After an error `bytes` is as before.
+/// The answer is how many bytes came, none where none was left.
 fn read_piece<S: Source>(
     source: &mut S,
     block: &mut [u8],

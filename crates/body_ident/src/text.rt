@@ -101,9 +101,7 @@ fn read_number(bytes: &[u8], end: u32) -> Option<u32>
 #[tactic(auto, using(crate::proofs::TextLemmas::same_id_of_text))]
 pub fn same_text(a: BodyId, b: BodyId)
     ensures { id_text a ≡ id_text b → a ≡ b }
-{
-    let _ = (a.raw(), b.raw());
-}
+{}
 
 #[cfg(test)]
 mod tests {

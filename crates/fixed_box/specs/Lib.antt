@@ -1,2 +1,5 @@
 pub mod Range
+pub mod Word
 pub mod Corner
+pub mod FixBox
+pub mod Touch

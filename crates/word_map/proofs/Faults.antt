@@ -10,6 +10,7 @@ first_passes : {X : Type 0} (within : Bool) (x : X) (later : Option X) →
 first_passes true x later none = (refl, none)
 first_passes false x later none = cc
 
+-- what the test of a limit tells
 up_to : (limit n : ℕ) → is_up_to limit n ≡ true → (1 ≤ n) × (n ≤ limit)
 up_to limit n within = (grind (arith, nat_tests), grind (arith, nat_tests))
 

@@ -1,1 +1,5 @@
 pub mod Faults
+pub mod Stretches
+pub mod Places
+pub mod Stripes
+pub mod Sizes

@@ -1,1 +1,5 @@
 pub mod Limits
+pub mod Names
+pub mod Row
+pub mod Layout
+pub mod Inside

@@ -37,3 +37,12 @@ pub record IsConfig (c : Config) : Type 0 where
   pub slots : (1 ≤ c.slots) × (c.slots ≤ MAX_SLOTS)
   pub nodes : (1 ≤ c.nodes) × (c.nodes ≤ MAX_NODES)
   pub passes : (1 ≤ c.passes) × (c.passes ≤ MAX_PASSES)
+
+-- a world as large as is planned: up to 1,048,576 bodies and batch nodes, and 1,024 slots of a layer
+pub record IsPlanned (c : Config) : Type 0 where
+  pub bodies : c.bodies ≤ 1048576
+  pub stripes : c.stripes ≤ 64
+  pub layers : c.layers ≤ 8
+  pub slots : c.slots ≤ 1024
+  pub nodes : c.nodes ≤ 1048576
+  pub passes : c.passes ≤ 32

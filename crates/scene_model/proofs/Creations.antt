@@ -1,5 +1,5 @@
 -- The number of creations at an index is how often the history creates a body there.
-use Rattle.std.proofs.Common.{◌≡◌, ◌≢◌, ℕ, ◌+◌, ◌<◌, ◌==◌, true, false, cond, List, [], ◌∷◌, ◌++◌, length, get_or, set, fold, refl, sym, ◌∙◌, ap, subst, nat_eq, Contains, Option, Some, None, IfSome, option_map, add_assoc, arith, inl, inr}
+use Rattle.std.proofs.Common.{◌≡◌, ◌≢◌, ℕ, ◌+◌, ◌<◌, ◌==◌, cond, List, [], ◌∷◌, ◌++◌, length, get_or, fold, refl, sym, ◌∙◌, ap, subst, Contains, Option, Some, None, IfSome, option_map, add_assoc, arith, inl, inr}
 use Rattle.std.proofs.lemmas.List.{set_past, get_or-set_same, get_or-set_other, get_or_append_left, get_or_push, get_or_past, length_push}
 use Rattle.std.proofs.lemmas.List.Sums.{sum_by-cons}
 use Rattle.std.proofs.lemmas.Option.{cond_some, same_Some}
@@ -10,8 +10,8 @@ use Rattle.scene_model.specs.declared.body_view.Phase.{Phase}
 use Rattle.scene_model.specs.declared.entry.Entry.{Entry}
 use Rattle.scene_model.specs.declared.entry.Entry.TheVariants.{Create, Destroy, Mark, Unmark, Join, Remove, Move, SetUser}
 use Rattle.scene_model.specs.declared.entry.Made.{Made}
-use Rattle.scene_model.specs.Scene.{Scene, Place, Record, unused, empty_scene, place_at, record_at, next_of, next_index}
-use Rattle.scene_model.specs.Step.{HasBody, IsLawful, created_in, with_body, with_phase, with_new_body, after_entry}
+use Rattle.scene_model.specs.Scene.{Scene, Place, Record, unused, empty_scene, place_at, next_of, next_index}
+use Rattle.scene_model.specs.Step.{IsLawful, created_in, with_body, with_phase, with_new_body, after_entry}
 use Rattle.scene_model.specs.History.{scene_from, scene_after, IsLawfulFrom, IsLawfulHistory, creates, creations_in}
 use Rattle.scene_model.specs.Query.{view_at, view_of}
 use Rattle.scene_model.specs.Consistent.{IsLatest, IsConsistent}
@@ -25,14 +25,14 @@ creations_at scene index = (place_at scene index).creations
 creations_at-with_body : (scene : Scene) (index other : ℕ) (body : Option Record) → creations_at (with_body scene index body) other ≡ creations_at scene other
 creations_at-with_body scene index other body =
     elim (cases_lt index (length scene.places)) [
-      inl below ↦
-        elim (cases_eq other index) [
-          inl same ↦
-            subst (λ (k : ℕ). creations_at (with_body scene index body) k ≡ creations_at scene k) (sym same)
-            (ap (λ (p : Place). p.creations) (place_at-with_body_same scene index body below))
-        | inr apart ↦ ap (λ (p : Place). p.creations) (place_at-with_body_other scene index other body apart)
-        ]
-    | inr past ↦ ap (λ (ps : List Place). (get_or ps other unused).creations) (set_past scene.places index _ past)
+      | inl below ↦
+          elim (cases_eq other index) [
+            | inl same ↦
+                subst (λ (k : ℕ). creations_at (with_body scene index body) k ≡ creations_at scene k) (sym same)
+                (ap (λ (p : Place). p.creations) (place_at-with_body_same scene index body below))
+            | inr apart ↦ ap (λ (p : Place). p.creations) (place_at-with_body_other scene index other body apart)
+          ]
+      | inr past ↦ ap (λ (ps : List Place). (get_or ps other unused).creations) (set_past scene.places index _ past)
     ]
 
 creations_at-join : (phase : Phase) (indexes : List ℕ) (scene : Scene) (other : ℕ) → creations_at (fold (with_phase phase) scene indexes) other ≡ creations_at scene other
@@ -50,8 +50,8 @@ place_at-with_new_body_same scene (first ∷ rest) index place next within =
 place_at-push_other : (places : List Place) (other : ℕ) (place : Place) → other ≢ length places → get_or (places ++ place ∷ []) other unused ≡ get_or places other unused
 place_at-push_other places other place apart =
     elim (cases_lt other (length places)) [
-      inl below ↦ get_or_append_left places (place ∷ []) unused other below
-    | inr past ↦ get_or_past (places ++ place ∷ []) other unused (omega (arith, length_push places place)) ∙ sym (get_or_past places other unused past)
+      | inl below ↦ get_or_append_left places (place ∷ []) unused other below
+      | inr past ↦ get_or_past (places ++ place ∷ []) other unused (omega (arith, length_push places place)) ∙ sym (get_or_past places other unused past)
     ]
 
 pub place_at-with_new_body_other : (scene : Scene) (freed : List ℕ) (index other : ℕ) (place : Place) → next_of freed (length scene.places) scene.bodies ≡ Some index
@@ -65,11 +65,11 @@ creations_at-create : (scene : Scene) (index other : ℕ) (place : Place) → ne
     → creations_at (with_new_body scene.freed scene index place) other ≡ creations_at scene other + cond (index == other) 1 0
 creations_at-create scene index other place next within one_more =
     elim (eqb_tells index other) [
-      inl same ↦
-        let at = ap (λ (p : Place). p.creations) (place_at-with_new_body_same scene scene.freed index place next within) in
-        rw same.0 (subst (λ (k : ℕ). creations_at (with_new_body scene.freed scene index place) k ≡ creations_at scene k + 1) same.1 (at ∙ one_more))
-    | inr apart ↦
-        rw apart.0 (ap (λ (p : Place). p.creations) (place_at-with_new_body_other scene scene.freed index other place next (λ same. apart.1 (sym same))) ∙ sym (omega arith))
+      | inl same ↦
+          let at = ap (λ (p : Place). p.creations) (place_at-with_new_body_same scene scene.freed index place next within) in
+          rw same.0 (subst (λ (k : ℕ). creations_at (with_new_body scene.freed scene index place) k ≡ creations_at scene k + 1) same.1 (at ∙ one_more))
+      | inr apart ↦
+          rw apart.0 (ap (λ (p : Place). p.creations) (place_at-with_new_body_other scene scene.freed index other place next (λ same. apart.1 (sym same))) ∙ sym (omega arith))
     ]
 
 pub creations_at-after_entry : (layers : ℕ) (scene : Scene) (entry : Entry) (other : ℕ) → IsLawful layers scene entry → IsConsistent layers scene

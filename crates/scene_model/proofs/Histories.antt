@@ -1,5 +1,5 @@
 -- Each lawful history leads to a consistent scene.
-use Rattle.std.proofs.Common.{◌≡◌, ℕ, ◌+◌, ◌<◌, List, [], ◌∷◌, length, refl, sym, ◌∙◌, ap, true, Option, Some, None, is_some, IsSome, IsSomeAnd, arith}
+use Rattle.std.proofs.Common.{◌≡◌, ℕ, ◌<◌, List, [], ◌∷◌, ◌++◌, length, refl, ◌∙◌, ap, true, Option, Some, None, is_some, IsSomeAnd, arith}
 use Rattle.std.proofs.lemmas.Option.{cond_some, same_Some}
 use Rattle.std.proofs.lemmas.Bool.Decides.{nat_tests}
 use Rattle.std.specs.List.{IsDistinct}
@@ -7,11 +7,11 @@ use Rattle.scene_model.specs.declared.entry.Entry.{Entry}
 use Rattle.scene_model.specs.declared.entry.Entry.TheVariants.{Create, Destroy, Mark, Unmark, Join, Remove, Move, SetUser}
 use Rattle.scene_model.specs.declared.entry.Made.{Made}
 use Rattle.scene_model.specs.Scene.{Scene, Place, Record, empty_scene, place_at, record_at, next_of}
-use Rattle.scene_model.specs.Step.{HasBody, IsLawful, created_in, with_new_body, after_entry}
+use Rattle.scene_model.specs.Step.{IsLawful, created_in, with_new_body, after_entry}
 use Rattle.scene_model.specs.History.{scene_from, scene_after, IsLawfulFrom, IsLawfulHistory}
-use Rattle.scene_model.specs.Consistent.{IsLatest, IsConsistent}
+use Rattle.scene_model.specs.Consistent.{IsConsistent}
 use Rattle.scene_model.proofs.Places.{live_used}
-use Rattle.scene_model.proofs.Kept.{KeepsBody, IsConsistent-with_change, IsConsistent-with_phase, IsConsistent-join}
+use Rattle.scene_model.proofs.Kept.{IsConsistent-with_change, IsConsistent-with_phase, IsConsistent-join}
 use Rattle.scene_model.proofs.Lives.{IsBegun, IsConsistent-push, IsConsistent-reuse, IsConsistent-destroy}
 
 pub IsConsistent-empty : (layers bodies : ℕ) → IsConsistent layers (empty_scene bodies)
@@ -21,7 +21,7 @@ IsConsistent-empty layers bodies = record {
   freed_once = tt;
   freed_empty = λ i c. let below = c.1 in absurd (omega arith);
   empty_freed = λ i below none. absurd (omega arith);
-  latest = λ i. tt
+  latest = λ i. tt;
 }
 
 -- a body begins at the next index
@@ -58,3 +58,19 @@ IsConsistent-scene_from layers (made ∷ later) scene lawful h =
 
 pub IsConsistent-scene_after : (layers bodies : ℕ) (history : List Made) → IsLawfulHistory layers bodies history → IsConsistent layers (scene_after bodies history)
 IsConsistent-scene_after layers bodies history lawful = IsConsistent-scene_from layers history (empty_scene bodies) lawful (IsConsistent-empty layers bodies)
+
+-- ---- a history that goes on
+
+pub scene_from-append : (scene : Scene) (first later : List Made) → scene_from scene (first ++ later) ≡ scene_from (scene_from scene first) later
+scene_from-append scene [] later = refl
+scene_from-append scene (made ∷ first) later = scene_from-append (after_entry scene made.entry) first later
+
+pub IsLawfulFrom-append : (layers : ℕ) (scene : Scene) (first later : List Made) → IsLawfulFrom layers scene first → IsLawfulFrom layers (scene_from scene first) later → IsLawfulFrom layers scene (first ++ later)
+IsLawfulFrom-append layers scene [] later h k = k
+IsLawfulFrom-append layers scene (made ∷ first) later h k = (h.0, IsLawfulFrom-append layers (after_entry scene made.entry) first later h.1 k)
+
+pub lawful_parts : (layers : ℕ) (scene : Scene) (first later : List Made) → IsLawfulFrom layers scene (first ++ later) → IsLawfulFrom layers scene first × IsLawfulFrom layers (scene_from scene first) later
+lawful_parts layers scene [] later h = (tt, h)
+lawful_parts layers scene (made ∷ first) later h =
+    let rest = lawful_parts layers (after_entry scene made.entry) first later h.1 in
+    ((h.0, rest.0), rest.1)

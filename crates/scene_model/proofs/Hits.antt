@@ -1,7 +1,8 @@
 -- The hits of a scene are a right answer to a query at that one point.
-use Rattle.std.proofs.Common.{◌≡◌, ℕ, zero, suc, ◌+◌, ◌<◌, ◌≤◌, ◌==◌, ◌&&◌, Bool, true, false, List, [], ◌∷◌, length, get_or, map, refl, sym, ◌∙◌, ap, subst, IsTrue, cond, filter_map, All, Contains, Option, Some, None, IfSome, IsSomeAnd, option_and_then, arith, inl, inr}
+use Rattle.std.proofs.Common.{◌≡◌, ℕ, zero, suc, ◌+◌, ◌<◌, ◌≤◌, ◌==◌, ◌&&◌, Bool, true, false, List, [], ◌∷◌, length, map, refl, sym, ◌∙◌, ap, subst, IsTrue, filter_map, All, Contains, Option, Some, None, IfSome, IsSomeAnd, option_and_then, arith, inl, inr}
 use Rattle.std.specs.List.{cons_option, range_with_len}
 use Rattle.std.specs.List.Sorted.{IsStrictlyIncreasing}
+use Rattle.std.specs.Bool.{then_some}
 use Rattle.std.specs.Int.{bit_at}
 use Rattle.std.proofs.lemmas.List.Elements.{All-nil, All-cons, All-weaker}
 use Rattle.std.proofs.lemmas.Bool.{cases_eq}
@@ -11,7 +12,7 @@ use Rattle.body_ident.specs.Id.{Id, id_of}
 use Rattle.scene_model.specs.declared.body_view.Phase.{Phase}
 use Rattle.scene_model.specs.declared.body_view.Phase.TheVariants.{Out, Held, In}
 use Rattle.scene_model.specs.declared.entry.Made.{Made}
-use Rattle.scene_model.specs.Scene.{Scene, Record, record_at}
+use Rattle.scene_model.specs.Scene.{Record, record_at}
 use Rattle.scene_model.specs.Phase.{is_in}
 use Rattle.scene_model.specs.Query.{is_hit, hit_id, hit_at, hits}
 use Rattle.scene_model.specs.History.{point, IsHit, Fits, IsMet, IsRightAnswer}
@@ -38,9 +39,9 @@ Contains-filter_map_range : {A : Type 0} (f : ℕ → Option A) (n a i : ℕ) (y
 Contains-filter_map_range f zero a i y from below e = absurd (omega arith)
 Contains-filter_map_range f (suc n) a i y from below e =
     elim (cases_eq a i) [
-      inl same ↦ Contains-cons_some (f a) (filter_map f (range_with_len (a + 1) n)) y (ap f same ∙ e)
-    | inr apart ↦
-        Contains-cons_option (f a) (filter_map f (range_with_len (a + 1) n)) y (Contains-filter_map_range f n (a + 1) i y (omega arith) (omega arith) e)
+      | inl same ↦ Contains-cons_some (f a) (filter_map f (range_with_len (a + 1) n)) y (ap f same ∙ e)
+      | inr apart ↦
+          Contains-cons_option (f a) (filter_map f (range_with_len (a + 1) n)) y (Contains-filter_map_range f n (a + 1) i y (omega arith) (omega arith) e)
     ]
 
 IsStrictlyIncreasing-cons : (x : ℕ) (xs : List ℕ) → All (λ y. x < y) xs → IsStrictlyIncreasing xs → IsStrictlyIncreasing (x ∷ xs)
@@ -54,9 +55,10 @@ ascends_option : {A : Type 0} (n : A → ℕ) (a : ℕ) (o : Option A) (xs : Lis
     → All (λ y. a + 1 ≤ y) (map n xs) × IsStrictlyIncreasing (map n xs)
     → All (λ y. a ≤ y) (map n (cons_option o xs)) × IsStrictlyIncreasing (map n (cons_option o xs))
 ascends_option n a None xs e h = (All-weaker (λ y. a + 1 ≤ y) (λ y. a ≤ y) (λ y above. omega arith) (map n xs) h.0, h.1)
-ascends_option n a (Some x) xs e h =
-    (All-cons (λ y. a ≤ y) (n x) (map n xs) (omega arith) (All-weaker (λ y. a + 1 ≤ y) (λ y. a ≤ y) (λ y above. omega arith) (map n xs) h.0),
-     IsStrictlyIncreasing-cons (n x) (map n xs) (All-weaker (λ y. a + 1 ≤ y) (λ y. n x < y) (λ y above. omega arith) (map n xs) h.0) h.1)
+ascends_option n a (Some x) xs e h = (
+  All-cons (λ y. a ≤ y) (n x) (map n xs) (omega arith) (All-weaker (λ y. a + 1 ≤ y) (λ y. a ≤ y) (λ y above. omega arith) (map n xs) h.0),
+  IsStrictlyIncreasing-cons (n x) (map n xs) (All-weaker (λ y. a + 1 ≤ y) (λ y. n x < y) (λ y above. omega arith) (map n xs) h.0) h.1,
+)
 
 ascends_from : {A : Type 0} (n : A → ℕ) (f : ℕ → Option A) → ((i : ℕ) → IfSome (f i) (λ x. n x ≡ i)) → (len a : ℕ)
     → All (λ y. a ≤ y) (map n (filter_map f (range_with_len a len))) × IsStrictlyIncreasing (map n (filter_map f (range_with_len a len)))
@@ -91,7 +93,7 @@ Names test mask index o i =
     (generation : ℕ) × IsSomeAnd o (λ r. (r.generation ≡ generation) × IsHit (λ b. IsTrue (test b)) mask r) × (i ≡ id_of index generation)
 
 hit_id-names : (test : FixBox → Bool) (mask index : ℕ) (r : Record) (hit : Bool) → is_hit test mask r ≡ hit
-    → IfSome (cond hit (Some (id_of index r.generation)) None) (Names test mask index (Some r))
+    → IfSome (then_some hit (id_of index r.generation)) (Names test mask index (Some r))
 hit_id-names test mask index r true e = (r.generation, (refl, IsHit-from_test test mask r e), refl)
 hit_id-names test mask index r false e = tt
 
@@ -118,19 +120,19 @@ hits_right test mask bodies history n =
     let names : (i : ℕ) → IfSome (hit_at test mask scene i) (Names test mask i (record_at scene i)) = λ i. hit-names test mask i (record_at scene i) in
     record {
       ascending =
-        (ascends_from (λ (i : Id). i.index) (hit_at test mask scene)
-        (λ i. IfSome-weaker (Names test mask i (record_at scene i)) (λ id. id.index ≡ i) (λ id name. ap (λ (d : Id). d.index) name.2) (hit_at test mask scene i) (names i)) used 0).1;
+          (ascends_from (λ (i : Id). i.index) (hit_at test mask scene)
+          (λ i. IfSome-weaker (Names test mask i (record_at scene i)) (λ id. id.index ≡ i) (λ id name. ap (λ (d : Id). d.index) name.2) (hit_at test mask scene i) (names i)) used 0).1;
       complete = λ index generation due.
-        let fits : Fits (λ b. IsTrue (test b)) mask scene index generation = due n (omega arith) (omega arith) in
-        Contains-filter_map_range (hit_at test mask scene) used 0 index (id_of index generation) (omega arith)
-        (omega (arith, live_used scene index _ fits))
-        (hit-from_fits test mask index generation (record_at scene index) fits);
+          let fits : Fits (λ b. IsTrue (test b)) mask scene index generation = due n (omega arith) (omega arith) in
+          Contains-filter_map_range (hit_at test mask scene) used 0 index (id_of index generation) (omega arith)
+          (omega (arith, live_used scene index _ fits))
+          (hit-from_fits test mask index generation (record_at scene index) fits);
       sound =
-        All-filter_map _ (hit_at test mask scene)
-        (λ i. IfSome-weaker (Names test mask i (record_at scene i))
+          All-filter_map _ (hit_at test mask scene)
+          (λ i. IfSome-weaker (Names test mask i (record_at scene i))
           (λ (id : Id). (generation : ℕ) × IsMet (λ b. IsTrue (test b)) mask bodies (record { history = history; from = n; to = n }) id.index generation × (id ≡ id_of id.index generation))
           (λ id name.
-            subst (λ (k : ℕ). (generation : ℕ) × IsMet (λ b. IsTrue (test b)) mask bodies (record { history = history; from = n; to = n }) k generation × (id ≡ id_of k generation))
-            (sym (ap (λ (d : Id). d.index) name.2)) (name.0, (n, omega arith, omega arith, name.1), name.2)) (hit_at test mask scene i) (names i))
-        (range_with_len 0 used)
+          subst (λ (k : ℕ). (generation : ℕ) × IsMet (λ b. IsTrue (test b)) mask bodies (record { history = history; from = n; to = n }) k generation × (id ≡ id_of k generation))
+          (sym (ap (λ (d : Id). d.index) name.2)) (name.0, (n, omega arith, omega arith, name.1), name.2)) (hit_at test mask scene i) (names i))
+          (range_with_len 0 used);
     }

@@ -1,10 +1,10 @@
 -- Consistency is kept by changes of a body in place.
-use Rattle.std.proofs.Common.{◌≡◌, ◌≢◌, ℕ, ◌<◌, ◌≤◌, List, [], ◌∷◌, length, fold, refl, sym, ◌∙◌, ap, subst, Option, Some, None, option_map, is_some, IsNone, IfSome, Contains, arith, inl, inr}
+use Rattle.std.proofs.Common.{◌≡◌, ℕ, List, [], ◌∷◌, length, fold, refl, sym, ◌∙◌, subst, Option, Some, None, option_map, is_some, IfSome, arith, inl, inr}
 use Rattle.std.proofs.lemmas.List.{length-set}
 use Rattle.std.proofs.lemmas.Bool.{cases_eq}
 use Rattle.scene_model.specs.declared.body_view.Phase.{Phase}
 use Rattle.scene_model.specs.Scene.{Scene, Place, Record, place_at, record_at}
-use Rattle.scene_model.specs.Step.{with_body, with_change, with_phase}
+use Rattle.scene_model.specs.Step.{with_change, with_phase}
 use Rattle.scene_model.specs.Consistent.{IsLatest, IsConsistent}
 use Rattle.scene_model.proofs.Places.{place_at-with_body_other, place_at-with_change_same}
 
@@ -28,18 +28,18 @@ IsSameBody-change f keeps creations None = record { creations = refl; live = ref
 IsSameBody-change f keeps creations (Some r) = record {
   creations = refl;
   live = refl;
-  latest = λ layers h. record { latest = keeps.generation r ∙ h.latest; in_layers = rw (keeps.layer r) h.in_layers }
+  latest = λ layers h. record { latest = keeps.generation r ∙ h.latest; in_layers = rw (keeps.layer r) h.in_layers };
 }
 
 IsSameBody-with_change : (f : Record → Record) → KeepsBody f → (scene : Scene) (index other : ℕ)
     → IsSameBody (place_at scene other) (place_at (with_change f scene index) other)
 IsSameBody-with_change f keeps scene index other =
     elim (cases_eq other index) [
-      inl same ↦
-        let at : IsSameBody (place_at scene index) (place_at (with_change f scene index) index) =
+      | inl same ↦
+          let at : IsSameBody (place_at scene index) (place_at (with_change f scene index) index) =
           rw (place_at-with_change_same f scene index) (IsSameBody-change f keeps (place_at scene index).creations (record_at scene index)) in
-        subst (λ (k : ℕ). IsSameBody (place_at scene k) (place_at (with_change f scene index) k)) (sym same) at
-    | inr apart ↦ rw (place_at-with_body_other scene index other (option_map f (record_at scene index)) apart) (IsSameBody-refl (place_at scene other))
+          subst (λ (k : ℕ). IsSameBody (place_at scene k) (place_at (with_change f scene index) k)) (sym same) at
+      | inr apart ↦ rw (place_at-with_body_other scene index other (option_map f (record_at scene index)) apart) (IsSameBody-refl (place_at scene other))
     ]
 
 pub IsConsistent-with_change : (f : Record → Record) → KeepsBody f → (layers : ℕ) (scene : Scene) (index : ℕ)
@@ -52,7 +52,7 @@ IsConsistent-with_change f keeps layers scene index h =
       freed_once = h.freed_once;
       freed_empty = λ i in_freed. (omega (arith, (h.freed_empty i in_freed).0), (same i).live ∙ (h.freed_empty i in_freed).1);
       empty_freed = λ i below none. h.empty_freed i (omega arith) (sym (same i).live ∙ none);
-      latest = λ i. (same i).latest layers (h.latest i)
+      latest = λ i. (same i).latest layers (h.latest i);
     }
 
 KeepsBody-phase : (phase : Phase) → KeepsBody (λ r. record r { phase = phase })

@@ -4,6 +4,10 @@ pub mod Lives
 pub mod Histories
 pub mod Creations
 pub mod Batches
+pub mod Needs
+pub mod Trees
 pub mod ShownSteps
 pub mod ShownReads
+pub mod Views
+pub mod Ranges
 pub mod Hits

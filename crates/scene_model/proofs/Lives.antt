@@ -1,6 +1,6 @@
 -- Consistency is kept where a body begins and where one ends.
-use Rattle.std.proofs.Common.{◌≡◌, ◌≢◌, ℕ, zero, suc, ◌+◌, ◌<◌, ◌≤◌, ◌⊎◌, true, false, List, [], ◌∷◌, ◌++◌, length, get_or, set, refl, sym, ◌∙◌, ap, subst, nat_eq, Option, Some, None, is_some, IsNone, IsSome, IfSome, IsSomeAnd, Contains, arith, inl, inr}
-use Rattle.std.specs.List.{IsDistinct, All, AllByRecursion}
+use Rattle.std.proofs.Common.{◌≡◌, ◌≢◌, ℕ, zero, suc, ◌+◌, ◌<◌, ◌⊎◌, true, false, List, [], ◌∷◌, ◌++◌, length, get_or, set, refl, sym, ◌∙◌, ap, subst, nat_eq, Option, Some, None, is_some, IsNone, IsSome, IfSome, IsSomeAnd, Contains, arith, inl, inr}
+use Rattle.std.specs.List.{IsDistinct}
 use Rattle.std.proofs.lemmas.Map.Keys.{IsDistinct-head, IsDistinct-tail, IsDistinct-cons}
 use Rattle.std.proofs.lemmas.List.Elements.{All-from_recursion, recursion_from_All, All-contains, Contains-get_or}
 use Rattle.std.proofs.lemmas.List.{length-set, length_push, get_or-set_same, get_or-set_other, get_or_append_left, get_or_push, get_or_past}
@@ -9,7 +9,7 @@ use Rattle.std.proofs.lemmas.Bool.Decides.{eqb_tells}
 use Rattle.scene_model.specs.Scene.{Scene, Place, Record, place_at, record_at, unused}
 use Rattle.scene_model.specs.Step.{with_body}
 use Rattle.scene_model.specs.Consistent.{IsLatest, IsConsistent}
-use Rattle.scene_model.proofs.Places.{live_used, place_at-with_body_same, place_at-with_body_other}
+use Rattle.scene_model.proofs.Places.{place_at-with_body_same, place_at-with_body_other}
 
 Contains-cons_at : (x : ℕ) (xs : List ℕ) (y : ℕ) (k : ℕ) → k < length (x ∷ xs) → get_or (x ∷ xs) k y ≡ y → (x ≡ y) ⊎ Contains xs y
 Contains-cons_at x xs y zero below at = inl at
@@ -59,19 +59,19 @@ IsConsistent-push layers scene place none room begun h =
       freed_once = h.freed_once;
       freed_empty = λ i c. let below = c.1 in absurd (omega (arith, ap length none));
       empty_freed = λ i below gone.
-        elim (cases_lt i (length scene.places)) [
-          inl before ↦ h.empty_freed i before (ap (λ (p : Place). is_some p.body) (sym (old i before)) ∙ gone)
-        | inr after ↦ absurd (false≢true (sym gone ∙ ap (λ (p : Place). is_some p.body) (new i (omega arith)) ∙ begun_live place.body _ begun))
-        ];
+          elim (cases_lt i (length scene.places)) [
+            | inl before ↦ h.empty_freed i before (ap (λ (p : Place). is_some p.body) (sym (old i before)) ∙ gone)
+            | inr after ↦ absurd (false≢true (sym gone ∙ ap (λ (p : Place). is_some p.body) (new i (omega arith)) ∙ begun_live place.body _ begun))
+          ];
       latest = λ i.
-        elim (cases_lt i (length scene.places)) [
-          inl before ↦ subst (IsLatestIn layers) (sym (old i before)) (h.latest i)
-        | inr after ↦
-            elim (cases_eq (length scene.places) i) [
-              inl at ↦ subst (IsLatestIn layers) (sym (new i at)) (begun_latest place.body _ begun)
-            | inr apart ↦ subst (IsLatestIn layers) (sym (past i (omega arith))) tt
-            ]
-        ]
+          elim (cases_lt i (length scene.places)) [
+            | inl before ↦ subst (IsLatestIn layers) (sym (old i before)) (h.latest i)
+            | inr after ↦
+                elim (cases_eq (length scene.places) i) [
+                  | inl at ↦ subst (IsLatestIn layers) (sym (new i at)) (begun_latest place.body _ begun)
+                  | inr apart ↦ subst (IsLatestIn layers) (sym (past i (omega arith))) tt
+                ]
+          ];
     }
 
 -- a body begins at the index that was freed last
@@ -88,23 +88,24 @@ IsConsistent-reuse layers scene index rest place freed begun h =
     record {
       room = omega (arith, h.room);
       freed_once = IsDistinct-tail nat_eq index rest distinct;
-      freed_empty = λ i c.
-        (omega (arith, (h.freed_empty i (kept i c)).0),
-         ap (λ (p : Place). is_some p.body) (other i (head_apart index rest distinct i c)) ∙ (h.freed_empty i (kept i c)).1);
+      freed_empty = λ i c. (
+        omega (arith, (h.freed_empty i (kept i c)).0),
+        ap (λ (p : Place). is_some p.body) (other i (head_apart index rest distinct i c)) ∙ (h.freed_empty i (kept i c)).1,
+      );
       empty_freed = λ i inside gone.
-        elim (cases_eq i index) [
-          inl same ↦ absurd (false≢true (sym (subst (λ (k : ℕ). is_some (get_or (set scene.places index place) k unused).body ≡ false) same gone) ∙ ap (λ (p : Place). is_some p.body) at ∙ begun_live place.body _ begun))
-        | inr apart ↦
-            elim (Contains-cons_cases index rest i (subst (λ (xs : List ℕ). Contains xs i) freed (h.empty_freed i (omega arith) (ap (λ (p : Place). is_some p.body) (sym (other i apart)) ∙ gone)))) [
-              inl same ↦ absurd (apart (sym same))
-            | inr c ↦ c
-            ]
-        ];
+          elim (cases_eq i index) [
+            | inl same ↦ absurd (false≢true (sym (subst (λ (k : ℕ). is_some (get_or (set scene.places index place) k unused).body ≡ false) same gone) ∙ ap (λ (p : Place). is_some p.body) at ∙ begun_live place.body _ begun))
+            | inr apart ↦
+                elim (Contains-cons_cases index rest i (subst (λ (xs : List ℕ). Contains xs i) freed (h.empty_freed i (omega arith) (ap (λ (p : Place). is_some p.body) (sym (other i apart)) ∙ gone)))) [
+                  | inl same ↦ absurd (apart (sym same))
+                  | inr c ↦ c
+                ]
+          ];
       latest = λ i.
-        elim (cases_eq i index) [
-          inl same ↦ subst (λ (k : ℕ). IsLatestIn layers (get_or (set scene.places index place) k unused)) (sym same) (subst (IsLatestIn layers) (sym at) (begun_latest place.body _ begun))
-        | inr apart ↦ subst (IsLatestIn layers) (sym (other i apart)) (h.latest i)
-        ]
+          elim (cases_eq i index) [
+            | inl same ↦ subst (λ (k : ℕ). IsLatestIn layers (get_or (set scene.places index place) k unused)) (sym same) (subst (IsLatestIn layers) (sym at) (begun_latest place.body _ begun))
+            | inr apart ↦ subst (IsLatestIn layers) (sym (other i apart)) (h.latest i)
+          ];
     }
 
 -- a body ends, and its index is free
@@ -118,22 +119,22 @@ IsConsistent-destroy layers scene index live below h =
     record {
       room = omega (arith, h.room);
       freed_once =
-        IsDistinct-cons nat_eq index scene.freed
-        (recursion_from_All (λ y. nat_eq index y ≡ false) scene.freed (λ k d inside. differs index (get_or scene.freed k d) (new (get_or scene.freed k d) (Contains-get_or scene.freed k d inside))))
-        h.freed_once;
+          IsDistinct-cons nat_eq index scene.freed
+          (recursion_from_All (λ y. nat_eq index y ≡ false) scene.freed (λ k d inside. differs index (get_or scene.freed k d) (new (get_or scene.freed k d) (Contains-get_or scene.freed k d inside))))
+          h.freed_once;
       freed_empty = λ i c.
-        elim (Contains-cons_cases index scene.freed i c) [
-          inl same ↦ subst (λ (k : ℕ). (k < length (with_body scene index None).places) × IsNone (record_at (with_body scene index None) k)) same (omega arith, ap (λ (p : Place). is_some p.body) at)
-        | inr c ↦ (omega (arith, (h.freed_empty i c).0), ap (λ (p : Place). is_some p.body) (other i (λ same. new i c (sym same))) ∙ (h.freed_empty i c).1)
-        ];
+          elim (Contains-cons_cases index scene.freed i c) [
+            | inl same ↦ subst (λ (k : ℕ). (k < length (with_body scene index None).places) × IsNone (record_at (with_body scene index None) k)) same (omega arith, ap (λ (p : Place). is_some p.body) at)
+            | inr c ↦ (omega (arith, (h.freed_empty i c).0), ap (λ (p : Place). is_some p.body) (other i (λ same. new i c (sym same))) ∙ (h.freed_empty i c).1)
+          ];
       empty_freed = λ i inside gone.
-        elim (cases_eq i index) [
-          inl same ↦ subst (λ (k : ℕ). Contains (index ∷ scene.freed) k) (sym same) (0, omega arith, refl)
-        | inr apart ↦ Contains-cons_tail index scene.freed i (h.empty_freed i (omega arith) (ap (λ (p : Place). is_some p.body) (sym (other i apart)) ∙ gone))
-        ];
+          elim (cases_eq i index) [
+            | inl same ↦ subst (λ (k : ℕ). Contains (index ∷ scene.freed) k) (sym same) (0, omega arith, refl)
+            | inr apart ↦ Contains-cons_tail index scene.freed i (h.empty_freed i (omega arith) (ap (λ (p : Place). is_some p.body) (sym (other i apart)) ∙ gone))
+          ];
       latest = λ i.
-        elim (cases_eq i index) [
-          inl same ↦ subst (λ (k : ℕ). IsLatestIn layers (place_at (with_body scene index None) k)) (sym same) (subst (IsLatestIn layers) (sym at) tt)
-        | inr apart ↦ subst (IsLatestIn layers) (sym (other i apart)) (h.latest i)
-        ]
+          elim (cases_eq i index) [
+            | inl same ↦ subst (λ (k : ℕ). IsLatestIn layers (place_at (with_body scene index None) k)) (sym same) (subst (IsLatestIn layers) (sym at) tt)
+            | inr apart ↦ subst (IsLatestIn layers) (sym (other i apart)) (h.latest i)
+          ];
     }

@@ -1,15 +1,13 @@
 -- What is read of a scene is read of what is shown of it.
-use Rattle.std.proofs.Common.{◌≡◌, ℕ, ◌+◌, ◌%◌, Bool, false, cond, List, [], ◌∷◌, length, map, refl, sym, ◌∙◌, ap, subst, sum_by, count_by, filter_map, get_or, Option, Some, None, is_some, IsSome, IsSomeAnd, option_map, option_and_then, All, arith, inl, inr}
+use Rattle.std.proofs.Common.{◌≡◌, ℕ, ◌+◌, ◌%◌, Bool, false, cond, List, [], ◌∷◌, length, map, refl, sym, ◌∙◌, ap, subst, count_by, filter_map, get_or, Option, Some, None, is_some, IsSomeAnd, option_map, option_and_then, arith}
 use Rattle.std.specs.List.{cons_option, range_with_len}
 use Rattle.std.specs.Option.{option_map_or}
 use Rattle.std.proofs.lemmas.List.{length-map}
 use Rattle.std.proofs.lemmas.List.Sums.{sum_by-cons}
 use Rattle.fixed_box.specs.declared.fix_box.FixBox.{FixBox}
-use Rattle.body_ident.specs.Id.{Id, id_of}
-use Rattle.scene_model.specs.declared.body_view.Phase.TheVariants.{Out, Held, In}
 use Rattle.scene_model.specs.declared.entry.Entry.{Entry}
 use Rattle.scene_model.specs.declared.entry.Entry.TheVariants.{Create, Destroy, Mark, Unmark, Join, Remove, Move, SetUser}
-use Rattle.scene_model.specs.Scene.{Scene, Place, Record, place_at, record_at, next_index, next_of}
+use Rattle.scene_model.specs.Scene.{Scene, Place, Record, record_at, next_index, next_of}
 use Rattle.scene_model.specs.Step.{HasBody, IsPossible}
 use Rattle.scene_model.specs.Query.{view_of, view_at, live_count, in_count, hit_id, hit_at, hits}
 use Rattle.scene_model.specs.Phase.{is_in}

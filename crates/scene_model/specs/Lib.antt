@@ -6,5 +6,7 @@ pub mod Cause
 pub mod Query
 pub mod Consistent
 pub mod Batch
+pub mod Need
+pub mod Tree
 pub mod Shown
 pub mod Plain

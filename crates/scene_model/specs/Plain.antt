@@ -1,5 +1,5 @@
 -- How the fields of a plain scene are seen.
-use Rattle.std.specs.Prelude.{Option, option_map}
+use Rattle.std.specs.Prelude.{option_map}
 use Rattle.scene_model.specs.declared.plain_scene.Body.{Body}
 use Rattle.scene_model.specs.declared.plain_scene.Slot.{Slot}
 use Rattle.scene_model.specs.Scene.{Place, Record}

@@ -1,6 +1,7 @@
 -- What is read of a scene: views, counts, and the bodies that a query finds.
-use Rattle.std.specs.Prelude.{ℕ, ◌==◌, Bool, true, false, ◌&&◌, List, count_by, filter_map, length, Option, Some, None, is_some, option_map, option_and_then, if◌then◌else◌}
+use Rattle.std.specs.Prelude.{ℕ, ◌==◌, Bool, false, ◌&&◌, List, count_by, filter_map, length, Option, is_some, option_map, option_and_then}
 use Rattle.std.specs.List.{range_with_len}
+use Rattle.std.specs.Bool.{then_some}
 use Rattle.std.specs.Option.{option_map_or}
 use Rattle.std.specs.Int.{bit_at}
 use Rattle.fixed_box.specs.declared.fix_box.FixBox.{FixBox}
@@ -29,7 +30,7 @@ is_hit test mask r = is_in r.phase && (bit_at mask r.layer == 1) && test r.bound
 
 -- the id of a body at an index, where it is hit
 abbrev pub hit_id : (FixBox → Bool) → ℕ → ℕ → Record → Option Id
-hit_id test mask index r = if is_hit test mask r then Some (id_of index r.generation) else None
+hit_id test mask index r = then_some (is_hit test mask r) (id_of index r.generation)
 
 abbrev pub hit_at : (FixBox → Bool) → ℕ → Scene → ℕ → Option Id
 hit_at test mask scene index = option_and_then (hit_id test mask index) (record_at scene index)

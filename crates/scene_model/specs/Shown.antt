@@ -1,5 +1,5 @@
 -- What a plain scene shows of a scene: everything, but each count of creations only modulo 256.
-use Rattle.std.specs.Prelude.{ℕ, ◌%◌, map, Option, option_map}
+use Rattle.std.specs.Prelude.{◌%◌, map, option_map}
 use Rattle.scene_model.specs.declared.entry.Entry.{Entry}
 use Rattle.scene_model.specs.declared.entry.Entry.TheVariants.{Create}
 use Rattle.scene_model.specs.Scene.{Scene, Place, Record, place_at}

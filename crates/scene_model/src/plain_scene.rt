@@ -1,5 +1,7 @@
-ghost use Rattle.std.specs.Prelude.{◌≡◌, ◌≤◌, ◌^◌, ◌+◌, ◌%◌, ◌==◌, ◌&&◌, ◌∷◌, length, IfOk, Ok, Some, None, OnOk, OnErr, option_map, fold, slice_set};
+ghost use Rattle.std.specs.Prelude.{◌≡◌, Bool, ◌≤◌, ◌^◌, ◌+◌, ◌%◌, ◌==◌, ◌&&◌, ◌∷◌, length, IfOk, Ok, Some, None, OnOk, OnErr, option_map, fold, slice_set};
 ghost use Rattle.std.specs.Int.{bit_at};
+ghost use Rattle.std.specs.Fn.{FnReturnsAt};
+ghost use Rattle.fixed_box.specs.declared.fix_box.FixBox.{FixBox};
 ghost use Rattle.fixed_box.specs.Corner.{is_at_most};
 ghost use Rattle.scene_model.specs.declared.body_view.Phase.TheVariants.{In};
 ghost use Rattle.scene_model.specs.Scene.{Scene, empty_scene, next_index, place_at, record_at};
@@ -8,20 +10,26 @@ ghost use Rattle.scene_model.specs.Query.{view_at, live_count, in_count, hit_at,
 ghost use Rattle.scene_model.specs.Plain.{place_of, record_of};
 ghost use Rattle.scene_model.specs.Shown.{shown, shown_place, after_shown};
 
-use std::alloc::{AllocError, Global};
-use std::marker::Model;
-
-use body_ident::BodyId;
-use fixed_box::FixBox;
-
 use crate::body_view::{BodyView, Phase};
 use crate::entry::Entry;
+use body_ident::BodyId;
+use fixed_box::FixBox;
+use std::alloc::{AllocError, Global};
+use std::marker::Model;
 
 /// Whether the layer is one of the mask: bit k of it stands for layer k.
 fn is_in_mask(mask: u8, layer: u32) -> bool
     ensures { result ≡ (bit_at mask layer == 1) }
 {
     layer < 8 && (mask >> layer) % 2 == 1
+}
+
+/// Whether the bounds pass the test.
+fn passes<F: Fn(&FixBox) -> bool>(test: &F, bounds: &FixBox) -> bool
+    requires { F.IsAlwaysCallable test.now }
+    ensures { FnReturnsAt F.Fn test.now bounds.now result }
+{
+    test(bounds)
 }
 
 /// What is kept of a live body.
@@ -169,29 +177,52 @@ impl PlainScene {
     pub fn in_count(&self) -> u32
         ensures { result ≡ in_count self.now }
     {
-        self.places.iter().filter(|s| s.body.is_some_and(|b| b.phase.is_in())).count() as u32
+        self.places
+            .iter()
+            .filter(|s| s.body.is_some_and(|b| b.phase.is_in()))
+            .count() as u32
     }
 
-    /// The ids of the bodies in the broad phase that are in a layer of the mask and whose bounds touch the box,
+    /// The ids of the bodies in the broad phase that are in a layer of the mask and whose bounds pass a test,
     /// ascending by index. Bit k of the mask stands for layer k.
+    pub fn hits_where<F: Fn(&FixBox) -> bool>(
+        &self,
+        alloc: Global,
+        mask: u8,
+        test: F,
+    ) -> Result<Vec<BodyId>, AllocError>
+        requires { F.IsAlwaysCallable test }
+        // at each function that the test computes
+        ensures { IfOk result (λ v. (t : FixBox → Bool) → ((b : FixBox) (r : Bool) → FnReturnsAt F.Fn test b r → r ≡ t b)
+            → v.items ≡ hits t mask self.now) }
+    {
+        let mut found = Vec::new(alloc);
+        for index in 0..self.used() {
+            if let Some(id) = self.hit(index, mask, &test) {
+                found.push(id)?;
+            }
+        }
+        Ok(found)
+    }
+
+    /// The same of the bodies whose bounds touch a box.
     pub fn hits(&self, alloc: Global, mask: u8, bounds: &FixBox) -> Result<Vec<BodyId>, AllocError>
         ensures { IfOk result (λ v. v.items ≡ hits (λ b. is_at_most bounds.now.lo b.hi && is_at_most b.lo bounds.now.hi) mask self.now) }
     {
-        (0..self.used())
-            .filter_map(|index| self.hit(index, mask, bounds))
-            .collect(alloc)
+        self.hits_where(alloc, mask, |b| bounds.touches(b))
     }
 
     /// The id of the body at the index, if it is a hit.
-    fn hit(&self, index: u32, mask: u8, bounds: &FixBox) -> Option<BodyId>
-        ensures { result ≡ hit_at (λ b. is_at_most bounds.now.lo b.hi && is_at_most b.lo bounds.now.hi) mask self.now index }
+    fn hit<F: Fn(&FixBox) -> bool>(&self, index: u32, mask: u8, test: &F) -> Option<BodyId>
+        requires { F.IsAlwaysCallable test.now }
+        ensures { (t : FixBox → Bool) → ((b : FixBox) (r : Bool) → FnReturnsAt F.Fn test.now b r → r ≡ t b)
+            → result ≡ hit_at t mask self.now index }
     {
         let body = self.at(index)?;
-        if body.phase.is_in() && is_in_mask(mask, body.layer) && bounds.touches(&body.bounds) {
-            Some(body.id)
-        } else {
-            None
+        if !body.phase.is_in() || !is_in_mask(mask, body.layer) {
+            return None;
         }
+        passes(test, &body.bounds).then_some(body.id)
     }
 
     /// The body at the index, as it is kept.
@@ -257,8 +288,7 @@ impl PlainScene {
     fn created(&self, index: u32, layer: u32, bounds: FixBox, user: u32) -> Slot
         ensures { place_of result ≡ shown_place (created_in (place_at self.now index) layer bounds user) }
     {
-        let creations = self.places.get(index as usize).map_or(0, |s| s.creations);
-        let seq = creations.wrapping_add(1);
+        let seq = self.next_seq(index);
         Slot {
             creations: seq,
             body: Some(Body {
@@ -272,7 +302,13 @@ impl PlainScene {
     }
 
     /// Creates a body at the index, which is the next one.
-    fn create(&mut self, index: u32, layer: u32, bounds: FixBox, user: u32) -> Result<(), AllocError>
+    fn create(
+        &mut self,
+        index: u32,
+        layer: u32,
+        bounds: FixBox,
+        user: u32,
+    ) -> Result<(), AllocError>
         requires { next_index self.old ≡ Some index }
         ensures ok { OnOk result (self.new ≡ with_new_body self.old.freed self.old index (shown_place (created_in (place_at self.old index) layer bounds user))) }
         ensures err { OnErr result (self.new ≡ self.old) }

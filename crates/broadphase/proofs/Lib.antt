@@ -2,6 +2,6 @@ pub mod ReadingLemmas
 pub mod GivingIds
 pub mod Writing
 pub mod Projection
-pub mod Playing
+pub mod PlayedSoFar
 pub mod Naming
 pub mod Joining

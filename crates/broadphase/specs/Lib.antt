@@ -4,3 +4,5 @@ pub mod Turn
 pub mod Report
 pub mod Shown
 pub mod Fields
+pub mod Ended
+pub mod Status

@@ -1,8 +1,18 @@
-//! The program: it reads a script, plays it over a shared body store, and writes the report.
+//! The program: it reads a script, plays it, and writes the report.
 //!
-//! It stands on every crate below, and nothing stands on it. Its promise is the contract of the top call.
+//! It stands on every crate below, and nothing stands on it but the program itself. Its promise is the contract
+//! of the top call, `run`: what it wrote is what the plain scene prints for the script that it read.
 #![tactic(auto)]
 
-mod play;
+mod playing;
 mod player;
+mod reading;
+mod room;
+mod run;
+mod status;
 pub mod streams;
+
+pub use playing::{PlayFault, play};
+pub use reading::{MAX_BYTES, ParseEnd, run_parse};
+pub use room::Room;
+pub use status::Status;

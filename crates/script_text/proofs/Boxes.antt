@@ -1,10 +1,10 @@
 -- Boxes and the words of their corners.
-use Rattle.std.proofs.Common.{◌≡◌, ℕ, Bool, true, false, ◌&&◌, List, [], ◌∷◌, map, ℤ, int_le, zip, refl, ap, arith}
+use Rattle.std.proofs.Common.{◌≡◌, ℕ, Bool, ◌&&◌, List, [], ◌∷◌, map, int_le, zip, refl, ap}
 use Rattle.std.specs.List.{list_all}
 use Rattle.fixed_box.specs.declared.coord.Coord.{Coord}
 use Rattle.fixed_box.specs.Corner.{is_at_most}
 use Rattle.script_text.specs.Number.{number_of}
-use Rattle.script_text.specs.Grammar.{SpellsCorner}
+use Rattle.script_text.specs.Fields.{SpellsCorner}
 
 by_values : (a b : List Coord) → is_at_most a b ≡ list_all (λ p. int_le p.0 p.1) (zip (map (λ c. c.value) a) (map (λ c. c.value) b))
 by_values [] b = refl

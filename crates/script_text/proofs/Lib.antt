@@ -1,6 +1,9 @@
 pub mod Digits
 pub mod Numbers
 pub mod Words
+pub mod Texts
+pub mod Places
+pub mod Printing
 pub mod Boxes
 pub mod Counts
 pub mod Cuts

@@ -1,10 +1,16 @@
 pub mod Fault
 pub mod Number
 pub mod Name
+pub mod Place
 pub mod Lines
 pub mod Keyword
 pub mod Command
+pub mod Fields
+pub mod World
+pub mod Above
 pub mod Grammar
-pub mod Script
+pub mod Line
 pub mod Draft
+pub mod Script
+pub mod Printed
 pub mod Reply

@@ -1,6 +1,6 @@
 use Rattle.std.proofs.Common.{◌≤◌}
-use Rattle.broadphase.proofs.Playing.{HasPlayed}
-use Rattle.broadphase.proofs.play.play_commands.Given as goal
+use Rattle.broadphase.proofs.PlayedSoFar.{HasPlayed}
+use Rattle.broadphase.proofs.playing.play_commands.Given as goal
 
 abbrev pub invariant-loop-command : goal.invariant-loop-command
 invariant-loop-command g l =

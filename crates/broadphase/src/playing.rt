@@ -7,7 +7,7 @@ ghost use Rattle.broadphase.specs.Table.{empty_table};
 ghost use Rattle.broadphase.specs.Turn.{turn};
 ghost use Rattle.broadphase.specs.Shown.{shown_after, Plays, PlaysPart};
 ghost use Rattle.broadphase.specs.Report.{end_text_of, end_text, replies_text, table_below, serial_report};
-ghost use Rattle.broadphase.specs.declared.play.PlayFault.TheVariants.{Write, Memory};
+ghost use Rattle.broadphase.specs.declared.playing.PlayFault.TheVariants.{Write, Memory};
 
 use crate::player::Player;
 use crate::streams::write_all;
@@ -105,7 +105,7 @@ fn play_end<K: Sink>(player: &Player, line: &mut Vec<u8>, sink: &mut K) -> Resul
 }
 
 /// Writes the replies to commands, one line each.
-#[tactic(auto, using(crate::proofs::Playing::one_more, crate::proofs::Playing::stops, crate::proofs::Playing::all_played))]
+#[tactic(auto, using(crate::proofs::PlayedSoFar::one_more, crate::proofs::PlayedSoFar::stops, crate::proofs::PlayedSoFar::all_played))]
 fn play_commands<K: Sink>(
     alloc: Global,
     player: &mut Player,
@@ -126,7 +126,7 @@ fn play_commands<K: Sink>(
 
 /// Plays a script on the plain scene, and writes its report: a line for each reply as soon as it is known, and
 /// the line that counts the bodies. After an error the bytes written are a first part of the report.
-#[tactic(auto, using(crate::proofs::Playing::whole_report, crate::proofs::Playing::part_to_end, crate::proofs::Playing::part_of_replies))]
+#[tactic(auto, using(crate::proofs::PlayedSoFar::whole_report, crate::proofs::PlayedSoFar::part_to_end, crate::proofs::PlayedSoFar::part_of_replies))]
 pub fn play<K: Sink>(alloc: Global, script: &Script, sink: &mut K) -> Result<(), PlayFault>
     requires { script.now.world.bodies ≤ 65536 }
     ensures report { OnOk result (Appended (K.contents sink.old) (K.contents sink.new) (serial_report script.now)) }

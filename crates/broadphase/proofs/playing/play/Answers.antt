@@ -2,8 +2,8 @@ use Rattle.std.proofs.Common.{List, ℕ, Option, subst}
 use Rattle.script_text.specs.declared.command.Command.{Command}
 use Rattle.broadphase.specs.Shown.{Plays}
 use Rattle.broadphase.proofs.Writing.{on_err_always}
-use Rattle.broadphase.proofs.Playing.{whole_report, part_to_end}
-use Rattle.broadphase.proofs.play.play.Goals as goal
+use Rattle.broadphase.proofs.PlayedSoFar.{whole_report, part_to_end}
+use Rattle.broadphase.proofs.playing.play.Goals as goal
 
 pub returns-in_err-play_end-clause-part : goal.returns-in_err-play_end-clause-part
 returns-in_err-play_end-clause-part g c =

@@ -1,7 +1,7 @@
 pub mod ReadingLemmas
 pub mod GivingIds
 pub mod Writing
+pub mod Joining
 pub mod Projection
 pub mod PlayedSoFar
-pub mod Naming
-pub mod Joining
+pub mod Ending

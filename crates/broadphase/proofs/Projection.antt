@@ -15,8 +15,10 @@ use Rattle.script_text.specs.declared.reply.Refusal.{Refusal}
 use Rattle.script_text.specs.declared.reply.Refusal.TheVariants.{Gone, NoSlot, NoNodes}
 use Rattle.script_text.specs.declared.command.Command.{Command}
 use Rattle.script_text.specs.declared.command.Command.TheVariants as commands
-use Rattle.broadphase.specs.Table.{Table, Named, named_at, slots_kept, nodes_kept}
-use Rattle.broadphase.specs.Turn.{Turn, created_turn, create_turn, phase_refusal, touches, record_refusal, mark_refusal, attach_refusal, attach_turn, add_id_turn, add_turn, add_names_turn, answered, turn, table_after}
+use Rattle.fixed_box.specs.FixBox.{touches}
+use Rattle.broadphase.specs.declared.known.Known.{Known}
+use Rattle.broadphase.specs.Table.{Table, known_at, slots_kept, nodes_kept}
+use Rattle.broadphase.specs.Turn.{Turn, created_turn, create_turn, phase_refusal, record_refusal, mark_refusal, attach_refusal, attach_turn, add_id_turn, add_turn, add_names_turn, answered, turn, table_after}
 use Rattle.broadphase.specs.Shown.{shown_table, shown_after}
 
 refusal-shown : (layer seq : ℕ) (o : Option Record) → record_refusal layer seq (option_map shown_record o) ≡ record_refusal layer seq o
@@ -54,13 +56,13 @@ add_id-shown table layer None = refl
 add_id-shown table layer (Some i) =
     ap (attach_turn (shown_table table) layer i) (attach_refusal-shown table layer i) ∙ attach-shown table layer i (attach_refusal table layer i)
 
-add-shown : (table : Table) (o : Option Named) → add_turn (shown_table table) o ≡ add_turn table o
+add-shown : (table : Table) (o : Option Known) → add_turn (shown_table table) o ≡ add_turn table o
 add-shown table None = refl
-add-shown table (Some named) = add_id-shown table named.layer named.id
+add-shown table (Some known) = add_id-shown table known.layer known.id
 
 add_names-shown : (table : Table) (names : List (List ℕ)) → add_names_turn (shown_table table) names ≡ add_names_turn table names
 add_names-shown table [] = refl
-add_names-shown table (name ∷ []) = add-shown table (named_at table.names name)
+add_names-shown table (name ∷ []) = add-shown table (known_at table name)
 add_names-shown table (a ∷ b ∷ names) = refl
 
 pub turn-shown : (table : Table) (c : Command) → turn (shown_table table) c ≡ turn table c
@@ -74,4 +76,4 @@ entries-shown [] scene = refl
 entries-shown (e ∷ entries) scene = ap (λ (s : Scene). fold after_shown s entries) (sym (shown-after_entry scene e)) ∙ entries-shown entries (after_entry scene e)
 
 pub shown_after-turn : (table : Table) (t : Turn) → shown_after (shown_table table) t ≡ shown_table (table_after table t)
-shown_after-turn table t = ap (λ (s : Scene). record table { scene = s; names = t.names; attached = t.attached }) (entries-shown t.entries table.scene)
+shown_after-turn table t = ap (λ (s : Scene). record table { scene = s; names = t.names; known = t.known; attached = t.attached }) (entries-shown t.entries table.scene)

@@ -1,11 +1,15 @@
 -- How a run may end, and what holds then.
-use Rattle.std.specs.Prelude.{◌≡◌, ℕ, List, [], ◌∷◌, ◌++◌, map, Option, String, string_bytes, codes, decimal}
+use Rattle.std.specs.Prelude.{◌≡◌, ◌⊎◌, ℕ, ◌+◌, List, [], ◌∷◌, ◌++◌, map, Option, String, string_bytes, codes, decimal}
 use Rattle.std.specs.Global.{Global}
 use Rattle.world_io.specs.Bytes.{Appended, AppendedPart}
+use Rattle.world_io.specs.Faults.{Rose}
 use Rattle.script_text.specs.declared.code.Code.{Code}
 use Rattle.script_text.specs.declared.code.Code.TheVariants as code
 use Rattle.script_text.specs.declared.script.Script.{Script}
-use Rattle.broadphase.specs.Reading.{ScriptRead, FaultRead}
+use Rattle.broadphase.specs.declared.status.Status.{Status}
+use Rattle.broadphase.specs.declared.status.Status.TheVariants as statuses
+use Rattle.broadphase.specs.declared.reading.TheConstants.{MAX_BYTES}
+use Rattle.broadphase.specs.Reading.{GaveCount, ScriptRead, FaultRead}
 use Rattle.broadphase.specs.Report.{serial_report}
 
 -- the words are the one word `play`
@@ -42,15 +46,26 @@ pub record PlayedPart (left rest before after : Option (List ℕ)) : Type 0 wher
   pub read : ScriptRead left rest script
   pub wrote : AppendedPart before after (serial_report script)
 
--- no script was read, and this was written of it
+-- the bytes that were read are no script, and the line that says so was written
 pub record Refused (left rest before after : Option (List ℕ)) : Type 0 where
   pub line : ℕ
   pub c : Code
   pub read : FaultRead left rest line c
   pub wrote : Appended before after (fault_text line c)
 
+-- the same of a first part of that line
 pub record RefusedPart (left rest before after : Option (List ℕ)) : Type 0 where
   pub line : ℕ
   pub c : Code
   pub read : FaultRead left rest line c
   pub wrote : AppendedPart before after (fault_text line c)
+
+-- what a run of `play` has read and written, by how it ended; s is the source's count of faults, k the sink's
+abbrev pub PlayEnds : Status → (left rest before after : Option (List ℕ)) → (s s' k k' : ℕ) → Type 0
+PlayEnds statuses.Done left rest before after s s' k k' = Played left rest before after
+PlayEnds statuses.Usage left rest before after s s' k k' = ⊥
+PlayEnds statuses.BadScript left rest before after s s' k k' = Refused left rest before after
+PlayEnds statuses.ReadFault left rest before after s s' k k' = Rose s s' × (after ≡ before)
+PlayEnds statuses.WriteFault left rest before after s s' k k' = Rose k k' × (PlayedPart left rest before after ⊎ RefusedPart left rest before after)
+PlayEnds statuses.Memory left rest before after s s' k k' = (after ≡ before) ⊎ PlayedPart left rest before after
+PlayEnds statuses.TooLong left rest before after s s' k k' = GaveCount left rest (MAX_BYTES + 1) × (after ≡ before)

@@ -3,6 +3,6 @@ pub mod Table
 pub mod Turn
 pub mod Report
 pub mod Shown
-pub mod Fields
+pub mod Playing
 pub mod Ended
 pub mod Status

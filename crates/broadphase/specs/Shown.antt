@@ -14,7 +14,7 @@ shown_table table = record table { scene = shown table.scene }
 
 -- what a plain scene shows after a turn
 abbrev pub shown_after : Table → Turn → Table
-shown_after table t = record table { scene = fold after_shown table.scene t.entries; names = t.names; attached = t.attached }
+shown_after table t = record table { scene = fold after_shown table.scene t.entries; names = t.names; known = t.known; attached = t.attached }
 
 -- this turn is what was answered and done
 pub record Does (t : Turn) (old new : Table) (reply : Reply) : Type 0 where

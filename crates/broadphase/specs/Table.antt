@@ -1,32 +1,25 @@
 -- What the player keeps between two commands.
-use Rattle.std.specs.Prelude.{ℕ, List, [], find, Option, bytes_eq, sum_by, count_by, ◌==◌, ◌+◌}
-use Rattle.body_ident.specs.Id.{Id}
+use Rattle.std.specs.Prelude.{ℕ, ◌==◌, List, [], Option, slice_get, option_and_then, sum_by, count_by}
 use Rattle.word_map.specs.declared.config.Config.{Config}
 use Rattle.scene_model.specs.Scene.{Scene, empty_scene}
+use Rattle.script_text.specs.Place.{place_of}
+use Rattle.broadphase.specs.declared.known.Known.{Known}
+use Rattle.broadphase.specs.declared.known.Attached.{Attached}
 
--- a name that was created, its id unless the creation was refused, and its layer
-pub record Named : Type 0 where
-  pub name : List ℕ
-  pub id : Option Id
-  pub layer : ℕ
-
--- a batch that was attached: it keeps its slot of the layer and its nodes
-pub record Attached : Type 0 where
-  pub layer : ℕ
-  pub nodes : ℕ
-
+-- the names that were created, what each stands for, and the batches that are attached
 pub record Table : Type 0 where
   pub world : Config
   pub scene : Scene
-  pub names : List Named
+  pub names : List (List ℕ)
+  pub known : List Known
   pub attached : List Attached
 
 abbrev pub empty_table : Config → Table
-empty_table world = record { world = world; scene = empty_scene world.bodies; names = []; attached = [] }
+empty_table world = record { world = world; scene = empty_scene world.bodies; names = []; known = []; attached = [] }
 
 -- what is kept of a name
-abbrev pub named_at : List Named → List ℕ → Option Named
-named_at names word = find (λ n. bytes_eq word n.name) names
+abbrev pub known_at : Table → List ℕ → Option Known
+known_at table name = option_and_then (slice_get table.known) (place_of table.names name)
 
 -- how many slots of a layer are kept, and how many nodes
 abbrev pub slots_kept : List Attached → ℕ → ℕ

@@ -2,7 +2,7 @@
 use Rattle.std.specs.Prelude.{ℕ, ◌+◌, ◌-◌, ◌*◌, ◌%◌, ◌==◌, nat_le, nat_lt, Bool, ◌&&◌, if◌then◌else◌, List, [], ◌∷◌, ◌++◌, fold, Option, Some, None, option_and_then}
 use Rattle.std.specs.Option.{option_map_or}
 use Rattle.fixed_box.specs.declared.fix_box.FixBox.{FixBox}
-use Rattle.fixed_box.specs.Corner.{is_at_most}
+use Rattle.fixed_box.specs.FixBox.{touches}
 use Rattle.body_ident.specs.Id.{Id, id_of}
 use Rattle.scene_model.specs.declared.body_view.Phase.{Phase}
 use Rattle.scene_model.specs.declared.body_view.Phase.TheVariants.{Out, Held, In}
@@ -17,31 +17,35 @@ use Rattle.script_text.specs.declared.reply.Reply.{Reply}
 use Rattle.script_text.specs.declared.reply.Reply.TheVariants as replies
 use Rattle.script_text.specs.declared.reply.Refusal.{Refusal}
 use Rattle.script_text.specs.declared.reply.Refusal.TheVariants as refusals
-use Rattle.broadphase.specs.Table.{Table, Named, Attached, named_at, slots_kept, nodes_kept}
+use Rattle.broadphase.specs.declared.known.Known.{Known}
+use Rattle.broadphase.specs.declared.known.Attached.{Attached}
+use Rattle.broadphase.specs.Table.{Table, known_at, slots_kept, nodes_kept}
 
 -- the entries that a command makes, its reply, and what the player keeps of names and batches from then on
 pub record Turn : Type 0 where
   pub entries : List Entry
   pub reply : Reply
-  pub names : List Named
+  pub names : List (List ℕ)
+  pub known : List Known
   pub attached : List Attached
 
 -- nothing is changed
 abbrev pub answered : Table → Reply → Turn
-answered table reply = record { entries = []; reply = reply; names = table.names; attached = table.attached }
+answered table reply = record { entries = []; reply = reply; names = table.names; known = table.known; attached = table.attached }
 
 -- the name is kept, and stands for the id of the body that is created, or for none
 abbrev pub created_turn : Table → List ℕ → ℕ → FixBox → ℕ → ℕ → Id → Turn
 created_turn table name layer bounds user index id = record {
   entries = entries.Create index layer bounds user ∷ [];
   reply = replies.Id id;
-  names = table.names ++ record { name = name; id = Some id; layer = layer } ∷ [];
+  names = table.names ++ name ∷ [];
+  known = table.known ++ record { id = Some id; layer = layer } ∷ [];
   attached = table.attached;
 }
 
 abbrev pub create_turn : Table → List ℕ → ℕ → FixBox → ℕ → Option ℕ → Turn
 create_turn table name layer bounds user None =
-    record (answered table (replies.Refused refusals.Full)) { names = table.names ++ record { name = name; id = None; layer = layer } ∷ [] }
+    record (answered table (replies.Refused refusals.Full)) { names = table.names ++ name ∷ []; known = table.known ++ record { id = None; layer = layer } ∷ [] }
 create_turn table name layer bounds user (Some index) =
     created_turn table name layer bounds user index (id_of index ((place_at table.scene index).creations + 1))
 
@@ -72,6 +76,7 @@ attach_turn table layer i None = record {
   entries = entries.Mark i.index ∷ entries.Join layer (i.index ∷ []) ∷ [];
   reply = replies.Done;
   names = table.names;
+  known = table.known;
   attached = table.attached ++ record { layer = layer; nodes = 1 } ∷ [];
 }
 
@@ -80,18 +85,14 @@ add_id_turn table layer None = answered table (replies.Refused refusals.NoId)
 add_id_turn table layer (Some i) = attach_turn table layer i (attach_refusal table layer i)
 
 -- a name that was not created stands for no id
-abbrev pub add_turn : Table → Option Named → Turn
+abbrev pub add_turn : Table → Option Known → Turn
 add_turn table None = answered table (replies.Refused refusals.NoId)
-add_turn table (Some named) = add_id_turn table named.layer named.id
+add_turn table (Some known) = add_id_turn table known.layer known.id
 
 -- one name, for now
 abbrev pub add_names_turn : Table → List (List ℕ) → Turn
-add_names_turn table (name ∷ []) = add_turn table (named_at table.names name)
+add_names_turn table (name ∷ []) = add_turn table (known_at table name)
 add_names_turn table _ = answered table (replies.Refused refusals.NoId)
-
--- the bodies that touch a box
-abbrev pub touches : FixBox → FixBox → Bool
-touches a b = is_at_most a.lo b.hi && is_at_most b.lo a.hi
 
 abbrev pub turn : Table → Command → Turn
 turn table (commands.Create name layer bounds user) = create_turn table name layer bounds user (next_index table.scene)
@@ -100,4 +101,4 @@ turn table (commands.QueryBox mask bounds) = answered table (replies.Hits (hits 
 
 -- the table after a command
 abbrev pub table_after : Table → Turn → Table
-table_after table t = record table { scene = fold after_entry table.scene t.entries; names = t.names; attached = t.attached }
+table_after table t = record table { scene = fold after_entry table.scene t.entries; names = t.names; known = t.known; attached = t.attached }

@@ -4,15 +4,17 @@
 //! of the top call, `run`: what it wrote is what the plain scene prints for the script that it read.
 #![tactic(auto)]
 
-mod playing;
+mod known;
 mod player;
+mod playing;
 mod reading;
 mod room;
-mod run;
 mod status;
 pub mod streams;
+mod top;
 
 pub use playing::{PlayFault, play};
 pub use reading::{MAX_BYTES, ParseEnd, run_parse};
 pub use room::Room;
 pub use status::Status;
+pub use top::run;

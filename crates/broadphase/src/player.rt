@@ -1,44 +1,31 @@
 //! The player: it carries the commands of a script out on the plain scene.
-ghost use Rattle.std.specs.Prelude.{◌≡◌, ◌∷◌, [], ◌++◌, ◌≤◌, ℕ, Option, IfOk, OnOk, Some, None, sum_by, ◌<◌, ◌^◌, ◌-◌, option_map, bytes_eq, map};
+ghost use Rattle.std.specs.Prelude.{◌≡◌, ◌∷◌, [], ◌++◌, ◌≤◌, ℕ, Option, IfOk, OnOk, Some, None, sum_by, ◌<◌, ◌^◌, ◌-◌, option_map};
 ghost use Rattle.scene_model.specs.Query.{hits, live_count, in_count};
 ghost use Rattle.scene_model.specs.Scene.{next_index};
 ghost use Rattle.scene_model.specs.Step.{HasBody};
 ghost use Rattle.scene_model.specs.Shown.{after_shown};
-ghost use Rattle.broadphase.specs.Table.{Named, Attached, empty_table, named_at, slots_kept, nodes_kept};
-ghost use Rattle.broadphase.specs.Turn.{create_turn, mark_refusal, attach_refusal, attach_turn, add_id_turn, add_turn, add_names_turn, answered, touches, turn};
+ghost use Rattle.fixed_box.specs.FixBox.{touches};
+ghost use Rattle.broadphase.specs.Table.{empty_table, known_at, slots_kept, nodes_kept};
+ghost use Rattle.broadphase.specs.Turn.{create_turn, mark_refusal, attach_refusal, attach_turn, add_id_turn, add_turn, add_names_turn, answered, turn};
 ghost use Rattle.broadphase.specs.Shown.{Does};
-ghost use Rattle.broadphase.specs.Fields.{named_of};
 
+use crate::known::{Attached, Known};
 use body_ident::BodyId;
 use fixed_box::FixBox;
 use scene_model::{Entry, IndexList, Phase, PlainScene};
-use script_text::{Command, IdList, Refusal, Reply, Text};
+use script_text::{Command, IdList, Names, Refusal, Reply, Text};
 use std::alloc::{AllocError, Global};
 use std::marker::Model;
 use word_map::Config;
-
-/// A name that a script created, the id that it stands for, if any, and the layer that it was created in.
-#[derive(Debug, Drop)]
-struct Name {
-    text: Text,
-    id: Option<BodyId>,
-    layer: u32,
-}
-
-/// A batch that was attached. It keeps a slot of its layer and its nodes.
-#[derive(Clone, Copy, Debug)]
-struct Batch {
-    layer: u32,
-    nodes: u32,
-}
 
 /// A script under way. Contracts see it as a table of the scene, the names and the batches.
 #[derive(Debug, Drop)]
 pub struct Player {
     world: Config,
     scene: PlainScene,
-    names: Vec<Name>,
-    batches: Vec<Batch>,
+    names: Names,
+    known: Vec<Known>,
+    attached: Vec<Attached>,
 }
 
 impl Model for Player {
@@ -46,11 +33,11 @@ impl Model for Player {
 
     ghost Value = { Table };
 
-    ghost use Rattle.broadphase.specs.Fields.{table_of, IsPlaying};
+    ghost use Rattle.broadphase.specs.Playing.{table_of, IsUnderWay};
 
     ghost view = { table_of };
 
-    ghost invariant = { IsPlaying };
+    ghost invariant = { IsUnderWay };
 }
 
 impl Player {
@@ -62,8 +49,9 @@ impl Player {
         Ok(Player {
             world,
             scene: PlainScene::new(alloc, world.bodies)?,
-            names: Vec::new(alloc),
-            batches: Vec::new(alloc),
+            names: Names::new(alloc),
+            known: Vec::new(alloc),
+            attached: Vec::new(alloc),
         })
     }
 
@@ -75,11 +63,19 @@ impl Player {
         id: Option<BodyId>,
         layer: u32,
     ) -> Result<(), AllocError>
-        ensures { OnOk result (self.new ≡ record self.old { names = self.old.names ++ record { name = name.now; id = id; layer = layer } ∷ [] }) }
+        ensures { OnOk result (self.new ≡ record self.old { names = self.old.names ++ name.now ∷ []; known = self.old.known ++ record { id = id; layer = layer } ∷ [] }) }
     {
-        let text = Text::from_slice(alloc, name.items())?;
-        self.names.push(Name { text, id, layer })?;
+        self.names.push(alloc, name.items())?;
+        self.known.push(Known { id, layer })?;
         Ok(())
+    }
+
+    /// What is kept of a name.
+    fn known(&self, name: &Text) -> Option<Known>
+        ensures { result ≡ known_at self.now name.now }
+    {
+        let place = self.names.place(name.items())?;
+        self.known.get(place).copied()
     }
 
     /// `create NAME LAYER BOX USER`
@@ -130,14 +126,14 @@ impl Player {
     fn slots_kept(&self, layer: u32) -> usize
         ensures { result ≡ slots_kept self.now.attached layer }
     {
-        self.batches.iter().filter(|b| b.layer == layer).count()
+        self.attached.iter().filter(|b| b.layer == layer).count()
     }
 
     /// How many nodes are free.
     fn nodes_free(&self) -> u32
         ensures { result ≡ self.now.world.nodes - nodes_kept self.now.attached }
     {
-        self.world.nodes - nodes_of(&self.batches)
+        self.world.nodes - nodes_of(&self.attached)
     }
 
     /// Why a batch of one body cannot be attached.
@@ -161,16 +157,9 @@ impl Player {
         if let Some(refusal) = self.attach_refusal(layer, id) {
             return Ok(Reply::Refused(refusal));
         }
-        self.batches.push(Batch { layer, nodes: 1 })?;
+        self.attached.push(Attached { layer, nodes: 1 })?;
         mark_and_join(alloc, &mut self.scene, layer, id.index())?;
         Ok(Reply::Done)
-    }
-
-    /// What a name stands for, and its layer; `None` where it was not created.
-    fn named(&self, name: &[u8]) -> Option<&Name>
-        ensures { option_map (λ n. named_of n.now) result ≡ named_at self.now.names name.now }
-    {
-        find_name(&self.names, name)
     }
 
     /// `add NAME`
@@ -180,14 +169,13 @@ impl Player {
         let [name] = names else {
             return Ok(Reply::Refused(Refusal::NoId));
         };
-        let Some(named) = self.named(name.items()) else {
+        let Some(known) = self.known(name) else {
             return Ok(Reply::Refused(Refusal::NoId));
         };
-        let layer = named.layer;
-        let Some(id) = named.id else {
+        let Some(id) = known.id else {
             return Ok(Reply::Refused(Refusal::NoId));
         };
-        self.attach(alloc, layer, id)
+        self.attach(alloc, known.layer, id)
     }
 
     /// `box MASK BOX`
@@ -224,26 +212,6 @@ impl Player {
     }
 }
 
-/// The name that a word is, of those in a list.
-#[tactic(auto, using(crate::proofs::Naming::found_now, crate::proofs::Naming::found_later, crate::proofs::Naming::found_nowhere))]
-fn find_name<'a>(names: &'a [Name], word: &[u8]) -> Option<&'a Name>
-    ensures { option_map (λ n. named_of n.now) result ≡ named_at (map named_of names.now) word.now }
-{
-    for name in names {
-        if is_called(name, word) {
-            return Some(name);
-        }
-    }
-    None
-}
-
-/// Whether a name is this word.
-fn is_called(name: &Name, word: &[u8]) -> bool
-    ensures { result ≡ bytes_eq word.now name.now.text }
-{
-    word == name.text.items()
-}
-
 /// Puts a body of a layer that is out of the broad phase into it, by a batch of its own.
 #[tactic(auto, using(crate::proofs::Joining::marked_can_join, crate::proofs::Joining::can_mark))]
 fn mark_and_join(
@@ -262,7 +230,7 @@ fn mark_and_join(
 }
 
 /// How many nodes batches keep.
-fn nodes_of(batches: &[Batch]) -> u32
+fn nodes_of(batches: &[Attached]) -> u32
     requires { sum_by (λ b. b.nodes) batches.now < 2 ^ 32 }
     ensures { result ≡ sum_by (λ b. b.nodes) batches.now }
 {

@@ -3,6 +3,7 @@ pub mod Kept
 pub mod Lives
 pub mod Histories
 pub mod Creations
+pub mod Full
 pub mod Batches
 pub mod Needs
 pub mod Trees

@@ -1,8 +1,7 @@
 -- The tree over a list of bodies, each an index and its bounds.
-use Rattle.std.specs.Prelude.{ℕ, zero, suc, ◌+◌, ◌-◌, ◌/◌, Bool, ◌&&◌, ◌||◌, nat_lt, List, [], ◌∷◌, ◌++◌, length, max, map, fold, take, drop, slice_get, ℤ, pos, ◌+ℤ◌, ◌-ℤ◌, int_lt, int_le, if◌then◌else◌}
+use Rattle.std.specs.Prelude.{ℕ, zero, suc, ◌+◌, ◌-◌, ◌/◌, Bool, ◌&&◌, ◌||◌, nat_lt, List, [], ◌∷◌, ◌++◌, length, max, map, fold, take, drop, ℤ, pos, ◌+ℤ◌, ◌-ℤ◌, int_lt, int_le, if◌then◌else◌}
 use Rattle.std.specs.Int.{int_max, int_min}
-use Rattle.std.specs.Option.{option_map_or}
-use Rattle.fixed_box.specs.declared.coord.Coord.{Coord}
+use Rattle.fixed_box.specs.Corner.{on_axis}
 use Rattle.fixed_box.specs.declared.fix_box.FixBox.{FixBox}
 
 -- nothing, the entry of a body, or a node with four children
@@ -11,13 +10,9 @@ pub data Tree : Type 0 where
   body : ℕ → Tree
   node : Tree → Tree → Tree → Tree → Tree
 
--- a corner on an axis: 0 for x, 1 for y, 2 for z
-abbrev pub on_axis : ℕ → List Coord → ℤ
-on_axis axis corner = option_map_or (λ c. c.value) (slice_get corner axis) (pos 0)
-
--- the doubled centre of a body on an axis
+-- the doubled centre of a body on an axis: 0 is x, 1 is y, 2 is z
 abbrev pub centre : ℕ → ℕ × FixBox → ℤ
-centre axis b = on_axis axis b.1.lo +ℤ on_axis axis b.1.hi
+centre axis b = on_axis b.1.lo axis +ℤ on_axis b.1.hi axis
 
 -- the greatest doubled centre less the least
 abbrev pub spread : ℕ → List (ℕ × FixBox) → ℤ

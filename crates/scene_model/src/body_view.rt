@@ -25,7 +25,7 @@ impl Phase {
 }
 
 /// A live body as a reader sees it.
-#[derive(Clone, Copy, Debug)]
+#[derive(Clone, Copy, Debug, PartialEq, Eq)]
 pub struct BodyView {
     pub id: BodyId,
     pub layer: u32,

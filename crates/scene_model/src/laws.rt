@@ -1,5 +1,5 @@
 //! What follows from the definitions of the scene, as the layers above use it. No call here does anything.
-ghost use Rattle.std.specs.Prelude.{◌≡◌, ◌↔◌, ◌+◌, ◌^◌, ◌<◌, ◌≤◌, ◌++◌, [], ◌∷◌, ℕ, Bool, List, length, map, sum, max, Some, IsTrue, IfSome, IsPermutation};
+ghost use Rattle.std.specs.Prelude.{◌≡◌, ◌↔◌, ◌+◌, ◌^◌, ◌<◌, ◌≤◌, ◌++◌, [], ◌∷◌, ℕ, Bool, List, length, map, sum, max, Some, None, IsTrue, IfSome, IsPermutation};
 ghost use Rattle.fixed_box.specs.declared.fix_box.FixBox.{FixBox};
 ghost use Rattle.body_ident.specs.Id.{id_of};
 ghost use Rattle.scene_model.specs.declared.body_view.BodyView.{BodyView};
@@ -11,6 +11,7 @@ ghost use Rattle.scene_model.specs.Step.{HasBody, IsPossible, IsLawful, after_en
 ghost use Rattle.scene_model.specs.Query.{view_of, view_at, live_count, in_count, hits};
 ghost use Rattle.scene_model.specs.History.{scene_from, scene_after, point, IsLawfulFrom, IsLawfulHistory, creations_in, IsRightAnswer};
 ghost use Rattle.scene_model.specs.Batch.{JoinsOnly, marks, unmarks};
+ghost use Rattle.scene_model.specs.Cause.{IsCauseAt, full};
 ghost use Rattle.scene_model.specs.Consistent.{IsConsistent};
 ghost use Rattle.scene_model.specs.Need.{need, need_of_run, run_sizes};
 ghost use Rattle.scene_model.specs.Tree.{tree, node_over, nodes_of, height_of, indexes_of};
@@ -36,6 +37,12 @@ pub fn lawful_scene_is_consistent()
 pub fn id_counts_creations()
     ensures { (layers bodies : ℕ) (history : List Made) (index : ℕ) → IsLawfulHistory layers bodies history
         → IfSome (view_at (scene_after bodies history) index) (λ v. v.id ≡ id_of index (creations_in index history)) }
+{}
+
+/// After a lawful history there is no next index exactly where every index is live.
+pub fn full_has_no_next_index()
+    ensures { (layers bodies : ℕ) (history : List Made) → IsLawfulHistory layers bodies history
+        → ((next_index (scene_after bodies history) ≡ None) ↔ IsCauseAt full (scene_after bodies history)) }
 {}
 
 /// A join changes the phases of the bodies that it lists and nothing else.

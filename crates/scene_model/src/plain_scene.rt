@@ -2,7 +2,7 @@ ghost use Rattle.std.specs.Prelude.{◌≡◌, Bool, ◌≤◌, ◌^◌, ◌+◌
 ghost use Rattle.std.specs.Int.{bit_at};
 ghost use Rattle.std.specs.Fn.{FnReturnsAt};
 ghost use Rattle.fixed_box.specs.declared.fix_box.FixBox.{FixBox};
-ghost use Rattle.fixed_box.specs.Corner.{is_at_most};
+ghost use Rattle.fixed_box.specs.FixBox.{touches};
 ghost use Rattle.scene_model.specs.declared.body_view.Phase.TheVariants.{In};
 ghost use Rattle.scene_model.specs.Scene.{Scene, empty_scene, next_index, place_at, record_at};
 ghost use Rattle.scene_model.specs.Step.{after_entry, created_in, with_new_body, with_body, with_change, with_phase, IsPossible};
@@ -207,7 +207,7 @@ impl PlainScene {
 
     /// The same of the bodies whose bounds touch a box.
     pub fn hits(&self, alloc: Global, mask: u8, bounds: &FixBox) -> Result<Vec<BodyId>, AllocError>
-        ensures { IfOk result (λ v. v.items ≡ hits (λ b. is_at_most bounds.now.lo b.hi && is_at_most b.lo bounds.now.hi) mask self.now) }
+        ensures { IfOk result (λ v. v.items ≡ hits (touches bounds.now) mask self.now) }
     {
         self.hits_where(alloc, mask, |b| bounds.touches(b))
     }

@@ -1,12 +1,10 @@
 pub mod Digits
 pub mod Numbers
 pub mod Words
-pub mod Texts
-pub mod Places
-pub mod Printing
 pub mod Boxes
 pub mod Counts
 pub mod Cuts
 pub mod FirstWord
 pub mod Drafts
 pub mod Parsing
+pub mod Places

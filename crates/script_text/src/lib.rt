@@ -1,29 +1,16 @@
-//! The text of scripts: which bytes are a script and what it asks for, and the lines of its replies.
-//!
-//! Below stand boxes and segments, body ids, the view of a body and the sizes of a world. Above stands the
-//! player, which runs a script's commands and writes a reply for each.
-//!
-//! The promise: `parse` reads exactly the bytes that are a script, and of others it names the first line that is
-//! wrong and the first thing that is wrong with it.
+//! The text of scripts.
 #![tactic(auto)]
 
-mod adding;
-mod appending;
 mod code;
 mod command;
-mod commands;
 mod draft;
 mod fields;
 mod id_list;
 mod keyword;
-mod limits;
 mod lines;
-mod multi;
-mod name_fields;
 mod names;
 mod number;
 mod reading;
-mod refusal;
 mod reply;
 mod script;
 mod text;
@@ -31,11 +18,8 @@ mod text;
 pub use code::{Code, LineError};
 pub use command::Command;
 pub use id_list::IdList;
-pub use limits::{MAX_LINES, MAX_MULTI};
-pub use multi::{MultiItem, MultiList};
 pub use names::Names;
 pub use reading::parse;
-pub use refusal::Refusal;
-pub use reply::{Reply, reply_line};
-pub use script::{CommandList, Script, ScriptFault};
+pub use reply::{Refusal, Reply, reply_line};
+pub use script::{CommandList, MAX_LINES, Script, ScriptFault};
 pub use text::{Text, TextList};

@@ -4,6 +4,9 @@ use std::alloc::{AllocError, AllocFailed};
 use std::marker::Model;
 use word_map::Config;
 
+/// The most lines of a script.
+pub const MAX_LINES: u32 = 200_000;
+
 /// The command lines of a script, in order.
 #[derive(Debug, Drop)]
 pub struct CommandList {
@@ -42,7 +45,7 @@ impl CommandList {
 pub struct Script {
     /// The sizes of the world. `passes` is 1 + `actors` + `most_workers`.
     pub world: Config,
-    /// One command for each command line below `world`.
+    /// One command for each line below `world`.
     pub lines: CommandList,
     /// How many actors there are: none, until they are built.
     pub actors: u32,
@@ -54,7 +57,10 @@ pub struct Script {
 #[derive(Clone, Copy, Debug, PartialEq, Eq)]
 pub enum ScriptFault {
     /// The bytes are no script: the first line that is none of one, and what is wrong with it.
-    At { line: u32, code: Code },
+    At {
+        line: u32,
+        code: Code,
+    },
     /// There was not enough memory.
     Memory,
 }

@@ -1,0 +1,140 @@
+//! The top call.
+ghost use Rattle.std.specs.Prelude.{◌≡◌, ◌≤◌, ◌↔◌, ◌+◌, ◌⊎◌, ℕ, Option, List, Some, None, IsTrue, IsSome, OnOk, OnErr, IfOk, IsErrOf, length};
+ghost use Rattle.world_io.specs.Bytes.{Appended, AppendedPart};
+ghost use Rattle.world_io.specs.Faults.{Rose};
+ghost use Rattle.script_text.specs.Script.{script_fault};
+ghost use Rattle.broadphase.specs.Reading.{GaveCount};
+ghost use Rattle.broadphase.specs.Ended.{ArePlay, Played, PlayedPart, Refused, RefusedPart, PlayEnds, fault_text, code_text};
+ghost use Rattle.broadphase.specs.declared.reading.TheConstants.{MAX_BYTES};
+
+use crate::playing::{PlayFault, play};
+use crate::reading::{ParseEnd, run_parse};
+use crate::room::Room;
+use crate::status::Status;
+use crate::streams::write_all;
+use itoa::Buffer;
+use script_text::Code;
+use std::alloc::{AllocError, Global};
+use world_io::{Gate, Sink, Source};
+
+/// Whether the words are the one word `play`.
+fn are_play(words: &[String]) -> bool
+    ensures { IsTrue result ↔ ArePlay words.now }
+{
+    match words {
+        [word] => word.as_bytes() == b"play".as_slice(),
+        _ => false,
+    }
+}
+
+/// The word of a code.
+fn code_word(code: Code) -> &'static [u8]
+    ensures { result.now ≡ code_text code }
+{
+    match code {
+        Code::Long => b"long",
+        Code::Text => b"text",
+        Code::Word => b"word",
+        Code::World => b"world",
+        Code::Block => b"block",
+        Code::Trace => b"trace",
+        Code::Count => b"count",
+        Code::Name => b"name",
+        Code::Number => b"number",
+        Code::Range => b"range",
+        Code::Actor => b"actor",
+        Code::Later => b"later",
+    }
+}
+
+/// The line that tells of a bad line.
+fn fault_line(alloc: Global, line: u32, code: Code) -> Result<Vec<u8>, AllocError>
+    ensures { IfOk result (λ text. text.items ≡ fault_text line code) }
+{
+    let mut buffer = Buffer::new();
+    let mut text = Vec::from_slice(alloc, b"line ")?;
+    text.extend_from_slice(buffer.format(line).as_bytes())?;
+    text.extend_from_slice(b": ")?;
+    text.extend_from_slice(code_word(code))?;
+    text.extend_from_slice(b"\n")?;
+    Ok(text)
+}
+
+/// Writes the line that tells of a bad line.
+#[tactic(auto, using(crate::proofs::Writing::nothing_written))]
+fn refuse<K: Sink>(alloc: Global, line: u32, code: Code, sink: &mut K) -> Result<(), PlayFault>
+    ensures ok { OnOk result (Appended (K.contents sink.old) (K.contents sink.new) (fault_text line code)) }
+    ensures part { OnErr result (AppendedPart (K.contents sink.old) (K.contents sink.new) (fault_text line code)) }
+    ensures fault { IsErrOf result PlayFault.Write → Rose (K.faults sink.old) (K.faults sink.new) }
+    ensures memory { IsErrOf result PlayFault.Memory → K.contents sink.new ≡ K.contents sink.old }
+{
+    let text = fault_line(alloc, line, code)?;
+    write_all(sink, text.as_slice())?;
+    Ok(())
+}
+
+/// Reads a script, plays it and writes its report.
+fn run_play<S: Source, K: Sink>(alloc: Global, source: &mut S, sink: &mut K) -> Status
+    ensures { PlayEnds result (S.left source.old) (S.left source.new) (K.contents sink.old) (K.contents sink.new)
+        (S.faults source.old) (S.faults source.new) (K.faults sink.old) (K.faults sink.new) }
+{
+    match run_parse(alloc, source, false) {
+        Ok(script) => match play(alloc, &script, sink) {
+            Ok(()) => Status::Done,
+            Err(PlayFault::Write) => Status::WriteFault,
+            Err(PlayFault::Memory) => Status::Memory,
+        },
+        Err(ParseEnd::BadScript { line, code }) => match refuse(alloc, line, code, sink) {
+            Ok(()) => Status::BadScript,
+            Err(PlayFault::Write) => Status::WriteFault,
+            Err(PlayFault::Memory) => Status::Memory,
+        },
+        Err(ParseEnd::ReadFault) => Status::ReadFault,
+        Err(ParseEnd::TooLong) => Status::TooLong,
+        Err(ParseEnd::Memory) => Status::Memory,
+    }
+}
+
+/// Runs the program on the words of its command line, without its own name.
+///
+/// The one command is `play`: it reads a script from the source, plays it on the plain scene and writes the report
+/// to the sink, a line for each reply as soon as it is known. Reading stops at the end of the source or at byte
+/// 8,388,609. Every other words are `Usage`. The gate is called by workers alone, of which there are none yet, and
+/// the room stays empty until there is a shared world to leave in it.
+pub fn run<S: Source, K: Sink, G: Gate>(
+    alloc: Global,
+    words: &[String],
+    source: &mut S,
+    sink: &mut K,
+    _gate: &G,
+    _room: &mut Room,
+) -> Status
+    // Usage comes exactly where the words are not `play`; nothing is read and nothing is written then.
+    ensures usage { (result ≡ Status.Usage) ↔ ¬ ArePlay words.now }
+    ensures untouched { result ≡ Status.Usage → (S.left source.new ≡ S.left source.old) × (K.contents sink.new ≡ K.contents sink.old) }
+
+    // What each other status tells of the bytes that were read and written.
+    ensures done { result ≡ Status.Done → Played (S.left source.old) (S.left source.new) (K.contents sink.old) (K.contents sink.new) }
+    ensures bad_script { result ≡ Status.BadScript → Refused (S.left source.old) (S.left source.new) (K.contents sink.old) (K.contents sink.new) }
+    ensures too_long { result ≡ Status.TooLong → GaveCount (S.left source.old) (S.left source.new) (MAX_BYTES + 1) × (K.contents sink.new ≡ K.contents sink.old) }
+    ensures read_fault { result ≡ Status.ReadFault → Rose (S.faults source.old) (S.faults source.new) × (K.contents sink.new ≡ K.contents sink.old) }
+    ensures write_fault { result ≡ Status.WriteFault → Rose (K.faults sink.old) (K.faults sink.new)
+        × (PlayedPart (S.left source.old) (S.left source.new) (K.contents sink.old) (K.contents sink.new)
+          ⊎ RefusedPart (S.left source.old) (S.left source.new) (K.contents sink.old) (K.contents sink.new)) }
+    ensures memory { result ≡ Status.Memory → (K.contents sink.new ≡ K.contents sink.old)
+        ⊎ PlayedPart (S.left source.old) (S.left source.new) (K.contents sink.old) (K.contents sink.new) }
+
+    // Told bytes that are not too many are played or refused, unless a fault is counted or memory is wanting.
+    ensures plays { (bytes : List ℕ) → ArePlay words.now → S.left source.old ≡ Some bytes → length bytes ≤ MAX_BYTES
+        → ¬ Rose (S.faults source.old) (S.faults source.new) → ¬ Rose (K.faults sink.old) (K.faults sink.new)
+        → script_fault bytes ≡ None → (result ≡ Status.Done) ⊎ (result ≡ Status.Memory) }
+    ensures refuses { (bytes : List ℕ) → ArePlay words.now → S.left source.old ≡ Some bytes → length bytes ≤ MAX_BYTES
+        → ¬ Rose (S.faults source.old) (S.faults source.new) → ¬ Rose (K.faults sink.old) (K.faults sink.new)
+        → ¬ (script_fault bytes ≡ None) → (result ≡ Status.BadScript) ⊎ (result ≡ Status.Memory) }
+{
+    if are_play(words) {
+        run_play(alloc, source, sink)
+    } else {
+        Status::Usage
+    }
+}

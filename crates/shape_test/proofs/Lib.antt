@@ -1,0 +1,5 @@
+pub mod Scaling
+pub mod Passing
+pub mod Later
+pub mod Places
+pub mod Unique

@@ -1,0 +1,6 @@
+pub mod Gap
+pub mod Run
+pub mod Fraction
+pub mod Spans
+pub mod Entry
+pub mod Place

@@ -1,0 +1,121 @@
+use super::*;
+use fixed_box::{Coord, FixBox, Segment, Shape};
+use std::test::Fail;
+
+const GREATEST: i32 = 8_388_607;
+
+const LEAST: i32 = -8_388_608;
+
+fn corner(at: [i32; 3]) -> Option<[Coord; 3]> {
+    Some([Coord::new(at[0])?, Coord::new(at[1])?, Coord::new(at[2])?])
+}
+
+fn segment(o: [i32; 3], d: [i32; 3]) -> Option<Segment> {
+    Segment::new(corner(o)?, d)
+}
+
+fn cube(low: i32, high: i32) -> Option<FixBox> {
+    FixBox::new(corner([low, low, low])?, corner([high, high, high])?)
+}
+
+#[test]
+fn entries_of_a_cube(rt: HostRuntime) -> Result<(), Fail> {
+    let b = cube(0, 10).ok_or("cube")?;
+    let rays = [
+        (
+            "an edge",
+            [20, 0, 0],
+            [-20, 20, 20],
+            Some(Frac { n: 10, m: 20 }),
+        ),
+        ("past the edge", [21, 0, 0], [-20, 20, 20], None),
+        (
+            "no step, inside",
+            [5, 5, 5],
+            [0, 0, 0],
+            Some(Frac { n: 0, m: 1 }),
+        ),
+        ("no step, outside", [5, 5, 11], [0, 0, 0], None),
+        (
+            "begins on a corner",
+            [10, 10, 10],
+            [1, 1, 1],
+            Some(Frac { n: 0, m: 1 }),
+        ),
+        (
+            "ends on a corner",
+            [-5, -5, -5],
+            [5, 5, 5],
+            Some(Frac { n: 5, m: 5 }),
+        ),
+        ("ends short of it", [-5, -5, -5], [4, 4, 4], None),
+        (
+            "along a side",
+            [-10, 10, 0],
+            [20, 0, 0],
+            Some(Frac { n: 10, m: 20 }),
+        ),
+        ("beside it, no step there", [11, 5, 5], [0, -10, 0], None),
+        ("leads away", [15, 5, 5], [10, 0, 0], None),
+        ("out before it is in", [-10, -30, 0], [30, 31, 0], None),
+        (
+            "two axes at once",
+            [-10, -20, 0],
+            [20, 40, 0],
+            Some(Frac { n: 10, m: 20 }),
+        ),
+        (
+            "the second axis last",
+            [-10, -30, 0],
+            [20, 40, 1],
+            Some(Frac { n: 30, m: 40 }),
+        ),
+        (
+            "down the third axis",
+            [5, 5, 30],
+            [1, -1, -25],
+            Some(Frac { n: 20, m: 25 }),
+        ),
+    ];
+    for (name, o, d, want) in rays {
+        let s = segment(o, d).ok_or("segment")?;
+        assert_eq!(rt; entry(&s, &b), want, "{name}");
+        assert_eq!(rt; touch(&Shape::Segment(s), &b), want.is_some(), "{name}");
+    }
+    Ok(())
+}
+
+#[test]
+fn ends_of_the_ranges(rt: HostRuntime) -> Result<(), Fail> {
+    let low = cube(LEAST, LEAST).ok_or("low cube")?;
+    let high = cube(GREATEST, GREATEST).ok_or("high cube")?;
+    let all = cube(LEAST, GREATEST).ok_or("all")?;
+    let longest = Segment::LONGEST;
+    let up = segment([LEAST, LEAST, LEAST], [longest, longest, longest]).ok_or("up")?;
+    let down = segment(
+        [GREATEST, GREATEST, GREATEST],
+        [-longest, -longest, -longest],
+    )
+    .ok_or("down")?;
+    let all_of_it = Some(Frac {
+        n: 16_777_215,
+        m: 16_777_215,
+    });
+    assert_eq!(rt; entry(&up, &high), all_of_it);
+    assert_eq!(rt; entry(&down, &low), all_of_it);
+    assert_eq!(rt; entry(&up, &all), Some(Frac { n: 0, m: 1 }));
+    let crossing = segment([LEAST, GREATEST, 0], [longest, -longest, 0]).ok_or("crossing")?;
+    assert_eq!(rt; entry(&crossing, &high), None);
+    assert_eq!(rt; entry(&crossing, &cube(0, 0).ok_or("middle")?), None);
+    Ok(())
+}
+
+#[test]
+fn boxes_and_points(rt: HostRuntime) -> Result<(), Fail> {
+    let b = cube(0, 10).ok_or("cube")?;
+    assert!(rt; touch(&Shape::Box(cube(10, 20).ok_or("beside")?), &b));
+    assert!(rt; !touch(&Shape::Box(cube(11, 20).ok_or("apart")?), &b));
+    assert!(rt; touch(&Shape::Point(corner([10, 0, 5]).ok_or("point")?), &b));
+    assert!(rt; !touch(&Shape::Point(corner([10, 0, -1]).ok_or("point")?), &b));
+    Ok(())
+}

@@ -1,0 +1,15 @@
+//! The tree over a list of bodies.
+//!
+//! It says how many nodes the tree over so many bodies takes.
+//!
+//! It stands on the boxes and on the scene's definition of the tree. Batches and the update of a layer stand on it.
+//! The layer above uses that `need` is the definition's number of nodes, which is never above the number of bodies
+//! but for one body.
+#![tactic(auto)]
+
+mod node_count;
+
+pub use node_count::need;
+
+#[cfg(test)]
+mod tests;

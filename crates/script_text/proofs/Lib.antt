@@ -3,6 +3,7 @@ pub mod Numbers
 pub mod Words
 pub mod Boxes
 pub mod Counts
+pub mod Limits
 pub mod Cuts
 pub mod FirstWord
 pub mod Drafts

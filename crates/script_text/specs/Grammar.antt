@@ -4,8 +4,9 @@ use Rattle.std.specs.List.{list_all}
 use Rattle.script_text.specs.declared.code.Code.{Code}
 use Rattle.script_text.specs.declared.code.Code.TheVariants as code
 use Rattle.fixed_box.specs.declared.coord.Coord.{Coord}
-use Rattle.word_map.specs.declared.config.TheConstants.{MAX_BODIES, MAX_SLOTS, MAX_NODES}
-use Rattle.word_map.specs.Limits.{is_stripe_count}
+use Rattle.word_map.specs.declared.config.Config.{Config}
+use Rattle.word_map.specs.Limits.{fault_of}
+use Rattle.std.specs.Option.{option_map}
 use Rattle.script_text.specs.declared.keyword.Keyword.{Keyword}
 use Rattle.script_text.specs.declared.keyword.Keyword.TheVariants.{World, Create, Add, QueryBox}
 use Rattle.script_text.specs.Command.{corner_words}
@@ -25,9 +26,24 @@ pub record SpellsCorner (x y z : List ℕ) (corner : List Coord) : Type 0 where
   pub words : corner_words corner ≡ x ∷ y ∷ z ∷ []
   pub values : map (λ c. c.value) corner ≡ number_of x ∷ number_of y ∷ number_of z ∷ []
 
--- a number of stripes is one of a few
-abbrev pub stripes_fault : List ℕ → Option Code
-stripes_fault word = first_of (number_fault (pos 1) (pos 64) word ∷ (if is_stripe_count (nat_abs (number_of word)) then None else Some code.Range) ∷ [])
+-- a size of a world is a number of 32 bits
+abbrev pub size_fault : List ℕ → Option Code
+size_fault word = number_fault (pos 0) (pos 4294967295) word
+
+-- the sizes, for one caller, that five words spell
+abbrev pub config_of : List ℕ → List ℕ → List ℕ → List ℕ → List ℕ → Config
+config_of bodies stripes layers slots nodes = record {
+  bodies = nat_abs (number_of bodies);
+  stripes = nat_abs (number_of stripes);
+  layers = nat_abs (number_of layers);
+  slots = nat_abs (number_of slots);
+  nodes = nat_abs (number_of nodes);
+  passes = 1;
+}
+
+-- a size may not be out of its limit
+abbrev pub limit_fault : Config → Option Code
+limit_fault c = option_map (λ _. code.Range) (fault_of c)
 
 -- a box may on no axis end before it begins
 abbrev pub order_fault : List (List ℕ) → List (List ℕ) → Option Code
@@ -36,8 +52,8 @@ order_fault lo hi = if list_all (λ p. int_le (number_of p.0) (number_of p.1)) (
 -- `world BODIES STRIPES LAYERS SLOTS NODES`, below its first word; there is one layer for now
 abbrev pub world_fault : List (List ℕ) → Option Code
 world_fault (bodies ∷ stripes ∷ layers ∷ slots ∷ nodes ∷ []) =
-    first_of (number_fault (pos 1) (pos MAX_BODIES) bodies ∷ stripes_fault stripes ∷ number_fault (pos 1) (pos 1) layers
-    ∷ number_fault (pos 1) (pos MAX_SLOTS) slots ∷ number_fault (pos 1) (pos MAX_NODES) nodes ∷ [])
+    first_of (size_fault bodies ∷ size_fault stripes ∷ number_fault (pos 1) (pos 1) layers ∷ size_fault slots ∷ size_fault nodes
+    ∷ limit_fault (config_of bodies stripes layers slots nodes) ∷ [])
 world_fault _ = Some code.Count
 
 -- `create NAME LAYER BOX USER`, below its first word, in a world with so many layers

@@ -1,13 +1,13 @@
 ghost use Rattle.std.specs.Prelude.{◌≡◌, ◌∷◌, [], map, codes, pos, negsuc, false, IsTrue, MatchResult, IfOk, ⊤, decimal, ◌<◌};
 ghost use Rattle.std.specs.List.{list_all};
-ghost use Rattle.word_map.specs.Limits.{is_stripe_count};
+ghost use Rattle.word_map.specs.Limits.{IsConfig};
 ghost use Rattle.script_text.specs.Name.{is_name_byte, is_name, new_name_fault, known_name_fault};
 ghost use Rattle.fixed_box.specs.Corner.{is_at_most};
 ghost use Rattle.script_text.specs.Lines.{texts};
 ghost use Rattle.script_text.specs.Fault.{Reads, ReadsInMemory};
 ghost use Rattle.script_text.specs.Number.{Spells, number_of};
 ghost use Rattle.script_text.specs.Command.{SpellsWorld, corner_words, command_words};
-ghost use Rattle.script_text.specs.Grammar.{SpellsCorner, coordinate_fault, corner_fault, stripes_fault, world_fault, create_fault, add_fault, box_fault};
+ghost use Rattle.script_text.specs.Grammar.{SpellsCorner, coordinate_fault, corner_fault, limit_fault, world_fault, create_fault, add_fault, box_fault};
 
 use crate::code::{Code, LineError};
 use crate::command::Command;
@@ -16,7 +16,7 @@ use crate::number::{read_natural, read_number};
 use crate::text::{Text, TextList};
 use fixed_box::{Coord, FixBox};
 use std::alloc::{AllocError, Global};
-use word_map::{Config, MAX_BODIES, MAX_NODES, MAX_SLOTS, STRIPE_COUNTS};
+use word_map::{Config, check};
 
 /// The coordinate that a word spells, in 1/1024 metre.
 fn read_coordinate(word: &[u8]) -> Result<Coord, Code>
@@ -81,39 +81,35 @@ fn check_known_name(names: &Names, word: &[u8]) -> Result<(), Code>
     }
 }
 
-/// The number of stripes that a word spells.
-fn read_stripes(word: &[u8]) -> Result<u32, Code>
-    ensures { Reads result (stripes_fault word.now) (λ n. (word.now ≡ decimal n) × IsTrue (is_stripe_count n)) }
+/// Sizes that have to be within the limits of a world.
+#[tactic(auto, using(crate::proofs::Limits::none_broken))]
+fn check_limits(config: Config) -> Result<(), Code>
+    ensures { Reads result (limit_fault config) (λ _. IsConfig config) }
 {
-    let stripes = read_natural(word, 1, 64)?;
-    if STRIPE_COUNTS.contains(&stripes) {
-        Ok(stripes)
-    } else {
-        Err(Code::Range)
+    match check(config) {
+        Ok(_) => Ok(()),
+        Err(_) => Err(Code::Range),
     }
 }
 
 /// `world BODIES STRIPES LAYERS SLOTS NODES`, below its first word, for one caller.
-#[tactic(auto, using(crate::proofs::Words::words_5, crate::proofs::Counts::world_count))]
+#[tactic(auto, using(crate::proofs::Words::words_5, crate::proofs::Counts::world_count, crate::proofs::Limits::spelled))]
 pub fn read_world(args: &[&[u8]]) -> Result<Config, LineError>
     ensures { ReadsInMemory result (world_fault (texts args.now)) (SpellsWorld (texts args.now)) }
 {
     let [bodies, stripes, layers, slots, nodes] = args else {
         return Err(LineError::Fault(Code::Count));
     };
-    let bodies = read_natural(bodies, 1, MAX_BODIES)?;
-    let stripes = read_stripes(stripes)?;
-    let layers = read_natural(layers, 1, 1)?;
-    let slots = read_natural(slots, 1, MAX_SLOTS)?;
-    let nodes = read_natural(nodes, 1, MAX_NODES)?;
-    Ok(Config {
-        bodies,
-        stripes,
-        layers,
-        slots,
-        nodes,
+    let config = Config {
+        bodies: read_natural(bodies, 0, u32::MAX)?,
+        stripes: read_natural(stripes, 0, u32::MAX)?,
+        layers: read_natural(layers, 1, 1)?,
+        slots: read_natural(slots, 0, u32::MAX)?,
+        nodes: read_natural(nodes, 0, u32::MAX)?,
         passes: 1,
-    })
+    };
+    check_limits(config)?;
+    Ok(config)
 }
 
 /// `create NAME LAYER BOX USER`, below its first word.

@@ -30,6 +30,13 @@ fn main(rt: HostRuntime) -> ExitCode {
     let mut source = StdSource::new(rt.stdin());
     let mut sink = StdSink::new(rt.stdout());
     let mut room = Room::new();
-    let status = run(rt.alloc(), words.as_slice(), &mut source, &mut sink, &NoGate, &mut room);
+    let status = run(
+        rt.alloc(),
+        words.as_slice(),
+        &mut source,
+        &mut sink,
+        &NoGate,
+        &mut room,
+    );
     ExitCode::from(status.exit_code())
 }

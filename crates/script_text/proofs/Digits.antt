@@ -1,7 +1,6 @@
 -- Digits and what they stand for.
-use Rattle.std.proofs.Common.{◌≡◌, ◌≤◌, ◌+◌, ◌*◌, ℕ, ◌<◌, Bool, true, false, ◌&&◌, leb, length, List, [], ◌∷◌, get_or, take, IsTrue, arith}
+use Rattle.std.proofs.Common.{◌≡◌, ◌≤◌, ◌+◌, ◌*◌, ℕ, ◌<◌, Bool, true, ◌&&◌, length, List, [], ◌∷◌, get_or, take, arith}
 use Rattle.std.specs.List.{list_all}
-use Rattle.std.specs.Char.{digit_value}
 use Rattle.std.specs.Str.Parse.{AllDigits, digits_value}
 use Rattle.std.proofs.lemmas.Bool.Decides.{nat_tests}
 use Rattle.std.proofs.lemmas.Str.{digit_value_digit}

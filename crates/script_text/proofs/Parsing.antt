@@ -1,14 +1,14 @@
 -- Reading line after line.
-use Rattle.std.proofs.Common.{◌≡◌, ℕ, ◌+◌, ◌<◌, ◌≤◌, ltb, Bool, true, false, cond, List, [], ◌∷◌, ◌++◌, map, Option, Some, None, IsSome, is_some, refl, ap, sym, ◌∙◌, append_assoc, inl, inr, arith}
+use Rattle.std.proofs.Common.{◌≡◌, ℕ, ◌+◌, ◌≤◌, ltb, List, [], ◌∷◌, ◌++◌, map, Option, Some, None, IsSome, refl, ap, sym, ◌∙◌, append_assoc, inl, inr, arith}
 use Rattle.std.proofs.lemmas.Bool.{cases_Bool, ltb-false}
 use Rattle.std.proofs.lemmas.List.{append-nil}
 use Rattle.std.specs.Option.{option_map}
 use Rattle.script_text.specs.declared.code.Code.{Code}
 use Rattle.script_text.specs.declared.draft.Draft.{Draft}
 use Rattle.script_text.specs.Lines.{lines_of, words_of}
-use Rattle.script_text.specs.Grammar.{Above, line_fault, first_line_fault, below_world}
-use Rattle.script_text.specs.Draft.{Begins, Adds, AddsAll, above_next, words_so_far}
-use Rattle.script_text.specs.Script.{at_line, numbered_fault, lines_fault, text_fault, script_fault}
+use Rattle.script_text.specs.Grammar.{Above, first_line_fault, below_world}
+use Rattle.script_text.specs.Draft.{Adds, AddsAll, above_next, words_so_far}
+use Rattle.script_text.specs.Script.{at_line, numbered_fault, lines_fault, script_fault}
 
 -- the lines of a text down to the rest were added, and what is left to find is all that there is to find
 pub record HasAdded (old : Draft) (text : List ℕ) (new : Draft) (number : ℕ) (rest : List ℕ) : Type 0 where
@@ -34,10 +34,10 @@ one_more old new newer text rest line below n h e none adds =
     record {
       fault = sym go_on ∙ h.fault;
       words =
-        ap (λ (ws : List (List (List ℕ))). ws ++ map words_of (lines_of below)) adds.text
-        ∙ append_assoc (words_so_far new) (words_of line ∷ []) (map words_of (lines_of below))
-        ∙ ap (λ (ls : List (List ℕ)). words_so_far new ++ map words_of ls) (sym e)
-        ∙ h.words;
+          ap (λ (ws : List (List (List ℕ))). ws ++ map words_of (lines_of below)) adds.text
+          ∙ append_assoc (words_so_far new) (words_of line ∷ []) (map words_of (lines_of below))
+          ∙ ap (λ (ls : List (List ℕ)). words_so_far new ++ map words_of ls) (sym e)
+          ∙ h.words;
       world = adds.world ∙ h.world;
       low = omega (arith, h.low);
       high = omega arith;

@@ -1,5 +1,5 @@
 -- The words of a line that has so many.
-use Rattle.std.proofs.Common.{◌≡◌, ◌≤◌, ◌<◌, ℕ, suc, length, List, [], ◌∷◌, get_or, map, refl, arith}
+use Rattle.std.proofs.Common.{◌≡◌, ◌≤◌, ◌<◌, ℕ, length, List, [], ◌∷◌, get_or, refl, arith}
 use Rattle.std.specs.Borrow.{Bor}
 use Rattle.script_text.specs.Lines.{texts}
 

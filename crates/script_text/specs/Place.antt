@@ -1,5 +1,5 @@
 -- The places of names.
-use Rattle.std.specs.Prelude.{◌≡◌, ℕ, ◌+◌, if◌then◌else◌, Bool, List, [], ◌∷◌, Option, Some, None, bytes_eq, Vec}
+use Rattle.std.specs.Prelude.{◌≡◌, ℕ, ◌+◌, if◌then◌else◌, List, [], ◌∷◌, Option, Some, None, bytes_eq, Vec}
 use Rattle.std.specs.HashMap.{HashMap, get_by}
 
 -- the first name that equals a word, where the first name has the place n

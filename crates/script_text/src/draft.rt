@@ -38,7 +38,12 @@ fn read_first_line(words: &[&[u8]]) -> Result<Config, LineError>
 
 /// The command of a line below the world line.
 #[tactic(auto, using(crate::proofs::FirstWord::below_keyword))]
-fn read_line(alloc: Global, layers: u32, names: &Names, words: &[&[u8]]) -> Result<Command, LineError>
+fn read_line(
+    alloc: Global,
+    layers: u32,
+    names: &Names,
+    words: &[&[u8]],
+) -> Result<Command, LineError>
     requires { 0 < layers }
     ensures { ReadsInMemory result (line_fault (record { layers = layers; names = names.now }) (texts words.now))
         (λ c. command_words c ≡ texts words.now) }

@@ -47,9 +47,7 @@ fn box_between(lo: [Coord; 3], hi: [Coord; 3]) -> Result<FixBox, Code>
 fn are_name_bytes(bytes: &[u8]) -> bool
     ensures { result ≡ list_all is_name_byte bytes.now }
 {
-    bytes
-        .iter()
-        .all(|b| (b'a' <= *b && *b <= b'z') || (b'0' <= *b && *b <= b'9') || *b == b'_')
+    bytes.iter().all(|b| (b'a' <= *b && *b <= b'z') || (b'0' <= *b && *b <= b'9') || *b == b'_')
 }
 
 /// Whether a word is a name.
@@ -114,7 +112,12 @@ pub fn read_world(args: &[&[u8]]) -> Result<Config, LineError>
 
 /// `create NAME LAYER BOX USER`, below its first word.
 #[tactic(auto, using(crate::proofs::Words::words_9, crate::proofs::Boxes::in_order))]
-pub fn read_create(alloc: Global, names: &Names, layers: u32, args: &[&[u8]]) -> Result<Command, LineError>
+pub fn read_create(
+    alloc: Global,
+    names: &Names,
+    layers: u32,
+    args: &[&[u8]],
+) -> Result<Command, LineError>
     requires { 0 < layers }
     ensures { ReadsInMemory result (create_fault names.now layers (texts args.now)) (λ c. command_words c ≡ codes "create" ∷ texts args.now) }
 {

@@ -36,9 +36,6 @@ impl Keyword {
     pub fn of(word: &[u8]) -> Option<Keyword>
         ensures { result ≡ keyword_of word.now }
     {
-        BUILT
-            .iter()
-            .copied()
-            .find(|keyword| word == keyword.text())
+        BUILT.iter().copied().find(|keyword| word == keyword.text())
     }
 }

@@ -23,3 +23,6 @@ pub use reading::parse;
 pub use reply::{Refusal, Reply, reply_line};
 pub use script::{CommandList, MAX_LINES, Script, ScriptFault};
 pub use text::{Text, TextList};
+
+#[cfg(test)]
+mod tests;

@@ -31,7 +31,12 @@ impl Model for Names {
 }
 
 /// Notes the place of a name.
-fn note(places: &mut HashMap<Vec<u8>, usize>, alloc: Global, word: &[u8], place: usize) -> Result<(), AllocError>
+fn note(
+    places: &mut HashMap<Vec<u8>, usize>,
+    alloc: Global,
+    word: &[u8],
+    place: usize,
+) -> Result<(), AllocError>
     ensures ok { OnOk result (Notes places.old places.new word.now place) }
     ensures err { OnErr result (IsUnchanged places.old places.new) }
 {

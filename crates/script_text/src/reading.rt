@@ -35,7 +35,12 @@ fn fault_at(line: u32, error: LineError) -> ScriptFault
 }
 
 /// Adds the line with this number.
-fn add_line(alloc: Global, draft: &mut Draft, number: u32, words: &[&[u8]]) -> Result<(), ScriptFault>
+fn add_line(
+    alloc: Global,
+    draft: &mut Draft,
+    number: u32,
+    words: &[&[u8]],
+) -> Result<(), ScriptFault>
     requires { 0 < draft.old.world.layers }
     ensures { ReadsLine result number (numbered_fault number (above_next draft.old) (texts words.now))
         (λ _. Adds (texts words.now) draft.old draft.new) }

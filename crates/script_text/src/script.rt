@@ -57,10 +57,7 @@ pub struct Script {
 #[derive(Clone, Copy, Debug, PartialEq, Eq)]
 pub enum ScriptFault {
     /// The bytes are no script: the first line that is none of one, and what is wrong with it.
-    At {
-        line: u32,
-        code: Code,
-    },
+    At { line: u32, code: Code },
     /// There was not enough memory.
     Memory,
 }

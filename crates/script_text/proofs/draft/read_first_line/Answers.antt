@@ -1,4 +1,4 @@
-use Rattle.std.proofs.Common.{◌≡◌, Some, [], ◌∙◌, sym}
+use Rattle.std.proofs.Common.{◌≡◌, Some, []}
 use Rattle.script_text.specs.declared.keyword.Keyword.TheVariants.{World}
 use Rattle.script_text.specs.Keyword.{keyword_of}
 use Rattle.script_text.specs.Lines.{texts}

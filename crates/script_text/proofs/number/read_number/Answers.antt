@@ -1,6 +1,5 @@
-use Rattle.std.proofs.Common.{◌≡◌, ◌<ℤ◌, ◌≤ℤ◌, ◌^◌, ℤ, to_z, of_z, w64, FitsSigned, subst, sym, arith, ◌∙◌, rules}
-use Rattle.std.proofs.lemmas.Int.{ints, to_z-of_z}
-use Rattle.script_text.specs.declared.number.TheConstants.{FAR}
+use Rattle.std.proofs.Common.{◌≡◌, ◌^◌, ℤ, to_z, of_z, w64, arith, rules}
+use Rattle.std.proofs.lemmas.Int.{ints}
 use Rattle.script_text.proofs.Numbers.{read_number, number_below, number_above}
 use Rattle.script_text.proofs.number.read_number.Goals as goal
 

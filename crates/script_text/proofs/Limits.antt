@@ -1,5 +1,5 @@
 -- The limits of a world's sizes.
-use Rattle.std.proofs.Common.{ℕ, ◌≡◌, ◌≤◌, Bool, true, false, not, Option, Some, None, cond, List, refl, sym, ap, pos, nat_abs, arith}
+use Rattle.std.proofs.Common.{ℕ, ◌≡◌, ◌≤◌, Bool, true, false, not, Option, Some, None, cond, List, refl, sym, pos, arith}
 use Rattle.std.proofs.lemmas.Bool.Decides.{nat_tests}
 use Rattle.word_map.specs.declared.config.Config.{Config}
 use Rattle.word_map.specs.Limits.{IsConfig, is_up_to, fault_of}
@@ -18,10 +18,10 @@ up_to limit n within = grind (arith, nat_tests)
 pub none_broken : (c : Config) → IsConfig c → fault_of c ≡ None
 none_broken c is =
     passes_first _ _ _ (up_to _ _ is.bodies) (
-      passes_first _ _ _ is.stripes (
-        passes_first _ _ _ (up_to _ _ is.layers) (
-          passes_first _ _ _ (up_to _ _ is.slots) (
-            passes_first _ _ _ (up_to _ _ is.nodes) (passes_first _ _ _ (up_to _ _ is.passes) refl)))))
+    passes_first _ _ _ is.stripes (
+    passes_first _ _ _ (up_to _ _ is.layers) (
+    passes_first _ _ _ (up_to _ _ is.slots) (
+    passes_first _ _ _ (up_to _ _ is.nodes) (passes_first _ _ _ (up_to _ _ is.passes) refl)))))
 
 -- sizes that five words spell
 pub spelled : (a b c d e : List ℕ) (k l m n o : ℕ) → pos k ≡ number_of a → pos l ≡ number_of b → pos m ≡ number_of c → pos n ≡ number_of d → pos o ≡ number_of e

@@ -1,9 +1,8 @@
 -- How a run ends.
-use Rattle.std.proofs.Common.{◌≡◌, ◌≢◌, ◌≤◌, ◌<◌, ◌+◌, ℕ, suc, Bool, true, List, [], ◌∷◌, ◌++◌, map, length, get_or, Option, Some, None, String, string_bytes, codes, IsTrue, ◌↔◌, ◌⊎◌, inl, inr, refl, ap, sym, subst, ◌∙◌, length-append, arith}
+use Rattle.std.proofs.Common.{◌≡◌, ◌≤◌, ◌<◌, ◌+◌, ℕ, Bool, List, [], ◌∷◌, ◌++◌, map, length, get_or, Option, Some, None, String, string_bytes, codes, IsTrue, ◌↔◌, ◌⊎◌, inl, inr, refl, ap, sym, subst, ◌∙◌, length-append, arith}
 use Rattle.std.specs.Global.{Global}
 use Rattle.std.specs.Str.{bytes_eq}
 use Rattle.std.specs.Option.{option_map}
-use Rattle.std.specs.Io.KnownBytes.{prepend_known}
 use Rattle.std.proofs.lemmas.Slice.Eq.{bytes_eq-Decides}
 use Rattle.world_io.specs.Bytes.{Gave, GaveAll}
 use Rattle.world_io.specs.Faults.{Rose}
@@ -12,7 +11,6 @@ use Rattle.script_text.specs.Script.{script_fault}
 use Rattle.broadphase.specs.declared.status.Status.{Status}
 use Rattle.broadphase.specs.declared.status.Status.TheVariants as statuses
 use Rattle.broadphase.specs.declared.reading.TheConstants.{MAX_BYTES}
-use Rattle.broadphase.specs.Reading.{GaveCount, ScriptRead, FaultRead}
 use Rattle.broadphase.specs.Ended.{ArePlay, PlayEnds}
 
 only_word : (words : List (String Global)) (item : String Global) → 1 ≤ length words → length words < 2 → item ≡ get_or words 0 item → map string_bytes words ≡ string_bytes item ∷ []

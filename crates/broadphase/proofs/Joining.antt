@@ -1,5 +1,5 @@
 -- A body that is marked and joined.
-use Rattle.std.proofs.Common.{◌≡◌, ◌<◌, ℕ, Bool, true, false, List, [], ◌∷◌, length, Option, Some, None, refl, ap, sym, subst, cond, eqb, inl, inr, ◌%◌, ◌∙◌, arith, ◌-◌, leb, ltb}
+use Rattle.std.proofs.Common.{◌≡◌, ℕ, Bool, true, false, [], ◌∷◌, Option, Some, None, refl, ap, sym, subst, cond, eqb, inl, inr, ◌%◌, arith, ◌-◌, leb, ltb}
 use Rattle.std.specs.List.{IsDistinct}
 use Rattle.std.specs.Option.{IsSomeAnd, option_map}
 use Rattle.std.proofs.lemmas.Bool.{cases_Bool, eqb-true}

@@ -1,5 +1,5 @@
 -- Command after command, and line after line.
-use Rattle.std.proofs.Common.{◌≡◌, ℕ, suc, ◌+◌, ◌<◌, ◌≤◌, List, [], ◌∷◌, ◌++◌, length, take, drop, get_or, Option, refl, ap, sym, subst, ◌∙◌, append_assoc, add-one, drop-cons, arith}
+use Rattle.std.proofs.Common.{◌≡◌, ℕ, ◌+◌, ◌<◌, ◌≤◌, List, [], ◌∷◌, ◌++◌, length, take, drop, get_or, Option, refl, ap, sym, subst, ◌∙◌, append_assoc, add-one, drop-cons}
 use Rattle.std.proofs.lemmas.List.{append-nil, take_more, take-append-drop, take_all}
 use Rattle.world_io.specs.Bytes.{Appended, AppendedPart}
 use Rattle.world_io.proofs.BytesLemmas.{Appended-nothing, Appended-append, AppendedPart-longer, AppendedPart-append}
@@ -47,17 +47,19 @@ one_more commands old new newer before after later i d h below written left =
     let x = get_or commands i d in
     let taken : take (i + 1) commands ≡ take i commands ++ x ∷ [] = take_more commands i d below in
     let P : List Command → Type 0 = λ cs. Plays cs old newer before later in
-    record { done = subst P (sym taken) (record {
-      replies = λ table shows.
-        let front = table_below table (take i commands) in
-        let now = told front new newer x (h.done.table table shows) left in
-        let both = Appended-append before after later _ _ (h.done.replies table shows) (subst (Appended after later) now.0 written) in
-        subst (Appended before later) (ap (λ (t : List ℕ). replies_text table (take i commands) ++ t) (sym (append-nil (reply_text (turn front x).reply))) ∙ sym (replies_text-append table (take i commands) (x ∷ []))) both;
-      table = λ table shows.
-        let front = table_below table (take i commands) in
-        let now = told front new newer x (h.done.table table shows) left in
-        now.1 ∙ ap shown_table (sym (table_below-append table (take i commands) (x ∷ [])));
-    }) }
+    record {
+      done = subst P (sym taken) (record {
+        replies = λ table shows.
+            let front = table_below table (take i commands) in
+            let now = told front new newer x (h.done.table table shows) left in
+            let both = Appended-append before after later _ _ (h.done.replies table shows) (subst (Appended after later) now.0 written) in
+            subst (Appended before later) (ap (λ (t : List ℕ). replies_text table (take i commands) ++ t) (sym (append-nil (reply_text (turn front x).reply))) ∙ sym (replies_text-append table (take i commands) (x ∷ []))) both;
+        table = λ table shows.
+            let front = table_below table (take i commands) in
+            let now = told front new newer x (h.done.table table shows) left in
+            now.1 ∙ ap shown_table (sym (table_below-append table (take i commands) (x ∷ [])));
+      });
+    }
 
 pub stops : (commands : List Command) (old new : Table) (before after later : Option (List ℕ)) (i : ℕ) (d : Command) → HasPlayed commands old new before after i → i < length commands
     → AppendedPart after later (reply_text (turn new (get_or commands i d)).reply) → PlaysPart commands old before later
@@ -65,11 +67,12 @@ stops commands old new before after later i d h below written =
     let x = get_or commands i d in
     let rest = drop (i + 1) commands in
     let split : take i commands ++ x ∷ rest ≡ commands = ap (λ (cs : List Command). take i commands ++ cs) (sym (rw add-one (drop-cons commands i d below))) ∙ take-append-drop i commands in
-    record { replies = λ table shows.
-        let front = table_below table (take i commands) in
-        let same = ap (λ (t : Table). turn t x) (h.done.table table shows) ∙ turn-shown front x in
-        let part = AppendedPart-append before after later _ _ (h.done.replies table shows) (AppendedPart-longer after later _ (replies_text (table_after front (turn front x)) rest) (subst (AppendedPart after later) (ap (λ t. reply_text t.reply) same) written)) in
-        subst (AppendedPart before later) (sym (replies_text-append table (take i commands) (x ∷ rest)) ∙ ap (replies_text table) split) part;
+    record {
+      replies = λ table shows.
+          let front = table_below table (take i commands) in
+          let same = ap (λ (t : Table). turn t x) (h.done.table table shows) ∙ turn-shown front x in
+          let part = AppendedPart-append before after later _ _ (h.done.replies table shows) (AppendedPart-longer after later _ (replies_text (table_after front (turn front x)) rest) (subst (AppendedPart after later) (ap (λ t. reply_text t.reply) same) written)) in
+          subst (AppendedPart before later) (sym (replies_text-append table (take i commands) (x ∷ rest)) ∙ ap (replies_text table) split) part;
     }
 
 pub all_played : (commands : List Command) (old new : Table) (before after : Option (List ℕ)) (i : ℕ) → HasPlayed commands old new before after i → length commands ≤ i → Plays commands old new before after

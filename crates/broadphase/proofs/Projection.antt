@@ -1,5 +1,5 @@
 -- A turn on what is shown of a table is the turn on the table.
-use Rattle.std.proofs.Common.{◌≡◌, ℕ, ◌+◌, ◌%◌, List, [], ◌∷◌, ◌++◌, fold, Option, Some, None, refl, ap, sym, ◌∙◌, eqb, leb, ltb, cond, ◌-◌, arith}
+use Rattle.std.proofs.Common.{◌≡◌, ℕ, ◌+◌, ◌%◌, List, [], ◌∷◌, fold, Option, Some, None, refl, ap, sym, ◌∙◌, eqb, leb, ltb, cond, ◌-◌, arith}
 use Rattle.std.specs.Option.{option_map}
 use Rattle.fixed_box.specs.declared.fix_box.FixBox.{FixBox}
 use Rattle.body_ident.specs.Id.{Id, id_of}
@@ -7,7 +7,6 @@ use Rattle.scene_model.specs.declared.entry.Entry.{Entry}
 use Rattle.scene_model.specs.Scene.{Scene, Place, Record, place_at, record_at, next_index}
 use Rattle.scene_model.specs.Step.{after_entry}
 use Rattle.scene_model.specs.Shown.{shown, shown_record, after_shown}
-use Rattle.scene_model.specs.Query.{hits}
 use Rattle.scene_model.proofs.ShownReads.{record_at-shown, next_index-shown, hits-shown}
 use Rattle.scene_model.proofs.ShownSteps.{place_at-shown, shown-after_entry}
 use Rattle.script_text.specs.declared.reply.Reply.TheVariants.{Hits}

@@ -1,5 +1,5 @@
 -- How a player's fields are seen.
-use Rattle.std.specs.Prelude.{ℕ, ◌<◌, ◌≤◌, ◌^◌}
+use Rattle.std.specs.Prelude.{◌<◌, ◌≤◌, ◌^◌}
 use Rattle.std.specs.List.{AllByRecursion}
 use Rattle.broadphase.specs.declared.player.Player.TheInside.{Inside}
 use Rattle.broadphase.specs.Table.{Table, nodes_kept}

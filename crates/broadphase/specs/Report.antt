@@ -1,11 +1,9 @@
 -- What a script is answered: the lines of its report.
 use Rattle.std.specs.Prelude.{ℕ, List, [], ◌∷◌, ◌++◌, codes, decimal}
-use Rattle.std.specs.List.{flat_map}
 use Rattle.scene_model.specs.Scene.{Scene}
 use Rattle.scene_model.specs.Query.{live_count, in_count}
 use Rattle.script_text.specs.declared.command.Command.{Command}
 use Rattle.script_text.specs.declared.script.Script.{Script}
-use Rattle.script_text.specs.declared.reply.Reply.{Reply}
 use Rattle.script_text.specs.Reply.{reply_text}
 use Rattle.broadphase.specs.Table.{Table, empty_table}
 use Rattle.broadphase.specs.Turn.{turn, table_after}

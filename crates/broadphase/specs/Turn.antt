@@ -1,6 +1,5 @@
 -- What each command does, and how it is answered.
-use Rattle.std.specs.Prelude.{ℕ, ◌+◌, ◌-◌, ◌*◌, ◌%◌, ◌==◌, nat_le, nat_lt, Bool, ◌&&◌, if◌then◌else◌, List, [], ◌∷◌, ◌++◌, fold, Option, Some, None, option_and_then}
-use Rattle.std.specs.Option.{option_map_or}
+use Rattle.std.specs.Prelude.{ℕ, ◌+◌, ◌-◌, ◌%◌, ◌==◌, nat_le, nat_lt, if◌then◌else◌, List, [], ◌∷◌, ◌++◌, fold, Option, Some, None}
 use Rattle.fixed_box.specs.declared.fix_box.FixBox.{FixBox}
 use Rattle.fixed_box.specs.FixBox.{touches}
 use Rattle.body_ident.specs.Id.{Id, id_of}

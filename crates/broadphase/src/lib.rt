@@ -18,3 +18,6 @@ pub use reading::{MAX_BYTES, ParseEnd, run_parse};
 pub use room::Room;
 pub use status::Status;
 pub use top::run;
+
+#[cfg(test)]
+mod tests;

@@ -182,9 +182,7 @@ impl Player {
     fn query_box(&self, alloc: Global, mask: u8, bounds: &FixBox) -> Result<Reply, AllocError>
         ensures { IfOk result (λ r. Does (answered self.now (Reply.Hits (hits (touches bounds.now) mask self.now.scene))) self.now self.now r) }
     {
-        Ok(Reply::Hits(IdList::new(
-            self.scene.hits(alloc, mask, bounds)?,
-        )))
+        Ok(Reply::Hits(IdList::new(self.scene.hits(alloc, mask, bounds)?)))
     }
 
     /// Carries a command out, and answers it. After an error the player is not used again.

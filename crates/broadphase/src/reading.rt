@@ -14,10 +14,7 @@ pub const MAX_BYTES: usize = 8_388_608;
 #[derive(Clone, Copy, Debug, PartialEq, Eq)]
 pub enum ParseEnd {
     /// The bytes are no script: the first bad line, and what is wrong with it.
-    BadScript {
-        line: u32,
-        code: Code,
-    },
+    BadScript { line: u32, code: Code },
     /// A read failed.
     ReadFault,
     /// The source gave more than 8,388,608 bytes; reading stopped at the byte behind them.
@@ -30,11 +27,7 @@ pub enum ParseEnd {
 ///
 /// `BadScript` comes exactly where the bytes are no script. `TooLong` comes exactly where there are more than
 /// 8,388,608 of them, and `ReadFault` only where the source counted a fault.
-pub fn run_parse<S: Source>(
-    alloc: Global,
-    source: &mut S,
-    trace: bool,
-) -> Result<Script, ParseEnd>
+pub fn run_parse<S: Source>(alloc: Global, source: &mut S, trace: bool) -> Result<Script, ParseEnd>
     ensures ok { IfOk result (ScriptRead (S.left source.old) (S.left source.new)) }
     ensures err { IfErr result (EndsRead (S.left source.old) (S.left source.new) (S.faults source.old) (S.faults source.new)) }
     ensures counted { S.faults source.old ≤ S.faults source.new }

@@ -120,7 +120,7 @@ pub fn run<S: Source, K: Sink, G: Gate>(
     ensures read_fault { result ≡ Status.ReadFault → Rose (S.faults source.old) (S.faults source.new) × (K.contents sink.new ≡ K.contents sink.old) }
     ensures write_fault { result ≡ Status.WriteFault → Rose (K.faults sink.old) (K.faults sink.new)
         × (PlayedPart (S.left source.old) (S.left source.new) (K.contents sink.old) (K.contents sink.new)
-          ⊎ RefusedPart (S.left source.old) (S.left source.new) (K.contents sink.old) (K.contents sink.new)) }
+        ⊎ RefusedPart (S.left source.old) (S.left source.new) (K.contents sink.old) (K.contents sink.new)) }
     ensures memory { result ≡ Status.Memory → (K.contents sink.new ≡ K.contents sink.old)
         ⊎ PlayedPart (S.left source.old) (S.left source.new) (K.contents sink.old) (K.contents sink.new) }
 

@@ -1,4 +1,4 @@
-use Rattle.std.proofs.Common.{◌≡◌, [], ◌∷◌, List, ℕ, ◌∙◌, subst, sym, rules}
+use Rattle.std.proofs.Common.{◌≡◌, [], ◌∷◌, List, ℕ, ◌∙◌, subst, sym}
 use Rattle.scene_model.specs.Scene.{Scene}
 use Rattle.scene_model.specs.Step.{IsPossible, after_entry}
 use Rattle.scene_model.specs.declared.entry.Entry.TheVariants.{Mark, Join}

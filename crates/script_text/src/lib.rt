@@ -1,4 +1,7 @@
-//! The text of scripts.
+//! The text of scripts: which lines a script may have, and how replies are written.
+//!
+//! It stands on boxes, ids and the sizes of a world; the player and the top call stand on it. The layer above uses
+//! that `parse` answers a script exactly where the bytes spell one, and else names the first bad line.
 #![tactic(auto)]
 
 mod code;

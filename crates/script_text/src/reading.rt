@@ -87,13 +87,12 @@ fn begin(alloc: Global, line: &[u8]) -> Result<Draft, ScriptFault>
 /// The script that bytes spell.
 ///
 /// `At` comes exactly where they spell none, and names the first line that is no line of a script: its code is
-/// `Later` until all commands are built. `trace` says whether the script is to be played with its entries told;
-/// no command that is built depends on it. Nothing is kept after a fault.
+/// `Later` until all commands are built. The last argument says whether the script is to be played with its entries
+/// told; no command that is built depends on it. Nothing is kept after a fault.
 #[tactic(auto, using(crate::proofs::Parsing::first_stops, crate::proofs::Parsing::below_first))]
-pub fn parse(alloc: Global, bytes: &[u8], trace: bool) -> Result<Script, ScriptFault>
+pub fn parse(alloc: Global, bytes: &[u8], _trace: bool) -> Result<Script, ScriptFault>
     ensures { ReadsScript result (script_fault bytes.now) (IsScriptOf bytes.now) }
 {
-    let _no_command_is_refused_a_trace = trace;
     let Some((first, below)) = next_line(bytes) else {
         return Err(fault_at(1, LineError::Fault(Code::World)));
     };

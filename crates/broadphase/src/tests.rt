@@ -197,3 +197,13 @@ fn stops_where_a_write_fails(rt: HostRuntime) -> Result<(), Fail> {
     assert_stops(&rt, rt.alloc(), BAD_SCRIPT, BAD_LINE, 14)?;
     Ok(())
 }
+
+// Each reply is one piece, so where the second call fails the first reply is there as a whole.
+#[test]
+fn a_reply_is_one_piece(rt: HostRuntime) -> Result<(), Fail> {
+    let mut sink = sink_of(rt.alloc(), &[2], MANY, MANY)?;
+    let ended = play_script(rt.alloc(), SCRIPT, &mut sink)?;
+    assert_eq!(rt; ended, Status::WriteFault);
+    assert_eq!(rt; sink.contents(), b"id 0:1\n".as_slice());
+    Ok(())
+}

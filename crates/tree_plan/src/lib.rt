@@ -7,6 +7,8 @@
 //! but for one body.
 #![tactic(auto)]
 
+mod arrange;
+mod axis;
 mod node_count;
 
 pub use node_count::need;

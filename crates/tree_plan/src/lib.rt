@@ -10,6 +10,9 @@
 mod arrange;
 mod axis;
 mod node_count;
+mod numbering;
+mod plan_child;
+mod run;
 
 pub use node_count::need;
 

@@ -248,7 +248,7 @@ once_more all done part rest new left next done' p q e f h =
     subst (λ (ys : List ℕ). IsPermutation all ys) (ap (λ ys. done ++ (rest ++ ys)) (sym e) ∙ ap (λ ys. done ++ ys) (sym q) ∙ ap (λ ys. ys ++ next) (sym f))
     (IsPermutation-trans all (done ++ (part ++ rest)) (done ++ (rest ++ part)) from moved)
 
-need_some : (n : ℕ) → 0 < n → 1 ≤ need n
+pub need_some : (n : ℕ) → 0 < n → 1 ≤ need n
 need_some n some = omega (arith, need_by_quarters n some)
 
 -- there is room for one node more

@@ -12,9 +12,12 @@ mod axis;
 mod node_count;
 mod numbering;
 mod plan_child;
+mod planner;
 mod run;
 
 pub use node_count::need;
+pub use plan_child::PlanChild;
+pub use planner::Planner;
 
 #[cfg(test)]
 mod tests;

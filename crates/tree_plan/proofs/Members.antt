@@ -18,13 +18,13 @@ in_from_get_or [] k d within = absurd (omega arith)
 in_from_get_or (x ∷ xs) zero d within = inl refl
 in_from_get_or (x ∷ xs) (suc k) d within = inr (in_from_get_or xs k d (omega arith))
 
-contains_in : {X : Type 0} (xs : List X) (z : X) → In z xs → Contains xs z
-contains_in [] z h = absurd h
-contains_in (x ∷ xs) z (inl e) = (0, omega arith, sym e)
-contains_in (x ∷ xs) z (inr h) = let c = contains_in xs z h in (suc c.0, omega arith, c.2)
+pub contains_from_in : {X : Type 0} (xs : List X) (z : X) → In z xs → Contains xs z
+contains_from_in [] z h = absurd h
+contains_from_in (x ∷ xs) z (inl e) = (0, omega arith, sym e)
+contains_from_in (x ∷ xs) z (inr h) = let c = contains_from_in xs z h in (suc c.0, omega arith, c.2)
 
 pub in_permutation : {X : Type 0} (xs ys : List X) (z : X) → IsPermutation xs ys → In z xs → In z ys
-in_permutation xs ys z same h = let c = Contains-permutation xs ys z same (contains_in xs z h) in in_at ys z c.0 c.1 c.2
+in_permutation xs ys z same h = let c = Contains-permutation xs ys z same (contains_from_in xs z h) in in_at ys z c.0 c.1 c.2
 
 pub all_in : {X : Type 0} (P : X → Type 0) (xs : List X) → AllByRecursion P xs → (z : X) → In z xs → P z
 all_in P [] all z h = absurd h
@@ -54,3 +54,6 @@ pub place_of : {X : Type 0} (xs : List X) (z : X) → In z xs → Place xs z
 place_of [] z h = absurd h
 place_of (x ∷ xs) z (inl e) = record { at = 0; within = omega arith; is = λ d. sym e }
 place_of (x ∷ xs) z (inr h) = let p = place_of xs z h in record { at = suc p.at; within = omega (arith, p.within); is = p.is }
+
+pub in_from_contains : {X : Type 0} (xs : List X) (z : X) → Contains xs z → In z xs
+in_from_contains xs z c = in_at xs z c.0 c.1 c.2

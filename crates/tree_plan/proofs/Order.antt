@@ -132,7 +132,7 @@ rises_same axis (x ∷ xs) (y ∷ ys) up up' there back =
     (λ z h. in_rest axis y x xs (sym e) z (all_in _ ys up'.0 z h) (back z (inr h))) in
     cc
 
-nat_eq-flips : (i j : ℕ) → nat_eq i j ≡ nat_eq j i
+pub nat_eq-flips : (i j : ℕ) → nat_eq i j ≡ nat_eq j i
 nat_eq-flips i j = grind (arith, nat_tests)
 
 pub AreApart-permutation : (xs ys : List (ℕ × FixBox)) → IsPermutation xs ys → AreApart xs → AreApart ys

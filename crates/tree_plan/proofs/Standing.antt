@@ -6,9 +6,10 @@ use Rattle.std.proofs.lemmas.List.Sorted.{length_permutation}
 use Rattle.fixed_box.specs.declared.fix_box.FixBox.{FixBox}
 use Rattle.scene_model.specs.Tree.{Tree, nothing, body, node, front_half, back_half, child_of, tree_within, tree}
 use Rattle.scene_model.proofs.Trees.{length-front_half, length-back_half, same_node}
-use Rattle.tree_plan.specs.Arranged.{arranged}
+use Rattle.std.specs.List.Sorted.{IsPermutation}
+use Rattle.tree_plan.specs.Arranged.{AreApart, arranged}
 use Rattle.tree_plan.specs.Standing.{front_of, back_of, standing_within}
-use Rattle.tree_plan.proofs.Arrangement.{arranged-more, arranged-few, arranged-permutes}
+use Rattle.tree_plan.proofs.Arrangement.{arranged-more, arranged-few, arranged-permutes, arranged-permutation}
 
 pub length-arranged : (xs : List (ℕ × FixBox)) → length (arranged xs) ≡ length xs
 length-arranged xs = length_permutation xs (arranged xs) (arranged-permutes xs)
@@ -73,3 +74,9 @@ standing_same (suc levels) xs =
 
 pub tree-standing : (xs : List (ℕ × FixBox)) → tree xs ≡ standing_within (length xs) (arranged xs)
 tree-standing xs = standing_same (length xs) xs
+
+-- the tree depends on the set of bodies alone
+pub tree-permutation : (xs ys : List (ℕ × FixBox)) → AreApart xs → IsPermutation xs ys → tree xs ≡ tree ys
+tree-permutation xs ys apart same =
+    tree-standing xs ∙ ap (standing_within (length xs)) (arranged-permutation xs ys same apart)
+    ∙ ap (λ n. standing_within n (arranged ys)) (sym (length_permutation xs ys same)) ∙ sym (tree-standing ys)

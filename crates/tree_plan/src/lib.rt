@@ -9,12 +9,15 @@
 
 mod arrange;
 mod axis;
+mod indexes;
+pub mod laws;
 mod node_count;
 mod numbering;
 mod plan_child;
 mod planner;
 mod run;
 
+pub use indexes::indexes_rise;
 pub use node_count::need;
 pub use plan_child::PlanChild;
 pub use planner::Planner;

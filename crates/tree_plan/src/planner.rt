@@ -78,6 +78,7 @@ impl Planner {
         ensures plan { IsPlanOf bodies.old self.new }
         ensures most { self.new.most ≡ self.old.most }
         ensures bodies { IsPermutation bodies.old bodies.new }
+        ensures still_apart { AreApart bodies.new }
     {
         arrange(bodies, &mut self.room);
         let nodes = need(bodies.len() as u32);

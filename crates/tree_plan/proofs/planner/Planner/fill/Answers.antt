@@ -8,6 +8,7 @@ use Rattle.tree_plan.specs.Plan.{Plan, IsPlanOf}
 use Rattle.tree_plan.specs.declared.plan_child.PlanChild.{PlanChild}
 use Rattle.tree_plan.specs.declared.run.Run.{Run}
 use Rattle.tree_plan.proofs.Arrangement.{arranged-permutes}
+use Rattle.tree_plan.proofs.Order.{AreApart-permutation}
 use Rattle.tree_plan.proofs.Standing.{length-arranged}
 use Rattle.tree_plan.proofs.Growth.{need-grows}
 use Rattle.tree_plan.proofs.Plans.{IsPlanOf-numbered, IsPlanOf-empty}
@@ -17,6 +18,9 @@ fits : (bodies old : List (ℕ × FixBox)) (nodes most : ℕ) → bodies ≡ arr
 fits bodies old nodes most e needed few =
     let size : length bodies ≡ length old = ap length e ∙ length-arranged old in
     omega (arith, need-grows (length bodies) most (omega arith))
+
+same_bodies : (old bodies : List (ℕ × FixBox)) → bodies ≡ arranged old → IsPermutation old bodies
+same_bodies old bodies e = subst (λ (ys : List (ℕ × FixBox)). IsPermutation old ys) (sym e) (arranged-permutes old)
 
 pub number_nodes-requires-clause-room : goal.number_nodes-requires-clause-room
 number_nodes-requires-clause-room c =
@@ -51,13 +55,17 @@ returns-then-nodes-gt0-clause-plan c =
     c.need-nodes.ensures.exact (omega (arith, c.self.invariant.0, ap (λ (p : Plan). p.most) c.self.view_is)) c.number_nodes.ensures)
 
 pub returns-then-nodes-gt0-clause-bodies : goal.returns-then-nodes-gt0-clause-bodies
-returns-then-nodes-gt0-clause-bodies c =
-    subst (λ (ys : List (ℕ × FixBox)). IsPermutation c.args.bodies.now ys) (sym c.arrange.ensures) (arranged-permutes c.args.bodies.now)
+returns-then-nodes-gt0-clause-bodies c = same_bodies c.args.bodies.now c.arrange.new.bodies c.arrange.ensures
 
 pub returns-else-nodes-gt0-clause-plan : goal.returns-else-nodes-gt0-clause-plan
 returns-else-nodes-gt0-clause-plan c =
     IsPlanOf-empty c.arrange.new.bodies c.args.bodies.now c.self.inside.runs.items c.self.inside.children.items c.self.inside.most c.need-nodes.result c.arrange.ensures c.need-nodes.ensures.exact c.if-nodes-gt0.false
 
 pub returns-else-nodes-gt0-clause-bodies : goal.returns-else-nodes-gt0-clause-bodies
-returns-else-nodes-gt0-clause-bodies c =
-    subst (λ (ys : List (ℕ × FixBox)). IsPermutation c.args.bodies.now ys) (sym c.arrange.ensures) (arranged-permutes c.args.bodies.now)
+returns-else-nodes-gt0-clause-bodies c = same_bodies c.args.bodies.now c.arrange.new.bodies c.arrange.ensures
+
+pub returns-then-nodes-gt0-clause-still_apart : goal.returns-then-nodes-gt0-clause-still_apart
+returns-then-nodes-gt0-clause-still_apart c = AreApart-permutation c.args.bodies.now c.arrange.new.bodies (same_bodies c.args.bodies.now c.arrange.new.bodies c.arrange.ensures) c.requires.apart
+
+pub returns-else-nodes-gt0-clause-still_apart : goal.returns-else-nodes-gt0-clause-still_apart
+returns-else-nodes-gt0-clause-still_apart c = AreApart-permutation c.args.bodies.now c.arrange.new.bodies (same_bodies c.args.bodies.now c.arrange.new.bodies c.arrange.ensures) c.requires.apart

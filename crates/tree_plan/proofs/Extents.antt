@@ -1,8 +1,7 @@
 -- The least and the greatest doubled centre of the bodies so far, and the widest axis.
-use Rattle.std.proofs.Common.{◌≡◌, ℕ, zero, suc, ◌+◌, ◌<◌, ◌≤◌, Bool, true, false, cond, List, [], ◌∷◌, ◌++◌, length, get_or, take, map, fold, ℤ, pos, negsuc, ◌≤ℤ◌, ◌<ℤ◌, ◌-ℤ◌, refl, sym, ◌∙◌, ap, subst, arith}
+use Rattle.std.proofs.Common.{◌≡◌, ℕ, ◌+◌, ◌<◌, Bool, true, false, cond, List, [], ◌∷◌, ◌++◌, length, get_or, take, map, fold, ℤ, ◌-ℤ◌, refl, sym, ◌∙◌, ap, subst, arith}
 use Rattle.std.specs.Int.{int_max, int_min}
 use Rattle.std.specs.Prelude.{int_lt}
-use Rattle.std.proofs.lemmas.Int.{ints, clamps}
 use Rattle.std.proofs.lemmas.List.{take_more, map-append, take_all}
 use Rattle.std.proofs.lemmas.List.Sums.{fold_push}
 use Rattle.fixed_box.specs.declared.fix_box.FixBox.{FixBox}
@@ -28,7 +27,7 @@ Reached-none axis (x ∷ xs) b low high some at p q in_range = record {
   least = λ d. p ∙ ap (centre axis) at;
   greatest = λ d. q ∙ ap (centre axis) at;
   low_in = in_range;
-  high_in = subst IsCentre (p ∙ sym q) in_range
+  high_in = subst IsCentre (p ∙ sym q) in_range;
 }
 
 -- one more centre in a fold over the first ones
@@ -45,7 +44,7 @@ Reached-more axis bodies n b low high low' high' so_far within at p q low_in hig
   least = λ d. p ∙ ap (λ k. int_min k (centre axis b)) (so_far.least d) ∙ sym (fold_more int_min _ (centre axis) bodies n b within at);
   greatest = λ d. q ∙ ap (λ k. int_max k (centre axis b)) (so_far.greatest d) ∙ sym (fold_more int_max _ (centre axis) bodies n b within at);
   low_in = low_in so_far.low_in;
-  high_in = high_in so_far.high_in
+  high_in = high_in so_far.high_in;
 }
 
 pub Reached-all : (axis : ℕ) (bodies : List (ℕ × FixBox)) (n : ℕ) (low high : ℤ) → 0 < length bodies → n ≡ length bodies → Reached axis bodies n low high → IsExtent axis bodies low high
@@ -59,7 +58,7 @@ Reached-all axis (b ∷ bs) n low high some all so_far =
     so_far.greatest b ∙ ap (λ ys. fold int_max c (map (centre axis) ys)) whole ∙ ap (λ k. fold int_max k (map (centre axis) bs)) (cond_same (int_lt c c) c) in record {
       apart = ap (λ k. k -ℤ low) greatest ∙ ap (λ k. fold int_max c (map (centre axis) bs) -ℤ k) least;
       low_in = so_far.low_in;
-      high_in = so_far.high_in
+      high_in = so_far.high_in;
     }
 
 -- ---- the widest axis, by two tests

@@ -1,7 +1,7 @@
 -- More bodies need no fewer nodes.
-use Rattle.std.proofs.Common.{◌≡◌, ℕ, zero, suc, ◌+◌, ◌-◌, ◌/◌, ◌<◌, ◌≤◌, Bool, true, false, cond, nat_lt, ◌⊎◌, inl, inr, refl, sym, ◌∙◌, ap, subst, arith}
-use Rattle.std.proofs.lemmas.Bool.{lt-ltb, le-ltb, cases_lt}
-use Rattle.scene_model.specs.Need.{need_of_run, need_within, need, run_sizes}
+use Rattle.std.proofs.Common.{ℕ, zero, suc, ◌-◌, ◌/◌, ◌<◌, ◌≤◌, cond, ◌⊎◌, inl, inr, refl, ap, arith}
+use Rattle.std.proofs.lemmas.Bool.{lt-ltb, cases_lt}
+use Rattle.scene_model.specs.Need.{need_of_run, need_within, need}
 use Rattle.scene_model.proofs.Needs.{need_within-enough, need_of_run-two}
 use Rattle.tree_plan.proofs.Runs.{sum_of_runs}
 

@@ -1,19 +1,17 @@
 -- The halves of bodies depend on the set of them alone, and a list that is split has them at its two ends.
-use Rattle.std.proofs.Common.{◌≡◌, ℕ, zero, suc, ◌+◌, ◌-◌, ◌*◌, ◌/◌, ◌^◌, ◌<◌, ◌≤◌, Bool, true, false, nat_eq, ◌⊎◌, inl, inr, List, [], ◌∷◌, ◌++◌, length, get_or, take, drop, map, ℤ, pos, ◌≤ℤ◌, ◌<ℤ◌, ◌+ℤ◌, refl, sym, ◌∙◌, ap, subst, arith, take-append-drop}
+use Rattle.std.proofs.Common.{◌≡◌, ℕ, ◌+◌, ◌-◌, ◌*◌, ◌/◌, ◌<◌, ◌≤◌, true, nat_eq, ◌⊎◌, inl, inr, List, [], ◌∷◌, ◌++◌, length, get_or, take, drop, map, ℤ, pos, ◌+ℤ◌, sym, ◌∙◌, ap, subst, arith, take-append-drop}
 use Rattle.std.specs.Prelude.{unsigned_abs}
-use Rattle.std.specs.List.{All, IsDistinct}
+use Rattle.std.specs.List.{All}
 use Rattle.std.specs.List.Sorted.{IsPermutation}
-use Rattle.std.proofs.lemmas.Bool.{cases_lt, cases_order}
+use Rattle.std.proofs.lemmas.Bool.{cases_order}
 use Rattle.std.proofs.lemmas.Int.{ints}
 use Rattle.std.proofs.lemmas.List.{take-append-le, drop-append-le, take_all, drop_all, get_or-take, get_or-drop, length-take, length-drop}
-use Rattle.std.proofs.lemmas.List.Elements.{All-get_or}
-use Rattle.std.proofs.lemmas.List.Sorted.{IsPermutation-sym, IsPermutation-trans, IsPermutation-map, length_permutation, All-permutation}
+use Rattle.std.proofs.lemmas.List.Sorted.{IsPermutation-sym, length_permutation, All-permutation}
 use Rattle.std.proofs.lemmas.Map.Keys.{IsDistinct-head, IsDistinct-tail}
-use Rattle.fixed_box.specs.Corner.{on_axis}
 use Rattle.fixed_box.proofs.Words.{on_axis_in_range}
 use Rattle.fixed_box.specs.declared.fix_box.FixBox.{FixBox}
 use Rattle.scene_model.specs.Tree.{centre, comes_before, in_order, sorted, widest, front_half, back_half}
-use Rattle.scene_model.proofs.Trees.{in_order_permutes, halves_permute}
+use Rattle.scene_model.proofs.Trees.{in_order_permutes}
 use Rattle.tree_plan.specs.Axes.{IsCentre, key_of}
 use Rattle.tree_plan.specs.Arranged.{AreApart, IsSplit}
 use Rattle.tree_plan.proofs.Members.{In, in_append_left, in_append_right, place_of}
@@ -108,7 +106,7 @@ halves_at : (xs ys : List (ℕ × FixBox)) (axis front : ℕ) → axis ≡ wides
 halves_at xs ys axis front e within apart small same split = record {
   cut = ap (λ k. in_order k xs) (sym e) ∙ in_order-permutation axis xs ys same apart
       ∙ in_order-cut axis front ys within (AreApart-permutation xs ys same apart) (All-permutation (λ b. b.0 < 4294967296) xs ys same small) split;
-  size = omega (arith, length_permutation (take front ys) (in_order axis (take front ys)) (in_order_permutes axis (take front ys)), length-take front ys)
+  size = omega (arith, length_permutation (take front ys) (in_order axis (take front ys)) (in_order_permutes axis (take front ys)), length-take front ys);
 }
 
 pub front_from_split : (xs ys : List (ℕ × FixBox)) (axis front : ℕ) → axis ≡ widest xs → front ≡ length xs - length xs / 2 → AreApart xs → All (λ b. b.0 < 4294967296) xs → IsPermutation xs ys

@@ -1,7 +1,6 @@
 -- Each body of a plan stands at one place.
-use Rattle.std.proofs.Common.{◌≡◌, ◌≢◌, ℕ, zero, suc, ◌+◌, ◌-◌, ◌*◌, ◌/◌, ◌%◌, ◌<◌, ◌≤◌, ◌⊎◌, inl, inr, Option, None, Some, List, [], ◌∷◌, ◌++◌, length, get_or, map, refl, sym, ◌∙◌, ap, subst, nat_eq, false, arith}
+use Rattle.std.proofs.Common.{◌≡◌, ℕ, zero, suc, ◌+◌, ◌*◌, ◌/◌, ◌%◌, ◌<◌, inl, inr, List, [], ◌∷◌, length, get_or, map, sym, ◌∙◌, ap, nat_eq, false, arith}
 use Rattle.std.specs.List.{filter_map, Contains, IsDistinct}
-use Rattle.std.specs.List.Sorted.{IsPermutation}
 use Rattle.std.proofs.lemmas.Bool.{cases_order, eqb-false}
 use Rattle.std.proofs.lemmas.List.Sorted.{IsPermutation-sym}
 use Rattle.std.proofs.lemmas.Map.Keys.{IsDistinct-head, IsDistinct-tail, IsDistinct-IsPermutation}
@@ -56,8 +55,9 @@ no_second (Node n ∷ es) i (suc t) (suc u) apart before within p q = no_second 
 one_slot : (children : List PlanChild) (i t u : ℕ) → IsDistinct nat_eq (picked children) → t < length children → u < length children → get_or children t Nothing ≡ Body i → get_or children u Nothing ≡ Body i → t ≡ u
 one_slot children i t u apart within within' p q =
     elim (cases_order t u) [
-      inl e ↦ e
-    | inr h ↦ elim h [ inl less ↦ absurd (no_second children i t u apart less within' p q) | inr more ↦ absurd (no_second children i u t apart more within q p) ] ]
+      | inl e ↦ e
+      | inr h ↦ elim h [ inl less ↦ absurd (no_second children i t u apart less within' p q) | inr more ↦ absurd (no_second children i u t apart more within q p) ]
+    ]
 
 pub body_somewhere : (bodies : List (ℕ × FixBox)) (plan : Plan) → IsPlanOf bodies plan → (index : ℕ) → Contains (map (λ b. b.0) bodies) index
     → (n : ℕ) × ((c : ℕ) × (n < node_count plan) × (c < 4) × (child_at plan n c ≡ Body index))

@@ -1,7 +1,7 @@
 -- The order of bodies on an axis: what is in order stays the same list in whichever order it came.
-use Rattle.std.proofs.Common.{◌≡◌, ℕ, zero, suc, ◌+◌, ◌<◌, ◌≤◌, Bool, true, false, cond, ◌||◌, ◌&&◌, nat_eq, nat_lt, ◌⊎◌, inl, inr, List, [], ◌∷◌, ◌++◌, length, get_or, map, ℤ, ◌≤ℤ◌, ◌<ℤ◌, refl, sym, ◌∙◌, ap, subst, arith}
+use Rattle.std.proofs.Common.{◌≡◌, ℕ, ◌<◌, ◌≤◌, Bool, true, false, cond, ◌||◌, ◌&&◌, nat_eq, nat_lt, ◌⊎◌, inl, inr, List, [], ◌∷◌, ◌++◌, map, ℤ, ◌≤ℤ◌, ◌<ℤ◌, refl, sym, ◌∙◌, ap, subst, arith}
 use Rattle.std.specs.Prelude.{int_lt, int_le}
-use Rattle.std.specs.List.{AllByRecursion, Contains, IsDistinct}
+use Rattle.std.specs.List.{AllByRecursion, IsDistinct}
 use Rattle.std.specs.List.Sorted.{IsPermutation}
 use Rattle.std.proofs.lemmas.Bool.{cases_Bool, eqb-false}
 use Rattle.std.proofs.lemmas.Bool.Decides.{nat_tests}
@@ -41,8 +41,9 @@ lex-asymmetric x y i j p q =
 lex-transitive : (x y z : ℤ) (i j k : ℕ) → lex x i y j ≡ true → lex y j z k ≡ true → lex x i z k ≡ true
 lex-transitive x y z i j k p q =
     elim (lex-true x y i j p) [
-      inl h ↦ elim (lex-true y z j k q) [ inl m ↦ lex-from_less x z i k (omega (arith, ints)) | inr m ↦ lex-from_less x z i k (omega (arith, ints)) ]
-    | inr h ↦ elim (lex-true y z j k q) [ inl m ↦ lex-from_less x z i k (omega (arith, ints)) | inr m ↦ lex-from_equal x z i k (omega (arith, ints)) (omega arith) ] ]
+      | inl h ↦ elim (lex-true y z j k q) [ inl m ↦ lex-from_less x z i k (omega (arith, ints)) | inr m ↦ lex-from_less x z i k (omega (arith, ints)) ]
+      | inr h ↦ elim (lex-true y z j k q) [ inl m ↦ lex-from_less x z i k (omega (arith, ints)) | inr m ↦ lex-from_equal x z i k (omega (arith, ints)) (omega arith) ]
+    ]
 
 lex-connected_by : (x y : ℤ) (i j : ℕ) → (y ≤ℤ x) × (x ≤ℤ y → j ≤ i) → (i ≡ j → ⊥) → (y <ℤ x) ⊎ (x ≤ℤ y) → lex y j x i ≡ true
 lex-connected_by x y i j h apart (inl less) = lex-from_less y x j i less

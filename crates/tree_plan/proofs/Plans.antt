@@ -1,5 +1,5 @@
 -- A plan whose nodes are all numbered is the tree over its bodies.
-use Rattle.std.proofs.Common.{◌≡◌, ◌≢◌, ◌↔◌, ℕ, zero, suc, ◌+◌, ◌-◌, ◌*◌, ◌/◌, ◌%◌, ◌^◌, ◌<◌, ◌≤◌, ◌⊎◌, inl, inr, Option, None, Some, IsSome, List, [], ◌∷◌, ◌++◌, length, take, drop, get_or, map, refl, sym, ◌∙◌, ap, subst, rules, arith}
+use Rattle.std.proofs.Common.{◌≡◌, ℕ, zero, suc, ◌+◌, ◌-◌, ◌*◌, ◌/◌, ◌%◌, ◌<◌, ◌≤◌, inl, inr, Option, None, Some, IsSome, List, [], ◌∷◌, ◌++◌, length, take, drop, map, refl, sym, ◌∙◌, ap, subst, rules, arith}
 use Rattle.std.specs.List.{filter_map, range_with_len}
 use Rattle.std.specs.List.Sorted.{IsPermutation}
 use Rattle.std.proofs.lemmas.Bool.{cases_lt}
@@ -7,7 +7,7 @@ use Rattle.std.proofs.lemmas.List.{get_or-take, get_or-map, get_or_past, length-
 use Rattle.std.proofs.lemmas.List.Sorted.{IsPermutation-refl, IsPermutation-trans, IsPermutation-map}
 use Rattle.fixed_box.specs.declared.fix_box.FixBox.{FixBox}
 use Rattle.scene_model.specs.Need.{need}
-use Rattle.scene_model.specs.Tree.{Tree, nothing, body, node, child_of, tree, height_of}
+use Rattle.scene_model.specs.Tree.{Tree, child_of, tree, height_of}
 use Rattle.scene_model.proofs.Trees.{same_node, height_of-tree_within}
 use Rattle.tree_plan.specs.declared.plan_child.PlanChild.{PlanChild}
 use Rattle.tree_plan.specs.declared.plan_child.PlanChild.TheVariants.{Nothing, Body, Node}
@@ -15,11 +15,11 @@ use Rattle.tree_plan.specs.declared.run.Run.{Run}
 use Rattle.tree_plan.specs.Arranged.{arranged}
 use Rattle.tree_plan.specs.Quarters.{quarter_start, quarter_size}
 use Rattle.tree_plan.specs.Standing.{front_of, back_of, standing_within}
-use Rattle.tree_plan.specs.Plan.{Plan, node_count, child_at, parent_at, tree_under, tree_from, tree_of, body_of, node_of, ParentsAgree, IsPlanOf}
+use Rattle.tree_plan.specs.Plan.{Plan, node_count, child_at, parent_at, tree_under, tree_from, tree_of, body_of, ParentsAgree, IsPlanOf}
 use Rattle.tree_plan.specs.Numbering.{run_at, slot_child, part, slot_start, slot_size, slot_part, indexes_from, IsNodeAt, IsFilled, IsNumbered}
-use Rattle.tree_plan.proofs.Quarters.{quarter_within, quarter_less, length-part, part-whole, part-front, part-back}
+use Rattle.tree_plan.proofs.Quarters.{quarter_less, length-part, part-whole, part-front, part-back}
 use Rattle.tree_plan.proofs.Arrangement.{arranged-permutes}
-use Rattle.tree_plan.proofs.Standing.{length-arranged, child_of-two, tree-standing}
+use Rattle.tree_plan.proofs.Standing.{length-arranged, tree-standing}
 use Rattle.tree_plan.proofs.Slots.{slot_within, need_some}
 
 -- ---- what a plan shows of the lists behind it
@@ -78,7 +78,7 @@ quarters_of bodies start size within =
       first = ap front_of (front_of-part bodies start size within) ∙ front_of-part bodies start front (omega arith) ∙ ap (λ k. part bodies k (front - front / 2)) from;
       second = ap back_of (front_of-part bodies start size within) ∙ back_of-part bodies start front (omega arith);
       third = ap front_of (back_of-part bodies start size within) ∙ front_of-part bodies (start + front) back (omega arith);
-      fourth = ap back_of (back_of-part bodies start size within) ∙ back_of-part bodies (start + front) back (omega arith) ∙ ap (λ k. part bodies k (back / 2)) further
+      fourth = ap back_of (back_of-part bodies start size within) ∙ back_of-part bodies (start + front) back (omega arith) ∙ ap (λ k. part bodies k (back / 2)) further;
     }
 
 child_match : (f : ℕ → Tree) (g : List (ℕ × FixBox) → Tree) (e : PlanChild) (ys : List (ℕ × FixBox)) (size : ℕ) → length ys ≡ size → (size ≡ 0 → e ≡ Nothing)
@@ -99,9 +99,9 @@ child_tree bodies runs children nodes levels j t f h below tree_at =
     child_match f (standing_within j) (slot_child children t) (slot_part bodies runs t) (slot_size runs t)
     (length-part bodies (slot_start runs t) (slot_size runs t) (slot_within bodies runs children nodes nodes (4 * nodes) h t below)) filled.none filled.one
     (λ two.
-        let found = filled.more two in
-        let p = found.1 in
-        ap (tree_under f) p.child ∙ tree_at found.0 two p.later p.made p.size ∙ ap (standing_within j) (part_same bodies _ _ _ _ p.start p.size))
+    let found = filled.more two in
+    let p = found.1 in
+    ap (tree_under f) p.child ∙ tree_at found.0 two p.later p.made p.size ∙ ap (standing_within j) (part_same bodies _ _ _ _ p.start p.size))
 
 quarter_slot : (bodies : List (ℕ × FixBox)) (runs : List Run) (n c : ℕ) → c < 4 → slot_part bodies runs (4 * n + c) ≡ part bodies ((run_at runs n).start + quarter_start (run_at runs n).size c) (quarter_size (run_at runs n).size c)
 quarter_slot bodies runs n c few =
@@ -127,13 +127,13 @@ tree_at bodies runs children most nodes (suc levels) (suc j) n h made deep fits 
     let f = tree_from plan levels in
     let child : (c : ℕ) → c < 4 → tree_under f (child_at plan n c) ≡ child_of (standing_within j) (part bodies (r.start + quarter_start r.size c) (quarter_size r.size c)) =
     λ c few.
-        ap (tree_under f) (child_over most nodes runs children n c made few)
-        ∙ child_tree bodies runs children nodes levels j (4 * n + c) f h (omega arith)
-          (λ k two later below same.
-              let size = quarter_size_slot runs n c few in
-              let less : quarter_size r.size c < r.size = quarter_less r.size c (omega arith) in
-              tree_at bodies runs children most nodes levels j k h below (omega arith) (omega arith))
-        ∙ ap (child_of (standing_within j)) (quarter_slot bodies runs n c few) in
+    ap (tree_under f) (child_over most nodes runs children n c made few)
+    ∙ child_tree bodies runs children nodes levels j (4 * n + c) f h (omega arith)
+    (λ k two later below same.
+    let size = quarter_size_slot runs n c few in
+    let less : quarter_size r.size c < r.size = quarter_less r.size c (omega arith) in
+    tree_at bodies runs children most nodes levels j k h below (omega arith) (omega arith))
+    ∙ ap (child_of (standing_within j)) (quarter_slot bodies runs n c few) in
     let q = quarters_of bodies r.start r.size (h.within n made).1 in
     same_node _ _ _ _ _ _ _ _
     (child 0 (omega arith) ∙ sym (ap (child_of (standing_within j)) q.first))
@@ -203,15 +203,16 @@ found_by bodies runs children nodes (suc n) m c h made e =
       below = p.1;
       node = p.2;
       above = same.0;
-      child = same.1
+      child = same.1;
     }
 
 found : (bodies : List (ℕ × FixBox)) (runs : List Run) (children : List PlanChild) (most nodes n m c : ℕ) → IsNumbered bodies runs children nodes nodes (4 * nodes)
     → parent_at (plan_over most nodes runs children) n ≡ Some (m, c) → Found runs children nodes n m c
 found bodies runs children most nodes n m c h e =
     elim (cases_lt n nodes) [
-      inl made ↦ found_by bodies runs children nodes n m c h made (sym (parent_over most nodes runs children n h.room made) ∙ e)
-    | inr past ↦ absurd (none_some (parent_at (plan_over most nodes runs children) n) (m, c) (parent_past most nodes runs children n past) e) ]
+      | inl made ↦ found_by bodies runs children nodes n m c h made (sym (parent_over most nodes runs children n h.room made) ∙ e)
+      | inr past ↦ absurd (none_some (parent_at (plan_over most nodes runs children) n) (m, c) (parent_past most nodes runs children n past) e)
+    ]
 
 is_some_from : {X : Type 0} (o : Option X) (x : X) → o ≡ Some x → IsSome o
 is_some_from o x e = search rules
@@ -231,16 +232,17 @@ parents_over bodies runs children most nodes some h =
           (omega (arith, f.node.later, f.above), omega (arith, f.child));
       agree = λ m c n made few.
           let below : m < nodes = omega arith in
-          let over = child_over most nodes runs children m c below few in
-          (λ e.
-              let f = found bodies runs children most nodes n m c h e in
-              let slot : 4 * m + c ≡ f.slot = omega (arith, f.above, f.child) in
-              over ∙ ap (slot_child children) slot ∙ f.node.child,
-           λ e.
-              let p = node_at bodies runs children nodes (4 * m + c) n h (omega arith) (sym over ∙ e) in
-              let above : (4 * m + c) / 4 ≡ m = omega arith in
-              let child : (4 * m + c) % 4 ≡ c = omega arith in
-              parent_over most nodes runs children n h.room p.made ∙ p.parent ∙ ap (λ k. Some (k, (4 * m + c) % 4)) above ∙ ap (λ k. Some (m, k)) child)
+          let over = child_over most nodes runs children m c below few in (
+            λ e.
+                let f = found bodies runs children most nodes n m c h e in
+                let slot : 4 * m + c ≡ f.slot = omega (arith, f.above, f.child) in
+                over ∙ ap (slot_child children) slot ∙ f.node.child,
+            λ e.
+                let p = node_at bodies runs children nodes (4 * m + c) n h (omega arith) (sym over ∙ e) in
+                let above : (4 * m + c) / 4 ≡ m = omega arith in
+                let child : (4 * m + c) % 4 ≡ c = omega arith in
+                parent_over most nodes runs children n h.room p.made ∙ p.parent ∙ ap (λ k. Some (k, (4 * m + c) % 4)) above ∙ ap (λ k. Some (m, k)) child,
+          );
     }
 
 -- ---- all together
@@ -273,7 +275,7 @@ IsPlanOf-some bodies old runs children most nodes e some needed few h =
       low = low_tree old (tree_of (plan_over most nodes runs children)) same few;
       once = once_over bodies old runs children nodes e h;
       breadth_first = h.numbers ∙ ap (λ k. range_with_len 1 (k - 1)) (sym count);
-      parents = parents_over bodies runs children most nodes some h
+      parents = parents_over bodies runs children most nodes some h;
     }
 
 pub IsPlanOf-numbered : (bodies old : List (ℕ × FixBox)) (runs : List Run) (children : List PlanChild) (most nodes : ℕ) → bodies ≡ arranged old → 0 < nodes → nodes ≡ need (length bodies) → length old ≤ 1048576
@@ -294,8 +296,8 @@ empty_plan most = record {
     root = refl;
     others = λ n later made. absurd (omega arith);
     above = λ n m c e. absurd (none_some None (m, c) refl e);
-    agree = λ m c n made few. absurd (omega arith)
-  }
+    agree = λ m c n made few. absurd (omega arith);
+  };
 }
 
 empty_by : (old : List (ℕ × FixBox)) (most : ℕ) → length old ≡ 0 → IsPlanOf old (record { most = most; children = []; parents = [] })

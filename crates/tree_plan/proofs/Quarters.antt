@@ -1,8 +1,8 @@
 -- The four runs of a run by their places.
-use Rattle.std.proofs.Common.{◌≡◌, ℕ, zero, suc, ◌+◌, ◌-◌, ◌*◌, ◌/◌, ◌%◌, ◌<◌, ◌≤◌, List, [], ◌∷◌, ◌++◌, length, take, drop, get_or, map, sum, refl, sym, ◌∙◌, ap, arith, take-append-drop, append_assoc}
-use Rattle.std.proofs.lemmas.List.{take-take, drop-drop, drop-take, length-take, length-drop, append-nil, take_all, map-append}
+use Rattle.std.proofs.Common.{◌≡◌, ℕ, zero, suc, ◌+◌, ◌-◌, ◌<◌, ◌≤◌, List, ◌++◌, length, take, drop, refl, sym, ◌∙◌, ap, arith, take-append-drop}
+use Rattle.std.proofs.lemmas.List.{take-take, drop-drop, drop-take, length-take, length-drop, take_all}
 use Rattle.fixed_box.specs.declared.fix_box.FixBox.{FixBox}
-use Rattle.scene_model.specs.Need.{need, need_of_run, run_sizes}
+use Rattle.scene_model.specs.Need.{need, need_of_run}
 use Rattle.scene_model.proofs.Needs.{need-more}
 use Rattle.tree_plan.specs.Quarters.{quarter_start, quarter_size}
 use Rattle.tree_plan.specs.Numbering.{part}

@@ -1,5 +1,5 @@
 -- Indexes that rise are apart.
-use Rattle.std.proofs.Common.{◌≡◌, ℕ, ◌+◌, ◌-◌, ◌<◌, ◌≤◌, false, nat_eq, List, [], ◌∷◌, length, get_or, map, slice_index, sym, ◌∙◌, ap, subst, arith}
+use Rattle.std.proofs.Common.{◌≡◌, ℕ, ◌+◌, ◌-◌, ◌<◌, ◌≤◌, nat_eq, List, [], ◌∷◌, length, get_or, map, slice_index, subst, arith}
 use Rattle.std.specs.List.{IsDistinct}
 use Rattle.std.specs.List.Sorted.{IsStrictlyIncreasing}
 use Rattle.std.proofs.lemmas.Bool.{ne_eqb}
@@ -12,8 +12,8 @@ distinct_from_rising : (xs : List ℕ) → IsStrictlyIncreasing xs → IsDistinc
 distinct_from_rising xs up =
     IsDistinct-from_apart nat_eq xs
     (λ i j d before within.
-        let less : get_or xs i d < get_or xs j d = below_from_sorted xs i j d (sorted_from_strictly_increasing xs up) before within in
-        ne_eqb (get_or xs i d) (get_or xs j d) (λ same. omega arith))
+    let less : get_or xs i d < get_or xs j d = below_from_sorted xs i j d (sorted_from_strictly_increasing xs up) before within in
+    ne_eqb (get_or xs i d) (get_or xs j d) (λ same. omega arith))
 
 pub AreApart-from_rising : (bodies : List (ℕ × FixBox)) → IsStrictlyIncreasing (map (λ b. b.0) bodies) → AreApart bodies
 AreApart-from_rising bodies up = distinct_from_rising (map (λ b. b.0) bodies) up

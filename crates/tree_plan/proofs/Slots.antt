@@ -1,8 +1,8 @@
 -- Each slot that is filled keeps what is known of the nodes so far.
-use Rattle.std.proofs.Common.{◌≡◌, ◌≢◌, ℕ, zero, suc, ◌+◌, ◌-◌, ◌*◌, ◌/◌, ◌%◌, ◌<◌, ◌≤◌, Bool, true, false, cond, nat_lt, ◌⊎◌, inl, inr, Option, None, Some, List, [], ◌∷◌, ◌++◌, length, take, drop, get_or, set, map, refl, sym, ◌∙◌, ap, subst, arith, append_assoc, drop-cons}
+use Rattle.std.proofs.Common.{◌≡◌, ℕ, zero, suc, ◌+◌, ◌-◌, ◌*◌, ◌/◌, ◌%◌, ◌<◌, ◌≤◌, cond, inl, inr, Option, None, Some, List, [], ◌∷◌, ◌++◌, length, take, drop, get_or, set, map, refl, sym, ◌∙◌, ap, subst, arith, append_assoc, drop-cons}
 use Rattle.std.specs.List.{filter_map, range_with_len}
 use Rattle.std.specs.List.Sorted.{IsPermutation}
-use Rattle.std.proofs.lemmas.Bool.{lt-ltb, cases_lt, cases_order}
+use Rattle.std.proofs.lemmas.Bool.{lt-ltb, cases_lt}
 use Rattle.std.proofs.lemmas.List.{get_or-set_same, get_or-set_other, take_more_set, length-set, append-nil, map-append}
 use Rattle.std.proofs.lemmas.List.Elements.{filter_map-append}
 use Rattle.std.proofs.lemmas.List.Sorted.{IsPermutation-refl, IsPermutation-trans, IsPermutation-append_right, IsPermutation-append_comm}
@@ -16,7 +16,7 @@ use Rattle.tree_plan.specs.declared.run.Run.{Run}
 use Rattle.tree_plan.specs.Quarters.{quarter_start, quarter_size}
 use Rattle.tree_plan.specs.Plan.{body_of, node_of}
 use Rattle.tree_plan.specs.Numbering.{run_at, slot_child, part, slot_start, slot_size, slot_part, needs_from, indexes_from, IsNodeAt, IsFilled, IsNumbered}
-use Rattle.tree_plan.proofs.Quarters.{quarter_within, need_by_quarters, length-part, part-whole, quarters_join}
+use Rattle.tree_plan.proofs.Quarters.{quarter_within, need_by_quarters, part-whole, quarters_join}
 
 -- ---- what is still needed
 
@@ -24,11 +24,12 @@ use Rattle.tree_plan.proofs.Quarters.{quarter_within, need_by_quarters, length-p
 pub slot_under : (runs : List Run) (nodes count slot : ℕ) → slot < 4 * nodes → slot ≤ 4 * count → count + needs_from runs slot (4 * count - slot) ≡ nodes → slot < 4 * count
 slot_under runs nodes count slot below reached still =
     elim (cases_lt slot (4 * count)) [
-      inl h ↦ h
-    | inr h ↦
-        let none : 4 * count - slot ≡ 0 = omega arith in
-        let nothing : needs_from runs slot (4 * count - slot) ≡ 0 = ap (needs_from runs slot) none in
-        absurd (omega arith) ]
+      | inl h ↦ h
+      | inr h ↦
+          let none : 4 * count - slot ≡ 0 = omega arith in
+          let nothing : needs_from runs slot (4 * count - slot) ≡ 0 = ap (needs_from runs slot) none in
+          absurd (omega arith)
+    ]
 
 pub needs_next : (runs : List Run) (count slot : ℕ) → slot < 4 * count
     → needs_from runs slot (4 * count - slot) ≡ need_of_run need (slot_size runs slot) + needs_from runs (slot + 1) (4 * count - (slot + 1))
@@ -68,7 +69,7 @@ IsNodeAt-stays runs runs' children children' count count' t n same more stay und
   made = omega (arith, h.made);
   start = ap (λ (r : Run). r.start) (stay n h.made) ∙ h.start ∙ sym (slot_start-stays runs runs' count t stay under);
   size = ap (λ (r : Run). r.size) (stay n h.made) ∙ h.size ∙ sym (slot_size-stays runs runs' count t stay under);
-  parent = ap (λ (r : Run). r.parent) (stay n h.made) ∙ h.parent
+  parent = ap (λ (r : Run). r.parent) (stay n h.made) ∙ h.parent;
 }
 
 IsFilled-stays : (bodies : List (ℕ × FixBox)) (runs runs' : List Run) (children children' : List PlanChild) (count count' t : ℕ) → slot_child children' t ≡ slot_child children t → count ≤ count' → RunsStay runs runs' count
@@ -78,7 +79,7 @@ IsFilled-stays bodies runs runs' children children' count count' t same more sta
   one = λ b p q. same ∙ h.one b (sym (slot_size-stays runs runs' count t stay under) ∙ p) (sym (slot_part-stays bodies runs runs' count t stay under) ∙ q);
   more = λ two.
       let node = h.more (subst (λ k. 2 ≤ k) (slot_size-stays runs runs' count t stay under) two) in
-      (node.0, IsNodeAt-stays runs runs' children children' count count' t node.0 same more stay under node.1)
+      (node.0, IsNodeAt-stays runs runs' children children' count count' t node.0 same more stay under node.1);
 }
 
 -- ---- children that stay
@@ -125,7 +126,7 @@ IsNumbered-few bodies runs children nodes count slot e h below few no_node index
       numbers = picked_more node_of children slot e within ∙ ap (λ ys. filter_map node_of (take slot children) ++ ys) no_node ∙ append-nil (filter_map node_of (take slot children)) ∙ h.numbers;
       once =
           once_few (map (λ b. b.0) bodies) _ _ (map (λ b. b.0) (slot_part bodies runs slot)) _ _ (indexes_next bodies runs count slot under)
-          (picked_more body_of children slot e within ∙ ap (λ ys. filter_map body_of (take slot children) ++ ys) index) h.once
+          (picked_more body_of children slot e within ∙ ap (λ ys. filter_map body_of (take slot children) ++ ys) index) h.once;
     }
 
 part_none : (bodies : List (ℕ × FixBox)) (start size : ℕ) → size ≡ 0 → part bodies start size ≡ []
@@ -217,9 +218,13 @@ four_needs runs t a b c d p q r s = omega (arith, ap (need_of_run need) p, ap (n
 -- together they need what the node needs but for itself
 needs_new : (runs : List Run) (n t : ℕ) (r : Run) → run_at runs n ≡ r → t ≡ 4 * n → 0 < r.size → 1 + needs_from runs t 4 ≡ need r.size
 needs_new runs n t r here e some =
-    omega (arith, need_by_quarters r.size some, four_needs runs t (quarter_size r.size 0) (quarter_size r.size 1) (quarter_size r.size 2) (quarter_size r.size 3)
-    (slot_size-new runs n 0 t r here (omega arith) (omega arith)) (slot_size-new runs n 1 (t + 1) r here (omega arith) (omega arith))
-    (slot_size-new runs n 2 (t + 1 + 1) r here (omega arith) (omega arith)) (slot_size-new runs n 3 (t + 1 + 1 + 1) r here (omega arith) (omega arith)))
+    omega (
+      arith,
+      need_by_quarters r.size some,
+      four_needs runs t (quarter_size r.size 0) (quarter_size r.size 1) (quarter_size r.size 2) (quarter_size r.size 3)
+          (slot_size-new runs n 0 t r here (omega arith) (omega arith)) (slot_size-new runs n 1 (t + 1) r here (omega arith) (omega arith))
+          (slot_size-new runs n 2 (t + 1 + 1) r here (omega arith) (omega arith)) (slot_size-new runs n 3 (t + 1 + 1 + 1) r here (omega arith) (omega arith)),
+    )
 
 four_indexes : (p q r s a b c d whole : List (ℕ × FixBox)) → p ≡ a → q ≡ b → r ≡ c → s ≡ d → a ++ (b ++ (c ++ d)) ≡ whole
     → map (λ b. b.0) p ++ (map (λ b. b.0) q ++ (map (λ b. b.0) r ++ (map (λ b. b.0) s ++ []))) ≡ map (λ b. b.0) whole
@@ -279,7 +284,7 @@ IsNumbered-more bodies runs children nodes count slot r h below start size paren
       made = omega arith;
       start = ap (λ (s : Run). s.start) new ∙ start ∙ sym (slot_start-stays runs runs' count slot stay under);
       size = ap (λ (s : Run). s.size) new ∙ size ∙ sym (slot_size-stays runs runs' count slot stay under);
-      parent = ap (λ (s : Run). s.parent) new ∙ parent
+      parent = ap (λ (s : Run). s.parent) new ∙ parent;
     } in
     let same_size : slot_size runs' slot ≡ r.size = slot_size-stays runs runs' count slot stay under ∙ sym size in record {
       root_start = ap (λ (s : Run). s.start) (stay 0 h.first) ∙ h.root_start;
@@ -289,9 +294,16 @@ IsNumbered-more bodies runs children nodes count slot r h below start size paren
       places = subst (λ k. 4 * nodes ≤ k) (sym (length-set children slot (Node count))) h.places;
       first = omega arith;
       reached = omega arith;
-      still = omega (arith, h.still, needs_next runs count slot under, need_of_run-two need (slot_size runs slot) (omega arith), ap need size,
-          needs_split runs' (slot + 1) rest 4 (4 * (count + 1) - (slot + 1)) (4 * count) longer from, needs_same runs runs' count stay (slot + 1) rest (omega arith),
-          needs_new runs' count (4 * count) r new refl (omega arith));
+      still = omega (
+        arith,
+        h.still,
+        needs_next runs count slot under,
+        need_of_run-two need (slot_size runs slot) (omega arith),
+        ap need size,
+        needs_split runs' (slot + 1) rest 4 (4 * (count + 1) - (slot + 1)) (4 * count) longer from,
+        needs_same runs runs' count stay (slot + 1) rest (omega arith),
+        needs_new runs' count (4 * count) r new refl (omega arith),
+      );
       within = below_more (λ n. (0 < (run_at runs' n).size) × ((run_at runs' n).start + (run_at runs' n).size ≤ length bodies)) count
           (λ n made. subst (λ (s : Run). (0 < s.size) × (s.start + s.size ≤ length bodies)) (sym (stay n made)) (h.within n made))
           (subst (λ (s : Run). (0 < s.size) × (s.start + s.size ≤ length bodies)) (sym new) (omega arith, omega (arith, slot_within bodies runs children nodes count slot h slot under)));
@@ -300,8 +312,8 @@ IsNumbered-more bodies runs children nodes count slot r h below start size paren
           (record { none = λ p. absurd (omega arith); one = λ b p q. absurd (omega arith); more = λ _. (count, node) });
       parents = λ n some made. below_more (λ k. 0 < k → (t : ℕ) × (t < slot + 1) × IsNodeAt runs' children' (count + 1) t k) count
           (λ k made some.
-              let p = h.parents k some made in
-              (p.0, omega (arith, p.1), IsNodeAt-stays runs runs' children children' count (count + 1) p.0 k (child_stays children slot p.0 (Node count) p.1) (omega arith) stay (omega (arith, p.1)) p.2))
+          let p = h.parents k some made in
+          (p.0, omega (arith, p.1), IsNodeAt-stays runs runs' children children' count (count + 1) p.0 k (child_stays children slot p.0 (Node count) p.1) (omega arith) stay (omega (arith, p.1)) p.2))
           (λ some. (slot, omega arith, node)) n made some;
       numbers =
           let longer_range : count + 1 - 1 ≡ suc (count - 1) = omega (arith, h.first) in
@@ -312,7 +324,7 @@ IsNumbered-more bodies runs children nodes count slot r h below start size paren
           (indexes_next bodies runs count slot under)
           (indexes_split bodies runs' (slot + 1) rest 4 (4 * (count + 1) - (slot + 1)) (4 * count) longer from ∙ ap (λ ys. ys ++ indexes_from bodies runs' (4 * count) 4) (indexes_same bodies runs runs' count stay (slot + 1) rest (omega arith)))
           (indexes_new bodies runs' count (4 * count) r new refl ∙ ap (λ k. map (λ b. b.0) (part bodies k r.size)) start ∙ ap (λ k. map (λ b. b.0) (part bodies (slot_start runs slot) k)) size)
-          (picked_more body_of children slot (Node count) within ∙ append-nil (filter_map body_of (take slot children))) h.once
+          (picked_more body_of children slot (Node count) within ∙ append-nil (filter_map body_of (take slot children))) h.once;
     }
 
 -- ---- before the first slot
@@ -339,5 +351,5 @@ IsNumbered-start bodies runs children nodes r some needed room places start size
       once =
           let all : indexes_from bodies runs' 0 4 ≡ map (λ b. b.0) bodies =
           indexes_new bodies runs' 0 0 r new refl ∙ ap (λ k. map (λ b. b.0) (part bodies k r.size)) start ∙ ap (λ k. map (λ b. b.0) (part bodies 0 k)) size ∙ ap (map (λ b. b.0)) (part-whole bodies) in
-          subst (λ (ys : List ℕ). IsPermutation (map (λ b. b.0) bodies) ys) (sym all) (IsPermutation-refl (map (λ b. b.0) bodies))
+          subst (λ (ys : List ℕ). IsPermutation (map (λ b. b.0) bodies) ys) (sym all) (IsPermutation-refl (map (λ b. b.0) bodies));
     }

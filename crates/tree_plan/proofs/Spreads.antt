@@ -1,5 +1,5 @@
 -- The spread of some bodies, and so their widest axis, depends on the set of them alone.
-use Rattle.std.proofs.Common.{◌≡◌, ℕ, Bool, true, false, cond, ◌⊎◌, inl, inr, List, [], ◌∷◌, map, fold, ℤ, pos, ◌≤ℤ◌, ◌-ℤ◌, refl, sym, ◌∙◌, ap, subst, arith}
+use Rattle.std.proofs.Common.{◌≡◌, ℕ, Bool, true, false, cond, ◌⊎◌, inl, inr, List, [], ◌∷◌, map, fold, ℤ, ◌≤ℤ◌, ◌-ℤ◌, refl, sym, ◌∙◌, ap, subst, arith}
 use Rattle.std.specs.Prelude.{int_lt}
 use Rattle.std.specs.Int.{int_max, int_min}
 use Rattle.std.specs.List.Sorted.{IsPermutation}
@@ -79,7 +79,7 @@ greatest_chooses = record {
   antisymmetric = λ x y p q. omega (arith, ints);
   first = λ x y. omega (arith, ints, clamps);
   second = λ x y. omega (arith, ints, clamps);
-  one = λ x y. cond_one (int_lt y x) x y
+  one = λ x y. cond_one (int_lt y x) x y;
 }
 
 least_chooses : Chooses int_min (λ x y. y ≤ℤ x)
@@ -89,7 +89,7 @@ least_chooses = record {
   antisymmetric = λ x y p q. omega (arith, ints);
   first = λ x y. omega (arith, ints, clamps);
   second = λ x y. omega (arith, ints, clamps);
-  one = λ x y. cond_other (int_lt y x) y x
+  one = λ x y. cond_other (int_lt y x) y x;
 }
 
 spread_same : (axis : ℕ) (xs ys : List (ℕ × FixBox)) → ((z : ℕ × FixBox) → In z xs → In z ys) → ((z : ℕ × FixBox) → In z ys → In z xs) → spread axis xs ≡ spread axis ys

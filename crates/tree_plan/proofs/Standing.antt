@@ -1,11 +1,11 @@
 -- The tree over bodies is the tree that stands over them once they are arranged.
-use Rattle.std.proofs.Common.{◌≡◌, ℕ, zero, suc, ◌+◌, ◌-◌, ◌/◌, ◌<◌, ◌≤◌, ◌⊎◌, inl, inr, List, [], ◌∷◌, ◌++◌, length, take, drop, refl, sym, ◌∙◌, ap, arith}
+use Rattle.std.proofs.Common.{◌≡◌, ℕ, zero, suc, ◌-◌, ◌/◌, ◌<◌, ◌≤◌, ◌⊎◌, inl, inr, List, [], ◌∷◌, ◌++◌, length, take, drop, refl, sym, ◌∙◌, ap, arith}
 use Rattle.std.proofs.lemmas.Bool.{cases_lt}
 use Rattle.std.proofs.lemmas.List.{take-append-le, drop-append-le, take_all, drop_all}
 use Rattle.std.proofs.lemmas.List.Sorted.{length_permutation}
 use Rattle.fixed_box.specs.declared.fix_box.FixBox.{FixBox}
-use Rattle.scene_model.specs.Tree.{Tree, nothing, body, node, front_half, back_half, child_of, tree_within, tree}
-use Rattle.scene_model.proofs.Trees.{length-front_half, length-back_half, same_node}
+use Rattle.scene_model.specs.Tree.{Tree, front_half, back_half, child_of, tree_within, tree}
+use Rattle.scene_model.proofs.Trees.{length-front_half, same_node}
 use Rattle.std.specs.List.Sorted.{IsPermutation}
 use Rattle.tree_plan.specs.Arranged.{AreApart, arranged}
 use Rattle.tree_plan.specs.Standing.{front_of, back_of, standing_within}

@@ -9,8 +9,8 @@ use fixed_box::FixBox;
 
 /// Puts the bodies with the least keys on an axis first, so many of them, in any order.
 ///
-/// The room is written over. It is where the keys are selected, since a selection hands out the parts that it
-/// makes and says nothing of the whole.
+/// The room is written over: the bodies are selected there and copied back, since a selection tells of the parts
+/// that it hands out, and nothing of the whole that they leave.
 fn split(bodies: &mut [(u32, FixBox)], room: &mut [(u32, FixBox)], front: usize, axis: Axis)
     requires within { front < length bodies.old }
     requires room { length bodies.old ≤ length room.old }

@@ -72,11 +72,7 @@ impl Extent {
         ensures high_in { IsCentre self.high → IsCentre result.high }
     {
         let centre = centre(body, axis);
-        let low = if centre < self.low {
-            centre
-        } else {
-            self.low
-        };
+        let low = if centre < self.low { centre } else { self.low };
         let high = if centre < self.high {
             self.high
         } else {

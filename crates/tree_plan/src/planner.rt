@@ -33,9 +33,9 @@ impl Model for Planner {
     ghost Value = { Plan };
 
     ghost view = { λ p. record {
-        most = p.most;
-        children = take (4 * p.len) p.children.items;
-        parents = map (λ r. r.parent) (take p.len p.runs.items)
+      most = p.most;
+      children = take (4 * p.len) p.children.items;
+      parents = map (λ r. r.parent) (take p.len p.runs.items);
     } };
 
     ghost invariant = { λ p. (p.most ≤ 1048576) × (p.len ≤ need p.most) × (need p.most ≤ vec_len p.runs)
@@ -45,7 +45,8 @@ impl Model for Planner {
 impl Planner {
     ghost use Rattle.tree_plan.specs.Plan.{node_count, child_at, parent_at, IsPlanOf};
 
-    /// A planner for so many bodies at most. It has no nodes yet, and all memory that it ever takes.
+    /// A planner for so many bodies at most. It has no nodes yet. It takes all memory that it ever needs, and fails
+    /// where there is not enough.
     pub fn new(alloc: Global, most: u32) -> Result<Planner, AllocError>
         requires { most ≤ 1048576 }
         ensures { IfOk result (λ p. p ≡ record { most = most; children = []; parents = [] }) }
@@ -70,8 +71,8 @@ impl Planner {
         })
     }
 
-    /// Plans the tree over these bodies, in place of the tree before, and leaves them in the order in which they
-    /// stand in it. It takes no memory.
+    /// Plans the tree over these bodies, in place of the tree before. It puts the bodies in another order and takes
+    /// no memory.
     pub fn fill(&mut self, bodies: &mut [(u32, FixBox)])
         requires few { length bodies.old ≤ self.old.most }
         requires apart { AreApart bodies.old }
@@ -84,12 +85,7 @@ impl Planner {
         let nodes = need(bodies.len() as u32);
         self.len = nodes;
         if nodes > 0 {
-            number_nodes(
-                bodies,
-                &mut self.runs,
-                &mut self.children,
-                nodes as usize,
-            );
+            number_nodes(bodies, &mut self.runs, &mut self.children, nodes as usize);
         }
     }
 

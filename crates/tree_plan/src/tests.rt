@@ -115,8 +115,7 @@ fn nodes_from(
             PlanChild::Node(m)
                 if part.len() > 1
                     && m < planner.len()
-                    && planner.parent(m) == Some((node, child)) =>
-            {
+                    && planner.parent(m) == Some((node, child)) => {
                 nodes_from(alloc, levels - 1, planner, m, part)?
             }
             _ => WRONG,

@@ -1,9 +1,5 @@
-use Rattle.std.proofs.Common.{◌≡◌, ◌<◌, ℕ, List, length, sym, ap, subst, arith}
-use Rattle.std.specs.List.Sorted.{IsPermutation}
-use Rattle.std.proofs.lemmas.List.{take_all}
-use Rattle.fixed_box.specs.declared.fix_box.FixBox.{FixBox}
-use Rattle.tree_plan.specs.Arranged.{AreApart, arranged}
-use Rattle.tree_plan.proofs.Arrangement.{arranged-few, arranged-by_halves, front_apart, back_apart, front_part, back_part}
+use Rattle.std.proofs.Common.{arith}
+use Rattle.tree_plan.proofs.Arrangement.{arranged-by_halves, front_apart, back_apart, front_part, back_part}
 use Rattle.tree_plan.proofs.arrange.+arrange.Goals as goal
 
 pub arrange-requires : goal.arrange-requires

@@ -1,10 +1,9 @@
-use Rattle.std.proofs.Common.{◌≡◌, ◌+◌, ℕ, List, [], ◌∷◌, ◌++◌, length, slice_set, sym, ◌∙◌, ap, subst, rules, arith}
+use Rattle.std.proofs.Common.{◌≡◌, ◌∷◌, subst, rules, arith}
 use Rattle.std.specs.Ordering.{nat_cmp}
 use Rattle.std.specs.List.Sorted.{IsSplitAroundByKey}
 use Rattle.std.proofs.lemmas.Fn.{always_returns_same}
 use Rattle.std.proofs.lemmas.List.{length-append}
 use Rattle.std.proofs.lemmas.List.Sorted.{length_permutation}
-use Rattle.fixed_box.specs.declared.fix_box.FixBox.{FixBox}
 use Rattle.tree_plan.specs.Axes.{axis_number, key_of}
 use Rattle.tree_plan.specs.Arranged.{IsSplit}
 use Rattle.tree_plan.proofs.Splits.{IsSplit-from_around, put_together}

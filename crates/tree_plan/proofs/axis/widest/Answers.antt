@@ -1,7 +1,6 @@
-use Rattle.std.proofs.Common.{◌≡◌, true, false, refl, ◌∙◌, ℤ, arith}
+use Rattle.std.proofs.Common.{◌≡◌, true, false, refl, ◌∙◌, arith}
 use Rattle.std.specs.Prelude.{int_lt}
 use Rattle.std.proofs.lemmas.Int.{ints, to_z-of_z}
-use Rattle.scene_model.specs.Tree.{spread}
 use Rattle.tree_plan.proofs.Extents.{widest_by, int_lt-same}
 use Rattle.tree_plan.proofs.axis.widest.Goals as goal
 

@@ -1,4 +1,4 @@
-use Rattle.std.proofs.Common.{◌≡◌, false, true, sym, refl, arith}
+use Rattle.std.proofs.Common.{refl, arith}
 use Rattle.std.proofs.lemmas.Bool.{false≢true}
 use Rattle.tree_plan.proofs.Rising.{AreApart-from_rising, rising_from_all, not_rising}
 use Rattle.tree_plan.proofs.indexes.indexes_rise.Goals as goal

@@ -19,11 +19,11 @@ insert_permutes_by axis b x xs false h =
     (IsPermutation-sym (x ∷ b ∷ xs) (b ∷ x ∷ xs) (IsPermutation-middle (x ∷ []) b xs))
     (IsPermutation-cons x (b ∷ xs) (insert_in_order axis b xs) h)
 
-insert_permutes : (axis : ℕ) (b : ℕ × FixBox) (xs : List (ℕ × FixBox)) → IsPermutation (b ∷ xs) (insert_in_order axis b xs)
+pub insert_permutes : (axis : ℕ) (b : ℕ × FixBox) (xs : List (ℕ × FixBox)) → IsPermutation (b ∷ xs) (insert_in_order axis b xs)
 insert_permutes axis b [] = IsPermutation-refl (b ∷ [])
 insert_permutes axis b (x ∷ xs) = insert_permutes_by axis b x xs (comes_before axis b x) (insert_permutes axis b xs)
 
-in_order_permutes : (axis : ℕ) (xs : List (ℕ × FixBox)) → IsPermutation xs (in_order axis xs)
+pub in_order_permutes : (axis : ℕ) (xs : List (ℕ × FixBox)) → IsPermutation xs (in_order axis xs)
 in_order_permutes axis [] = IsPermutation-refl []
 in_order_permutes axis (x ∷ xs) =
     IsPermutation-trans (x ∷ xs) (x ∷ in_order axis xs) (insert_in_order axis x (in_order axis xs))
@@ -31,17 +31,17 @@ in_order_permutes axis (x ∷ xs) =
     (insert_permutes axis x (in_order axis xs))
 
 -- the two halves hold each body once
-halves_permute : (xs : List (ℕ × FixBox)) → IsPermutation xs (front_half xs ++ back_half xs)
+pub halves_permute : (xs : List (ℕ × FixBox)) → IsPermutation xs (front_half xs ++ back_half xs)
 halves_permute xs =
     subst (λ (ys : List (ℕ × FixBox)). IsPermutation xs ys) (sym (take-append-drop (length xs - length xs / 2) (sorted xs))) (in_order_permutes (widest xs) xs)
 
-length-sorted : (xs : List (ℕ × FixBox)) → length (sorted xs) ≡ length xs
+pub length-sorted : (xs : List (ℕ × FixBox)) → length (sorted xs) ≡ length xs
 length-sorted xs = length_permutation xs (sorted xs) (in_order_permutes (widest xs) xs)
 
-length-front_half : (xs : List (ℕ × FixBox)) → length (front_half xs) ≡ length xs - length xs / 2
+pub length-front_half : (xs : List (ℕ × FixBox)) → length (front_half xs) ≡ length xs - length xs / 2
 length-front_half xs = omega (arith, length-take (length xs - length xs / 2) (sorted xs), length-sorted xs)
 
-length-back_half : (xs : List (ℕ × FixBox)) → length (back_half xs) ≡ length xs / 2
+pub length-back_half : (xs : List (ℕ × FixBox)) → length (back_half xs) ≡ length xs / 2
 length-back_half xs = omega (arith, length-drop (length xs - length xs / 2) (sorted xs), length-sorted xs)
 
 -- ---- a child, and the four of them
@@ -68,11 +68,11 @@ child_of-agree f g [] h = refl
 child_of-agree f g (b ∷ []) h = refl
 child_of-agree f g (b ∷ c ∷ rest) h = h (omega arith)
 
-same_node : (a b c d e f g h : Tree) → a ≡ e → b ≡ f → c ≡ g → d ≡ h → node a b c d ≡ node e f g h
+pub same_node : (a b c d e f g h : Tree) → a ≡ e → b ≡ f → c ≡ g → d ≡ h → node a b c d ≡ node e f g h
 same_node a b c d e f g h p q r s = cc
 
 -- what holds of a list's halves holds of the four runs
-in_runs : (P : List (ℕ × FixBox) → Type 0) (most : ℕ) (xs : List (ℕ × FixBox)) → length xs ≤ 4 * most
+pub in_runs : (P : List (ℕ × FixBox) → Type 0) (most : ℕ) (xs : List (ℕ × FixBox)) → length xs ≤ 4 * most
     → ((run : List (ℕ × FixBox)) → length run ≤ most → (2 ≤ length run → length run < length xs) → P run)
     → P (front_half (front_half xs)) × P (back_half (front_half xs)) × P (front_half (back_half xs)) × P (back_half (back_half xs))
 in_runs P most xs fits h =

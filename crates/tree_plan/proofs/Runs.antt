@@ -3,7 +3,7 @@ use Rattle.std.proofs.Common.{◌≡◌, ℕ, zero, suc, ◌+◌, ◌-◌, ◌*�
 use Rattle.scene_model.specs.Need.{run_sizes, need_of_run, need}
 use Rattle.scene_model.proofs.Needs.{need-more, need-small, need_of_run-two}
 
-sum_of_runs : (f : ℕ → ℕ) (n e g h i : ℕ) → (n - n / 2) - (n - n / 2) / 2 ≡ e → (n - n / 2) / 2 ≡ g → n / 2 - n / 2 / 2 ≡ h → n / 2 / 2 ≡ i
+pub sum_of_runs : (f : ℕ → ℕ) (n e g h i : ℕ) → (n - n / 2) - (n - n / 2) / 2 ≡ e → (n - n / 2) / 2 ≡ g → n / 2 - n / 2 / 2 ≡ h → n / 2 / 2 ≡ i
     → sum (map f (run_sizes n)) ≡ f e + f g + f h + f i
 sum_of_runs f n e g h i p q r s = omega (arith, ap f p, ap f q, ap f r, ap f s)
 

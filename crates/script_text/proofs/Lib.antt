@@ -1,11 +1,13 @@
 pub mod Digits
 pub mod Numbers
 pub mod Words
+pub mod Texts
+pub mod Places
+pub mod Printing
 pub mod Boxes
+pub mod Sizes
 pub mod Counts
-pub mod Limits
 pub mod Cuts
 pub mod FirstWord
 pub mod Drafts
 pub mod Parsing
-pub mod Places

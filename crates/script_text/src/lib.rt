@@ -1,19 +1,29 @@
-//! The text of scripts: which lines a script may have, and how replies are written.
+//! The text of scripts: which bytes are a script and what it asks for, and the lines of its replies.
 //!
-//! It stands on boxes, ids and the sizes of a world; the player and the top call stand on it. The layer above uses
-//! that `parse` answers a script exactly where the bytes spell one, and else names the first bad line.
+//! Below stand boxes and segments, body ids, the view of a body and the sizes of a world. Above stands the
+//! player, which runs a script's commands and writes a reply for each.
+//!
+//! The promise: `parse` reads exactly the bytes that are a script, and of others it names the first line that is
+//! wrong and the first thing that is wrong with it.
 #![tactic(auto)]
 
+mod adding;
+mod appending;
 mod code;
 mod command;
+mod commands;
 mod draft;
 mod fields;
 mod id_list;
 mod keyword;
+mod limits;
 mod lines;
+mod multi;
+mod name_fields;
 mod names;
 mod number;
 mod reading;
+mod refusal;
 mod reply;
 mod script;
 mod text;
@@ -21,11 +31,11 @@ mod text;
 pub use code::{Code, LineError};
 pub use command::Command;
 pub use id_list::IdList;
+pub use limits::{MAX_LINES, MAX_MULTI};
+pub use multi::{MultiItem, MultiList};
 pub use names::Names;
 pub use reading::parse;
-pub use reply::{Refusal, Reply, reply_line};
-pub use script::{CommandList, MAX_LINES, Script, ScriptFault};
+pub use refusal::Refusal;
+pub use reply::{Reply, reply_line};
+pub use script::{CommandList, Script, ScriptFault};
 pub use text::{Text, TextList};
-
-#[cfg(test)]
-mod tests;

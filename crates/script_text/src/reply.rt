@@ -1,32 +1,17 @@
-ghost use Rattle.std.specs.Prelude.{◌≡◌, ◌∷◌, ◌++◌, OnOk, OnErr, take, length};
+ghost use Rattle.std.specs.Prelude.{◌≡◌, ◌∷◌, ◌++◌, OnOk, OnErr, take, length, decimal};
 ghost use Rattle.std.specs.List.{flat_map};
 ghost use Rattle.body_ident.specs.Text.{id_text};
-ghost use Rattle.script_text.specs.Reply.{refusal_text, hits_text, reply_words, reply_text};
+ghost use Rattle.script_text.specs.Printed.{spaced};
+ghost use Rattle.script_text.specs.Reply.{phase_text, body_words, item_text, hits_text, reply_words, reply_text};
 
+use crate::appending::{append_box, append_number, append_word};
 use crate::id_list::IdList;
+use crate::multi::{MultiItem, MultiList};
+use crate::refusal::Refusal;
 use body_ident::BodyId;
+use itoa::Buffer;
+use scene_model::{BodyView, Phase};
 use std::alloc::AllocError;
-
-/// Why a command was refused.
-#[derive(Clone, Copy, Debug, PartialEq, Eq)]
-pub enum Refusal {
-    /// A name stands for no id.
-    NoId,
-    /// Every index is live.
-    Full,
-    /// The id names no body that is live.
-    Gone,
-    /// The layer has no free slot.
-    NoSlot,
-    /// Too few nodes are free.
-    NoNodes,
-    /// A batch holds the body.
-    Held,
-    /// The body is in the broad phase already.
-    AlreadyIn,
-    /// The body is in another layer.
-    WrongLayer,
-}
 
 /// The answer to a command.
 #[derive(Debug, Drop)]
@@ -37,36 +22,44 @@ pub enum Reply {
     Done,
     /// It was not, and nothing changed.
     Refused(Refusal),
+    /// What there is to know of a body.
+    Body(BodyView),
+    /// The id names no body that is live.
+    Gone,
+    /// The user numbers of several bodies.
+    Multi(MultiList),
     /// The bodies that a query found, ascending by index.
     Hits(IdList),
 }
 
-impl Refusal {
-    /// Its name in small letters.
-    fn text(self) -> &'static [u8]
-        ensures { result.now ≡ refusal_text self }
-    {
-        match self {
-            Refusal::NoId => b"noid",
-            Refusal::Full => b"full",
-            Refusal::Gone => b"gone",
-            Refusal::NoSlot => b"noslot",
-            Refusal::NoNodes => b"nonodes",
-            Refusal::Held => b"held",
-            Refusal::AlreadyIn => b"alreadyin",
-            Refusal::WrongLayer => b"wronglayer",
-        }
+/// The name of a phase in small letters.
+fn phase_text(phase: Phase) -> &'static [u8]
+    ensures { result.now ≡ phase_text phase }
+{
+    match phase {
+        Phase::Out => b"out",
+        Phase::Held => b"held",
+        Phase::In => b"in",
     }
 }
 
+/// Appends a space and an id.
+fn append_id(id: BodyId, out: &mut Vec<u8>) -> Result<(), AllocError>
+    ensures ok { OnOk result (out.new.items ≡ out.old.items ++ 32 ∷ id_text id) }
+    ensures err { OnErr result (take (length out.old.items) out.new.items ≡ out.old.items) }
+{
+    out.extend_from_slice(b" ")?;
+    id.write_text(out)
+}
+
 /// Appends a space and an id, for each id.
+#[tactic(auto, using(crate::proofs::Printing::front_kept))]
 fn append_ids(ids: &[BodyId], out: &mut Vec<u8>) -> Result<(), AllocError>
     ensures ok { OnOk result (out.new.items ≡ out.old.items ++ flat_map (λ i. 32 ∷ id_text i) ids.now) }
     ensures err { OnErr result (take (length out.old.items) out.new.items ≡ out.old.items) }
 {
     for id in ids {
-        out.extend_from_slice(b" ")?;
-        id.write_text(out)?;
+        append_id(*id, out)?;
     }
     Ok(())
 }
@@ -83,6 +76,54 @@ fn append_hits(ids: &[BodyId], out: &mut Vec<u8>) -> Result<(), AllocError>
     }
 }
 
+/// Appends an id, `=` and a user number, behind a space.
+#[tactic(auto, using(crate::proofs::Printing::front_kept))]
+fn append_user(id: BodyId, user: u32, out: &mut Vec<u8>) -> Result<(), AllocError>
+    ensures ok { OnOk result (out.new.items ≡ out.old.items ++ 32 ∷ (id_text id ++ 61 ∷ decimal user)) }
+    ensures err { OnErr result (take (length out.old.items) out.new.items ≡ out.old.items) }
+{
+    append_id(id, out)?;
+    out.extend_from_slice(b"=")?;
+    let mut buffer = Buffer::new();
+    out.extend_from_slice(buffer.format(user).as_bytes())
+}
+
+/// Appends a space and an item.
+fn append_item(item: MultiItem, out: &mut Vec<u8>) -> Result<(), AllocError>
+    ensures ok { OnOk result (out.new.items ≡ out.old.items ++ 32 ∷ item_text item) }
+    ensures err { OnErr result (take (length out.old.items) out.new.items ≡ out.old.items) }
+{
+    match item {
+        MultiItem::User { id, user } => append_user(id, user, out),
+        MultiItem::Gone => append_word(b"gone", out),
+    }
+}
+
+/// Appends a space and an item, for each item.
+#[tactic(auto, using(crate::proofs::Printing::front_kept))]
+fn append_items(items: &[MultiItem], out: &mut Vec<u8>) -> Result<(), AllocError>
+    ensures ok { OnOk result (out.new.items ≡ out.old.items ++ flat_map (λ item. 32 ∷ item_text item) items.now) }
+    ensures err { OnErr result (take (length out.old.items) out.new.items ≡ out.old.items) }
+{
+    for item in items {
+        append_item(*item, out)?;
+    }
+    Ok(())
+}
+
+/// Appends what stands behind the word `body`.
+#[tactic(auto, using(crate::proofs::Printing::spaced_append, crate::proofs::Printing::front_kept))]
+fn append_body(view: &BodyView, out: &mut Vec<u8>) -> Result<(), AllocError>
+    ensures ok { OnOk result (out.new.items ≡ out.old.items ++ spaced (body_words view.now)) }
+    ensures err { OnErr result (take (length out.old.items) out.new.items ≡ out.old.items) }
+{
+    append_id(view.id, out)?;
+    append_number(view.layer, out)?;
+    append_box(&view.bounds, out)?;
+    append_number(view.user, out)?;
+    append_word(phase_text(view.phase), out)
+}
+
 /// Appends the line of a reply without its newline; an error may leave a part of it.
 fn append_reply(reply: &Reply, out: &mut Vec<u8>) -> Result<(), AllocError>
     ensures ok { OnOk result (out.new.items ≡ out.old.items ++ reply_words reply.now) }
@@ -97,6 +138,15 @@ fn append_reply(reply: &Reply, out: &mut Vec<u8>) -> Result<(), AllocError>
         Reply::Refused(refusal) => {
             out.extend_from_slice(b"refused ")?;
             out.extend_from_slice(refusal.text())
+        }
+        Reply::Body(view) => {
+            out.extend_from_slice(b"body")?;
+            append_body(view, out)
+        }
+        Reply::Gone => out.extend_from_slice(b"gone"),
+        Reply::Multi(list) => {
+            out.extend_from_slice(b"multi")?;
+            append_items(list.items(), out)
         }
         Reply::Hits(ids) => {
             out.extend_from_slice(b"hits")?;

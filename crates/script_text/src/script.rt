@@ -4,9 +4,6 @@ use std::alloc::{AllocError, AllocFailed};
 use std::marker::Model;
 use word_map::Config;
 
-/// The most lines of a script.
-pub const MAX_LINES: u32 = 200_000;
-
 /// The command lines of a script, in order.
 #[derive(Debug, Drop)]
 pub struct CommandList {
@@ -45,7 +42,7 @@ impl CommandList {
 pub struct Script {
     /// The sizes of the world. `passes` is 1 + `actors` + `most_workers`.
     pub world: Config,
-    /// One command for each line below `world`.
+    /// One command for each command line below `world`.
     pub lines: CommandList,
     /// How many actors there are: none, until they are built.
     pub actors: u32,

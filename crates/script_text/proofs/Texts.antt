@@ -8,10 +8,6 @@ use Rattle.script_text.specs.Lines.{texts}
 both : (a b : Bool) → a ≡ true → b ≡ true → (a && b) ≡ true
 both a b h k = grind arith
 
--- a test of all texts
-pub all_texts : (p : List ℕ → Bool) (words : List (Bor (List ℕ))) → list_all p (texts words) ≡ list_all (λ w. p w.now) words
-all_texts p words = list_all-map p (λ (w : Bor (List ℕ)). w.now) words
-
 -- one word more that passes a test
 pub all_more : (p : List ℕ → Bool) (words : List (Bor (List ℕ))) (i : ℕ) (d : Bor (List ℕ)) → i < length words
     → list_all p (texts (take i words)) ≡ true → p (get_or words i d).now ≡ true → list_all p (texts (take (i + 1) words)) ≡ true

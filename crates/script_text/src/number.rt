@@ -52,11 +52,16 @@ fn is_number(word: &[u8]) -> bool
 }
 
 /// Whether all words are numbers.
-#[tactic(auto, using(crate::proofs::Texts::all_texts))]
+#[tactic(auto, using(crate::proofs::Texts::all_more, crate::proofs::Texts::all_fails))]
 pub fn are_numbers(words: &[&[u8]]) -> bool
     ensures { result ≡ list_all is_number (texts words.now) }
 {
-    words.iter().all(|word| is_number(word))
+    for word in words {
+        if !is_number(word) {
+            return false;
+        }
+    }
+    true
 }
 
 /// The number that a word stands for, cut off at `FAR` on both sides.

@@ -11,6 +11,8 @@ pub mod Above
 pub mod Grammar
 pub mod Line
 pub mod Draft
-pub mod Script
 pub mod Printed
+pub mod Fitting
+pub mod Sound
+pub mod Script
 pub mod Reply

@@ -1,7 +1,7 @@
 use Rattle.std.proofs.Common.{rules, ◌∷◌, take}
 use Rattle.std.specs.List.{flat_map}
 use Rattle.script_text.specs.Reply.{item_text}
-use Rattle.script_text.proofs.Printing.{front_kept}
+use Rattle.script_text.proofs.Spaced.{front_kept}
 use Rattle.script_text.proofs.reply.append_items.Goals as goal
 
 pub returns-in_err-append_item-clause-err : goal.returns-in_err-append_item-clause-err

@@ -1,5 +1,5 @@
 ghost use Rattle.std.specs.Prelude.{◌≡◌, [], ◌∷◌, ◌++◌, OnOk, IfOk, codes, decimal, None};
-ghost use Rattle.script_text.specs.declared.command.Command.TheVariants.{Create};
+ghost use Rattle.script_text.specs.declared.command.Command.TheVariants.{Create, Prepare, Move, User, QueryBox, QueryPoint, QueryRay};
 ghost use Rattle.std.specs.List.{flat_map};
 ghost use Rattle.script_text.specs.Command.{world_words, command_words};
 ghost use Rattle.script_text.specs.Printed.{line_text, text_of};
@@ -13,7 +13,7 @@ use crate::appending::{
 use crate::command::Command;
 use crate::script::Script;
 use crate::text::Text;
-use fixed_box::FixBox;
+use fixed_box::{Coord, FixBox, Segment};
 use std::alloc::{AllocError, Global};
 use word_map::Config;
 
@@ -58,6 +58,61 @@ fn append_create(
     append_number(user, out)
 }
 
+/// Appends the words of a batch that is prepared.
+#[tactic(auto, using(crate::proofs::Spaced::spaced_append))]
+fn append_prepare(
+    batch: &Text,
+    layer: u32,
+    names: &[Text],
+    out: &mut Vec<u8>,
+) -> Result<(), AllocError>
+    ensures { OnOk result (out.new.items ≡ out.old.items ++ line_text (command_words (Prepare batch.now layer names.now))) }
+{
+    append_named(b"prepare", batch.items(), out)?;
+    append_number(layer, out)?;
+    append_names(names, out)
+}
+
+/// Appends the words of a move.
+fn append_move(name: &Text, bounds: &FixBox, out: &mut Vec<u8>) -> Result<(), AllocError>
+    ensures { OnOk result (out.new.items ≡ out.old.items ++ line_text (command_words (Move name.now bounds.now))) }
+{
+    append_named(b"move", name.items(), out)?;
+    append_box(bounds, out)
+}
+
+/// Appends the words that give a body a user number.
+fn append_user(name: &Text, user: u32, out: &mut Vec<u8>) -> Result<(), AllocError>
+    ensures { OnOk result (out.new.items ≡ out.old.items ++ line_text (command_words (User name.now user))) }
+{
+    append_named(b"user", name.items(), out)?;
+    append_number(user, out)
+}
+
+/// Appends the words of a query of a box.
+fn append_query_box(mask: u8, bounds: &FixBox, out: &mut Vec<u8>) -> Result<(), AllocError>
+    ensures { OnOk result (out.new.items ≡ out.old.items ++ line_text (command_words (QueryBox mask bounds.now))) }
+{
+    append_numbered(b"box", u32::from(mask), out)?;
+    append_box(bounds, out)
+}
+
+/// Appends the words of a query of a point.
+fn append_query_point(mask: u8, at: &[Coord; 3], out: &mut Vec<u8>) -> Result<(), AllocError>
+    ensures { OnOk result (out.new.items ≡ out.old.items ++ line_text (command_words (QueryPoint mask at.now))) }
+{
+    append_numbered(b"point", u32::from(mask), out)?;
+    append_corner(at, out)
+}
+
+/// Appends the words of a query of a segment.
+fn append_query_ray(mask: u8, segment: &Segment, out: &mut Vec<u8>) -> Result<(), AllocError>
+    ensures { OnOk result (out.new.items ≡ out.old.items ++ line_text (command_words (QueryRay mask segment.now))) }
+{
+    append_numbered(b"ray", u32::from(mask), out)?;
+    append_segment(segment, out)
+}
+
 /// Appends the words of a command.
 fn append_command(command: &Command, out: &mut Vec<u8>) -> Result<(), AllocError>
     ensures { OnOk result (out.new.items ≡ out.old.items ++ line_text (command_words command.now)) }
@@ -75,36 +130,17 @@ fn append_command(command: &Command, out: &mut Vec<u8>) -> Result<(), AllocError
             batch,
             layer,
             names,
-        } => {
-            append_named(b"prepare", batch.items(), out)?;
-            append_number(*layer, out)?;
-            append_names(names.items(), out)
-        }
+        } => append_prepare(batch, *layer, names.items(), out),
         Command::Finalize { batch } => append_named(b"finalize", batch.items(), out),
         Command::Abort { batch } => append_named(b"abort", batch.items(), out),
         Command::Remove { name } => append_named(b"remove", name.items(), out),
-        Command::Move { name, bounds } => {
-            append_named(b"move", name.items(), out)?;
-            append_box(bounds, out)
-        }
-        Command::User { name, user } => {
-            append_named(b"user", name.items(), out)?;
-            append_number(*user, out)
-        }
+        Command::Move { name, bounds } => append_move(name, bounds, out),
+        Command::User { name, user } => append_user(name, *user, out),
         Command::Read { name } => append_named(b"read", name.items(), out),
         Command::Multi { names } => append_listed(b"multi", names.items(), out),
-        Command::QueryBox { mask, bounds } => {
-            append_numbered(b"box", u32::from(*mask), out)?;
-            append_box(bounds, out)
-        }
-        Command::QueryPoint { mask, at } => {
-            append_numbered(b"point", u32::from(*mask), out)?;
-            append_corner(at, out)
-        }
-        Command::QueryRay { mask, segment } => {
-            append_numbered(b"ray", u32::from(*mask), out)?;
-            append_segment(segment, out)
-        }
+        Command::QueryBox { mask, bounds } => append_query_box(*mask, bounds, out),
+        Command::QueryPoint { mask, at } => append_query_point(*mask, at, out),
+        Command::QueryRay { mask, segment } => append_query_ray(*mask, segment, out),
     }
 }
 

@@ -17,7 +17,7 @@ use Rattle.script_text.specs.Fitting.{all_fit}
 use Rattle.script_text.specs.Printed.{line_text, lines_text, words_below, text_of}
 use Rattle.script_text.specs.Sound.{IsSound}
 use Rattle.script_text.proofs.Reprinting.{reads_again, lines_again, commands_again}
-use Rattle.script_text.specs.Line.{line_fault, lines_fault, end_fault, script_fault}
+use Rattle.script_text.specs.Line.{line_fault, lines_fault, script_fault}
 
 -- the lines of a text down to the rest were added, and what is left to find is all that there is to find
 pub record HasAdded (old : Draft) (text : List ℕ) (new : Draft) (number : ℕ) (rest : List ℕ) : Type 0 where

@@ -1,7 +1,7 @@
 -- The commands of a text that is a script, printed line by line, are read again as the same commands.
-use Rattle.std.proofs.Common.{◌≡◌, ℕ, zero, suc, ◌+◌, ◌-◌, ◌<◌, ◌≤◌, eqb, leb, ltb, Bool, true, false, not, ◌&&◌, List, [], ◌∷◌, ◌++◌, length, map, All, slice_index, Option, Some, None, refl, ap, sym, subst, ◌∙◌, inl, inr, arith, rules, append_assoc, codes}
+use Rattle.std.proofs.Common.{◌≡◌, ℕ, zero, suc, ◌+◌, ◌-◌, ◌<◌, ◌≤◌, eqb, leb, ltb, Bool, true, false, ◌&&◌, List, [], ◌∷◌, ◌++◌, length, map, All, slice_index, Option, Some, None, refl, ap, subst, ◌∙◌, inl, inr, arith, append_assoc, codes}
 use Rattle.std.specs.List.{slice_split, flat_map, list_all, onto_first}
-use Rattle.std.proofs.lemmas.Bool.{cases_Bool, ltb-false}
+use Rattle.std.proofs.lemmas.Bool.{cases_Bool}
 use Rattle.std.proofs.lemmas.Bool.Decides.{nat_tests}
 use Rattle.std.proofs.lemmas.List.{append-nil}
 use Rattle.std.proofs.lemmas.List.Splits.{slice_split_none, slice_split_at}

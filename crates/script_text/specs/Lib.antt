@@ -15,4 +15,3 @@ pub mod Printed
 pub mod Fitting
 pub mod Sound
 pub mod Script
-pub mod Reply

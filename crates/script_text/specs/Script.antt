@@ -1,5 +1,5 @@
 -- What a script is: which bytes spell it, and what is wrong with bytes that spell none.
-use Rattle.std.specs.Prelude.{◌≡◌, ℕ, ◌+◌, List, ◌∷◌, map, Option, Some, None, Result, Ok, Err}
+use Rattle.std.specs.Prelude.{◌≡◌, ℕ, ◌+◌, List, Option, Some, None, Result, Ok, Err}
 use Rattle.word_map.specs.Limits.{IsConfig}
 use Rattle.script_text.specs.declared.code.Code.{Code}
 use Rattle.script_text.specs.declared.code.LineError.{LineError}

@@ -1,4 +1,4 @@
-use Rattle.std.proofs.Common.{◌≡◌, ◌∷◌, ◌++◌, take}
+use Rattle.std.proofs.Common.{◌≡◌, ◌++◌, take}
 use Rattle.script_text.specs.Printed.{spaced}
 use Rattle.script_text.proofs.appending.append_names.Given as goal
 

@@ -1,6 +1,5 @@
 use Rattle.std.proofs.Common.{◌≡◌, nat_lt, true, refl, arith, rules}
 use Rattle.std.proofs.lemmas.Bool.Decides.{nat_tests}
-use Rattle.script_text.specs.Fitting.{HasWords}
 use Rattle.script_text.proofs.Words.{words_9}
 use Rattle.script_text.proofs.Boxes.{in_order}
 use Rattle.script_text.proofs.Counts.{create_count}

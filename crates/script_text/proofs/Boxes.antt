@@ -4,7 +4,7 @@ use Rattle.std.specs.List.{list_all}
 use Rattle.fixed_box.specs.declared.coord.Coord.{Coord}
 use Rattle.fixed_box.specs.Corner.{on_axis, is_at_most}
 use Rattle.script_text.specs.Number.{number_of}
-use Rattle.script_text.specs.Grammar.{SpellsCorner}
+use Rattle.script_text.specs.Fields.{SpellsCorner}
 
 axes : (corner : List Coord) (x y z : ℤ) → map (λ c. c.value) corner ≡ x ∷ y ∷ z ∷ [] → (on_axis corner 0 ≡ x) × (on_axis corner 1 ≡ y) × (on_axis corner 2 ≡ z)
 axes [] x y z h = absurd cc

@@ -1,11 +1,15 @@
 pub mod Digits
 pub mod Numbers
 pub mod Words
+pub mod Texts
+pub mod Places
+pub mod Spaced
 pub mod Boxes
+pub mod Sizes
 pub mod Counts
-pub mod Limits
 pub mod Cuts
 pub mod FirstWord
 pub mod Drafts
 pub mod Parsing
-pub mod Places
+pub mod Reprinting
+pub mod Unique

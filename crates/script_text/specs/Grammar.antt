@@ -1,111 +1,106 @@
--- What a line of a script is, and what is wrong with one that is none.
-use Rattle.std.specs.Prelude.{ℕ, ◌-◌, if◌then◌else◌, List, [], ◌∷◌, ◌≡◌, map, Option, Some, None, pos, negsuc, int_le, nat_abs, zip, ◌++◌, bytes_eq, codes, slice_index_or}
-use Rattle.std.specs.List.{list_all}
+-- What the command of a line is, and what is wrong with words that are none.
+use Rattle.std.specs.Prelude.{ℕ, if◌then◌else◌, List, [], ◌∷◌, Option, Some, None}
 use Rattle.script_text.specs.declared.code.Code.{Code}
 use Rattle.script_text.specs.declared.code.Code.TheVariants as code
-use Rattle.fixed_box.specs.declared.coord.Coord.{Coord}
-use Rattle.word_map.specs.declared.config.Config.{Config}
-use Rattle.word_map.specs.Limits.{fault_of}
-use Rattle.std.specs.Option.{option_map}
+use Rattle.script_text.specs.declared.limits.TheConstants.{MAX_MULTI}
 use Rattle.script_text.specs.declared.keyword.Keyword.{Keyword}
-use Rattle.script_text.specs.declared.keyword.Keyword.TheVariants.{World, Create, Add, QueryBox}
-use Rattle.script_text.specs.Command.{corner_words}
-use Rattle.script_text.specs.Keyword.{keyword_of}
+use Rattle.script_text.specs.declared.keyword.Keyword.TheVariants.{World, Create, Destroy, Add, Prepare, Finalize, Abort, Remove, Move, User, Read, Multi, QueryBox, QueryPoint, QueryRay}
+use Rattle.script_text.specs.Keyword.{keyword_of, unknown_word}
 use Rattle.script_text.specs.Fault.{first_of}
-use Rattle.script_text.specs.Number.{number_of, number_fault}
-use Rattle.script_text.specs.Name.{new_name_fault, known_name_fault}
+use Rattle.script_text.specs.Name.{name_fault, new_name_fault, known_name_fault, known_names_fault}
+use Rattle.script_text.specs.Fields.{count_fault, numbers_fault, corner_fault, order_fault, bounds_fault, steps_fault, size_fault, config_of, limit_fault, layer_fault, user_fault, mask_fault}
+use Rattle.script_text.specs.Above.{Above}
 
-abbrev pub coordinate_fault : List ℕ → Option Code
-coordinate_fault word = number_fault (negsuc 8388607) (pos 8388607) word
+-- Each of these is told the words below the first word of a line.
 
-abbrev pub corner_fault : List ℕ → List ℕ → List ℕ → Option Code
-corner_fault x y z = first_of (coordinate_fault x ∷ coordinate_fault y ∷ coordinate_fault z ∷ [])
-
--- three words spell the coordinates of a corner
-pub record SpellsCorner (x y z : List ℕ) (corner : List Coord) : Type 0 where
-  pub words : corner_words corner ≡ x ∷ y ∷ z ∷ []
-  pub values : map (λ c. c.value) corner ≡ number_of x ∷ number_of y ∷ number_of z ∷ []
-
--- a size of a world is a number of 32 bits
-abbrev pub size_fault : List ℕ → Option Code
-size_fault word = number_fault (pos 0) (pos 4294967295) word
-
--- the sizes, for one caller, that five words spell
-abbrev pub config_of : List ℕ → List ℕ → List ℕ → List ℕ → List ℕ → Config
-config_of bodies stripes layers slots nodes = record {
-  bodies = nat_abs (number_of bodies);
-  stripes = nat_abs (number_of stripes);
-  layers = nat_abs (number_of layers);
-  slots = nat_abs (number_of slots);
-  nodes = nat_abs (number_of nodes);
-  passes = 1;
-}
-
--- a size may not be out of its limit
-abbrev pub limit_fault : Config → Option Code
-limit_fault c = option_map (λ _. code.Range) (fault_of c)
-
--- a box may on no axis end before it begins
-abbrev pub order_fault : List (List ℕ) → List (List ℕ) → Option Code
-order_fault lo hi = if list_all (λ p. int_le (number_of p.0) (number_of p.1)) (zip lo hi) then None else Some code.Range
-
--- `world BODIES STRIPES LAYERS SLOTS NODES`, below its first word; there is one layer for now
+-- `world BODIES STRIPES LAYERS SLOTS NODES`: all five have to be numbers before one is looked at
 abbrev pub world_fault : List (List ℕ) → Option Code
 world_fault (bodies ∷ stripes ∷ layers ∷ slots ∷ nodes ∷ []) =
-    first_of (size_fault bodies ∷ size_fault stripes ∷ number_fault (pos 1) (pos 1) layers ∷ size_fault slots ∷ size_fault nodes
+    first_of (numbers_fault (bodies ∷ stripes ∷ layers ∷ slots ∷ nodes ∷ [])
+    ∷ size_fault bodies ∷ size_fault stripes ∷ size_fault layers ∷ size_fault slots ∷ size_fault nodes
     ∷ limit_fault (config_of bodies stripes layers slots nodes) ∷ [])
 world_fault _ = Some code.Count
 
--- `create NAME LAYER BOX USER`, below its first word, in a world with so many layers
+-- `create NAME LAYER BOX USER`
 abbrev pub create_fault : List (List ℕ) → ℕ → List (List ℕ) → Option Code
 create_fault names layers (name ∷ layer ∷ x0 ∷ y0 ∷ z0 ∷ x1 ∷ y1 ∷ z1 ∷ user ∷ []) =
-    first_of (new_name_fault names name ∷ number_fault (pos 0) (pos (layers - 1)) layer ∷ corner_fault x0 y0 z0 ∷ corner_fault x1 y1 z1
-    ∷ number_fault (pos 0) (pos 4294967295) user ∷ order_fault (x0 ∷ y0 ∷ z0 ∷ []) (x1 ∷ y1 ∷ z1 ∷ []) ∷ [])
+    first_of (new_name_fault names name ∷ layer_fault layers layer ∷ corner_fault x0 y0 z0 ∷ corner_fault x1 y1 z1
+    ∷ user_fault user ∷ order_fault (x0 ∷ y0 ∷ z0 ∷ []) (x1 ∷ y1 ∷ z1 ∷ []) ∷ [])
 create_fault names layers _ = Some code.Count
 
--- `add NAME`, below its first word; there is one name for now
-abbrev pub add_fault : List (List ℕ) → List (List ℕ) → Option Code
-add_fault names (name ∷ []) = known_name_fault names name
-add_fault names _ = Some code.Count
+-- the one name of a body: `destroy NAME`, `remove NAME`, `read NAME`
+abbrev pub body_fault : List (List ℕ) → List (List ℕ) → Option Code
+body_fault names (name ∷ []) = known_name_fault names name
+body_fault names _ = Some code.Count
 
--- `box MASK BOX`, below its first word
+-- the one name of a batch: `finalize B`, `abort B`
+abbrev pub batch_fault : List (List ℕ) → Option Code
+batch_fault (batch ∷ []) = name_fault batch
+batch_fault _ = Some code.Count
+
+-- 1 to so many names of bodies: `add NAME..`, `multi NAME..`
+abbrev pub bodies_fault : List (List ℕ) → ℕ → List (List ℕ) → Option Code
+bodies_fault names most args = first_of (count_fault 1 most args ∷ known_names_fault names args ∷ [])
+
+-- `prepare B LAYER NAME..`, with 0 to so many names
+abbrev pub prepare_fault : List (List ℕ) → ℕ → ℕ → List (List ℕ) → Option Code
+prepare_fault names most layers (batch ∷ layer ∷ args) =
+    first_of (count_fault 0 most args ∷ name_fault batch ∷ layer_fault layers layer ∷ known_names_fault names args ∷ [])
+prepare_fault names most layers _ = Some code.Count
+
+-- `move NAME BOX`
+abbrev pub move_fault : List (List ℕ) → List (List ℕ) → Option Code
+move_fault names (name ∷ x0 ∷ y0 ∷ z0 ∷ x1 ∷ y1 ∷ z1 ∷ []) = first_of (known_name_fault names name ∷ bounds_fault x0 y0 z0 x1 y1 z1 ∷ [])
+move_fault names _ = Some code.Count
+
+-- `user NAME U`
+abbrev pub set_user_fault : List (List ℕ) → List (List ℕ) → Option Code
+set_user_fault names (name ∷ user ∷ []) = first_of (known_name_fault names name ∷ user_fault user ∷ [])
+set_user_fault names _ = Some code.Count
+
+-- `box MASK BOX`
 abbrev pub box_fault : List (List ℕ) → Option Code
-box_fault (mask ∷ x0 ∷ y0 ∷ z0 ∷ x1 ∷ y1 ∷ z1 ∷ []) =
-    first_of (number_fault (pos 0) (pos 255) mask ∷ corner_fault x0 y0 z0 ∷ corner_fault x1 y1 z1 ∷ order_fault (x0 ∷ y0 ∷ z0 ∷ []) (x1 ∷ y1 ∷ z1 ∷ []) ∷ [])
+box_fault (mask ∷ x0 ∷ y0 ∷ z0 ∷ x1 ∷ y1 ∷ z1 ∷ []) = first_of (mask_fault mask ∷ bounds_fault x0 y0 z0 x1 y1 z1 ∷ [])
 box_fault _ = Some code.Count
 
--- what stands above a line: how many layers the world has, and the names that were created
-pub record Above : Type 0 where
-  pub layers : ℕ
-  pub names : List (List ℕ)
+-- `point MASK x y z`
+abbrev pub point_fault : List (List ℕ) → Option Code
+point_fault (mask ∷ x ∷ y ∷ z ∷ []) = first_of (mask_fault mask ∷ corner_fault x y z ∷ [])
+point_fault _ = Some code.Count
 
-abbrev pub command_fault : Above → Option Keyword → List (List ℕ) → Option Code
-command_fault above None args = Some code.Word
-command_fault above (Some World) args = Some code.World
-command_fault above (Some Create) args = create_fault above.names above.layers args
-command_fault above (Some Add) args = add_fault above.names args
-command_fault above (Some QueryBox) args = box_fault args
+-- `ray MASK ox oy oz dx dy dz`
+abbrev pub ray_fault : List (List ℕ) → Option Code
+ray_fault (mask ∷ ox ∷ oy ∷ oz ∷ dx ∷ dy ∷ dz ∷ []) = first_of (mask_fault mask ∷ corner_fault ox oy oz ∷ steps_fault dx dy dz ∷ [])
+ray_fault _ = Some code.Count
 
--- what is wrong with the words of a line below the world line
-abbrev pub line_fault : Above → List (List ℕ) → Option Code
-line_fault above [] = Some code.Word
-line_fault above (word ∷ args) = command_fault above (keyword_of word) args
+-- a command below the world line
+abbrev pub fields_fault : Above → Keyword → List (List ℕ) → Option Code
+fields_fault above World args = Some code.World
+fields_fault above Create args = create_fault above.names above.layers args
+fields_fault above Destroy args = body_fault above.names args
+fields_fault above Add args = bodies_fault above.names above.bodies args
+fields_fault above Prepare args = prepare_fault above.names above.bodies above.layers args
+fields_fault above Finalize args = batch_fault args
+fields_fault above Abort args = batch_fault args
+fields_fault above Remove args = body_fault above.names args
+fields_fault above Move args = move_fault above.names args
+fields_fault above User args = set_user_fault above.names args
+fields_fault above Read args = body_fault above.names args
+fields_fault above Multi args = bodies_fault above.names MAX_MULTI args
+fields_fault above QueryBox args = box_fault args
+fields_fault above QueryPoint args = point_fault args
+fields_fault above QueryRay args = ray_fault args
 
--- what stands above the next line: `create` takes a name
-abbrev pub after_line : Above → List (List ℕ) → Above
-after_line above (word ∷ name ∷ args) = if bytes_eq word (codes "create") then record above { names = above.names ++ name ∷ [] } else above
-after_line above _ = above
+-- the first command is `world`
+abbrev pub first_fault : Keyword → List (List ℕ) → Option Code
+first_fault World args = world_fault args
+first_fault _ args = Some code.World
 
-abbrev pub first_command_fault : Option Keyword → List (List ℕ) → Option Code
-first_command_fault None args = Some code.Word
-first_command_fault (Some World) args = world_fault args
-first_command_fault (Some _) args = Some code.World
+abbrev pub named_fault : Above → List ℕ → Option Keyword → List (List ℕ) → Option Code
+named_fault above word None args = Some (unknown_word word)
+named_fault above word (Some keyword) args = if above.started then fields_fault above keyword args else first_fault keyword args
 
--- what is wrong with the words of the first line
-abbrev pub first_line_fault : List (List ℕ) → Option Code
-first_line_fault [] = Some code.Word
-first_line_fault (word ∷ args) = first_command_fault (keyword_of word) args
-
--- what stands above the second line
-abbrev pub below_world : List (List ℕ) → Above
-below_world words = record { layers = nat_abs (number_of (slice_index_or words 3 [])); names = [] }
+-- what is wrong with the words of a line's command; where there are none, nothing is
+abbrev pub command_fault : Above → List (List ℕ) → Option Code
+command_fault above [] = None
+command_fault above (word ∷ args) = named_fault above word (keyword_of word) args

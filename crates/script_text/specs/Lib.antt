@@ -5,7 +5,13 @@ pub mod Place
 pub mod Lines
 pub mod Keyword
 pub mod Command
+pub mod Fields
+pub mod World
+pub mod Above
 pub mod Grammar
-pub mod Script
+pub mod Line
 pub mod Draft
-pub mod Reply
+pub mod Printed
+pub mod Fitting
+pub mod Sound
+pub mod Script

@@ -16,6 +16,10 @@ is_name word = nat_le 1 (length word) && nat_le (length word) 32 && list_all is_
 abbrev pub is_among : List (List ℕ) → List ℕ → Bool
 is_among names word = list_any (bytes_eq word) names
 
+-- a word that has to be a name
+abbrev pub name_fault : List ℕ → Option Code
+name_fault word = if is_name word then None else Some code.Name
+
 -- a word that has to be a name which was not created above
 abbrev pub new_name_fault : List (List ℕ) → List ℕ → Option Code
 new_name_fault names word = if is_name word && not (is_among names word) then None else Some code.Name
@@ -23,3 +27,7 @@ new_name_fault names word = if is_name word && not (is_among names word) then No
 -- a word that has to be a name which was created above
 abbrev pub known_name_fault : List (List ℕ) → List ℕ → Option Code
 known_name_fault names word = if is_among names word then None else Some code.Name
+
+-- words that all have to be such names
+abbrev pub known_names_fault : List (List ℕ) → List (List ℕ) → Option Code
+known_names_fault names words = if list_all (is_among names) words then None else Some code.Name

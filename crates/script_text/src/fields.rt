@@ -1,22 +1,27 @@
-ghost use Rattle.std.specs.Prelude.{◌≡◌, ◌∷◌, [], map, codes, pos, negsuc, false, IsTrue, MatchResult, IfOk, ⊤, decimal, ◌<◌};
-ghost use Rattle.std.specs.List.{list_all};
+ghost use Rattle.std.specs.Prelude.{◌≡◌, ◌<◌, ◌∷◌, [], pos, negsuc, false, IsTrue, MatchResult, ⊤, decimal};
 ghost use Rattle.word_map.specs.Limits.{IsConfig};
-ghost use Rattle.script_text.specs.Name.{is_name_byte, is_name, new_name_fault, known_name_fault};
 ghost use Rattle.fixed_box.specs.Corner.{is_at_most};
 ghost use Rattle.script_text.specs.Lines.{texts};
-ghost use Rattle.script_text.specs.Fault.{Reads, ReadsInMemory};
-ghost use Rattle.script_text.specs.Number.{Spells, number_of};
-ghost use Rattle.script_text.specs.Command.{SpellsWorld, corner_words, command_words};
-ghost use Rattle.script_text.specs.Grammar.{SpellsCorner, coordinate_fault, corner_fault, limit_fault, world_fault, create_fault, add_fault, box_fault};
+ghost use Rattle.script_text.specs.Fault.{Reads, first_of};
+ghost use Rattle.script_text.specs.Number.{Spells, SpellsNatural, number_of};
+ghost use Rattle.script_text.specs.Command.{corner_words, box_words, segment_words};
+ghost use Rattle.script_text.specs.Fields.{SpellsCorner, SpellsSteps, count_fault, numbers_fault, coordinate_fault, corner_fault, bounds_fault, step_fault, steps_fault, size_fault, limit_fault, layer_fault, user_fault, mask_fault};
 
-use crate::code::{Code, LineError};
-use crate::command::Command;
-use crate::names::Names;
-use crate::number::{read_natural, read_number};
-use crate::text::{Text, TextList};
-use fixed_box::{Coord, FixBox};
-use std::alloc::{AllocError, Global};
+use crate::code::Code;
+use crate::number::{are_numbers, read_natural, read_number};
+use fixed_box::{Coord, FixBox, Segment};
 use word_map::{Config, check};
+
+/// There have to be from `lo` to `hi` words.
+pub fn check_count(words: &[&[u8]], lo: u32, hi: u32) -> Result<(), Code>
+    ensures { Reads result (count_fault lo hi (texts words.now)) (λ _. ⊤) }
+{
+    if lo as usize <= words.len() && words.len() <= hi as usize {
+        Ok(())
+    } else {
+        Err(Code::Count)
+    }
+}
 
 /// The coordinate that a word spells, in 1/1024 metre.
 fn read_coordinate(word: &[u8]) -> Result<Coord, Code>
@@ -27,7 +32,7 @@ fn read_coordinate(word: &[u8]) -> Result<Coord, Code>
 }
 
 /// The corner that three words spell.
-fn read_corner(x: &[u8], y: &[u8], z: &[u8]) -> Result<[Coord; 3], Code>
+pub fn read_corner(x: &[u8], y: &[u8], z: &[u8]) -> Result<[Coord; 3], Code>
     ensures { Reads result (corner_fault x.now y.now z.now) (SpellsCorner x.now y.now z.now) }
 {
     let x = read_coordinate(x)?;
@@ -37,51 +42,87 @@ fn read_corner(x: &[u8], y: &[u8], z: &[u8]) -> Result<[Coord; 3], Code>
 }
 
 /// The box between two corners.
-fn box_between(lo: [Coord; 3], hi: [Coord; 3]) -> Result<FixBox, Code>
+pub fn box_between(lo: [Coord; 3], hi: [Coord; 3]) -> Result<FixBox, Code>
     ensures { MatchResult result (λ b. (b.lo ≡ lo) × (b.hi ≡ hi) × IsTrue (is_at_most lo hi)) (λ c. (c ≡ Code.Range) × (is_at_most lo hi ≡ false)) }
 {
     FixBox::new(lo, hi).ok_or(Code::Range)
 }
 
-/// Whether all bytes are small letters, digits and low lines.
-fn are_name_bytes(bytes: &[u8]) -> bool
-    ensures { result ≡ list_all is_name_byte bytes.now }
+/// The box whose low corner the first three words spell, and its high one the others.
+#[tactic(auto, using(crate::proofs::Boxes::in_order))]
+pub fn read_bounds(
+    x0: &[u8],
+    y0: &[u8],
+    z0: &[u8],
+    x1: &[u8],
+    y1: &[u8],
+    z1: &[u8],
+) -> Result<FixBox, Code>
+    ensures { Reads result (bounds_fault x0.now y0.now z0.now x1.now y1.now z1.now)
+        (λ b. box_words b ≡ x0.now ∷ y0.now ∷ z0.now ∷ x1.now ∷ y1.now ∷ z1.now ∷ []) }
 {
-    bytes.iter().all(|b| (b'a' <= *b && *b <= b'z') || (b'0' <= *b && *b <= b'9') || *b == b'_')
+    let lo = read_corner(x0, y0, z0)?;
+    let hi = read_corner(x1, y1, z1)?;
+    box_between(lo, hi)
 }
 
-/// Whether a word is a name.
-fn is_name(word: &[u8]) -> bool
-    ensures { result ≡ is_name word.now }
+/// The step along an axis that a word spells, in 1/1024 metre.
+fn read_step(word: &[u8]) -> Result<i32, Code>
+    ensures { Reads result (step_fault word.now) (λ n. Spells word.now (negsuc 16777214) (pos 16777215) n) }
 {
-    1 <= word.len() && word.len() <= 32 && are_name_bytes(word)
+    let longest = i64::from(Segment::LONGEST);
+    let step = read_number(word, -longest, longest)?;
+    Ok(step as i32)
 }
 
-/// A word that has to be a name which was not created above.
-fn check_new_name(names: &Names, word: &[u8]) -> Result<(), Code>
-    ensures { Reads result (new_name_fault names.now word.now) (λ _. ⊤) }
+/// The steps along the axes that three words spell.
+fn read_steps(x: &[u8], y: &[u8], z: &[u8]) -> Result<[i32; 3], Code>
+    ensures { Reads result (steps_fault x.now y.now z.now) (SpellsSteps x.now y.now z.now) }
 {
-    if is_name(word) && !names.contains(word) {
+    let x = read_step(x)?;
+    let y = read_step(y)?;
+    let z = read_step(z)?;
+    Ok([x, y, z])
+}
+
+/// The segment whose beginning the first three words spell, and whose steps the others.
+pub fn read_segment(
+    ox: &[u8],
+    oy: &[u8],
+    oz: &[u8],
+    dx: &[u8],
+    dy: &[u8],
+    dz: &[u8],
+) -> Result<Segment, Code>
+    ensures { Reads result (first_of (corner_fault ox.now oy.now oz.now ∷ steps_fault dx.now dy.now dz.now ∷ []))
+        (λ s. segment_words s ≡ ox.now ∷ oy.now ∷ oz.now ∷ dx.now ∷ dy.now ∷ dz.now ∷ []) }
+{
+    let o = read_corner(ox, oy, oz)?;
+    let d = read_steps(dx, dy, dz)?;
+    Segment::new(o, d).ok_or(Code::Range)
+}
+
+/// Words that all have to be numbers.
+pub fn check_numbers(words: &[&[u8]]) -> Result<(), Code>
+    ensures { Reads result (numbers_fault (texts words.now)) (λ _. ⊤) }
+{
+    if are_numbers(words) {
         Ok(())
     } else {
-        Err(Code::Name)
+        Err(Code::Number)
     }
 }
 
-/// A word that has to be a name which was created above.
-fn check_known_name(names: &Names, word: &[u8]) -> Result<(), Code>
-    ensures { Reads result (known_name_fault names.now word.now) (λ _. ⊤) }
+/// The size of a world that a word spells; whether it is within its limit is not looked at.
+pub fn read_size(word: &[u8]) -> Result<u32, Code>
+    ensures { Reads result (size_fault word.now) (SpellsNatural word.now 0 4294967295) }
 {
-    if names.contains(word) {
-        Ok(())
-    } else {
-        Err(Code::Name)
-    }
+    read_natural(word, 0, u32::MAX)
 }
 
 /// Sizes that have to be within the limits of a world.
-#[tactic(auto, using(crate::proofs::Limits::none_broken))]
-fn check_limits(config: Config) -> Result<(), Code>
+#[tactic(auto, using(crate::proofs::Sizes::none_broken))]
+pub fn check_limits(config: Config) -> Result<(), Code>
     ensures { Reads result (limit_fault config) (λ _. IsConfig config) }
 {
     match check(config) {
@@ -90,91 +131,29 @@ fn check_limits(config: Config) -> Result<(), Code>
     }
 }
 
-/// `world BODIES STRIPES LAYERS SLOTS NODES`, below its first word, for one caller.
-#[tactic(auto, using(crate::proofs::Words::words_5, crate::proofs::Counts::world_count, crate::proofs::Limits::spelled))]
-pub fn read_world(args: &[&[u8]]) -> Result<Config, LineError>
-    ensures { ReadsInMemory result (world_fault (texts args.now)) (SpellsWorld (texts args.now)) }
+/// The layer that a word spells, in a world with so many layers.
+pub fn read_layer(layers: u32, word: &[u8]) -> Result<u32, Code>
+    ensures { Reads result (layer_fault layers word.now) (λ n. (word.now ≡ decimal n) × (n < layers)) }
 {
-    let [bodies, stripes, layers, slots, nodes] = args else {
-        return Err(LineError::Fault(Code::Count));
-    };
-    let config = Config {
-        bodies: read_natural(bodies, 0, u32::MAX)?,
-        stripes: read_natural(stripes, 0, u32::MAX)?,
-        layers: read_natural(layers, 1, 1)?,
-        slots: read_natural(slots, 0, u32::MAX)?,
-        nodes: read_natural(nodes, 0, u32::MAX)?,
-        passes: 1,
-    };
-    check_limits(config)?;
-    Ok(config)
+    let layer = read_natural(word, 0, 7)?;
+    if layer < layers {
+        Ok(layer)
+    } else {
+        Err(Code::Range)
+    }
 }
 
-/// `create NAME LAYER BOX USER`, below its first word.
-#[tactic(auto, using(crate::proofs::Words::words_9, crate::proofs::Boxes::in_order))]
-pub fn read_create(
-    alloc: Global,
-    names: &Names,
-    layers: u32,
-    args: &[&[u8]],
-) -> Result<Command, LineError>
-    requires { 0 < layers }
-    ensures { ReadsInMemory result (create_fault names.now layers (texts args.now)) (λ c. command_words c ≡ codes "create" ∷ texts args.now) }
+/// The user number that a word spells.
+pub fn read_user(word: &[u8]) -> Result<u32, Code>
+    ensures { Reads result (user_fault word.now) (SpellsNatural word.now 0 4294967295) }
 {
-    let [name, layer, x0, y0, z0, x1, y1, z1, user] = args else {
-        return Err(LineError::Fault(Code::Count));
-    };
-    check_new_name(names, name)?;
-    let layer = read_natural(layer, 0, layers - 1)?;
-    let lo = read_corner(x0, y0, z0)?;
-    let hi = read_corner(x1, y1, z1)?;
-    let user = read_natural(user, 0, u32::MAX)?;
-    let bounds = box_between(lo, hi)?;
-    Ok(Command::Create {
-        name: Text::from_slice(alloc, name)?,
-        layer,
-        bounds,
-        user,
-    })
+    read_natural(word, 0, u32::MAX)
 }
 
-/// A list of one text with these bytes.
-fn one_text(alloc: Global, word: &[u8]) -> Result<TextList, AllocError>
-    ensures { IfOk result (λ texts. texts ≡ word.now ∷ []) }
+/// The mask that a word spells: its bit l asks the layer l.
+pub fn read_mask(word: &[u8]) -> Result<u8, Code>
+    ensures { Reads result (mask_fault word.now) (SpellsNatural word.now 0 255) }
 {
-    let mut texts = Vec::new(alloc);
-    texts.push(Text::from_slice(alloc, word)?)?;
-    Ok(TextList::new(texts))
-}
-
-/// `add NAME`, below its first word.
-#[tactic(auto, using(crate::proofs::Words::words_1))]
-pub fn read_add(alloc: Global, names: &Names, args: &[&[u8]]) -> Result<Command, LineError>
-    ensures { ReadsInMemory result (add_fault names.now (texts args.now)) (λ c. command_words c ≡ codes "add" ∷ texts args.now) }
-{
-    let [name] = args else {
-        return Err(LineError::Fault(Code::Count));
-    };
-    check_known_name(names, name)?;
-    Ok(Command::Add {
-        names: one_text(alloc, name)?,
-    })
-}
-
-/// `box MASK BOX`, below its first word.
-#[tactic(auto, using(crate::proofs::Words::words_7, crate::proofs::Boxes::in_order))]
-pub fn read_box(args: &[&[u8]]) -> Result<Command, LineError>
-    ensures { ReadsInMemory result (box_fault (texts args.now)) (λ c. command_words c ≡ codes "box" ∷ texts args.now) }
-{
-    let [mask, x0, y0, z0, x1, y1, z1] = args else {
-        return Err(LineError::Fault(Code::Count));
-    };
-    let mask = read_natural(mask, 0, 255)?;
-    let lo = read_corner(x0, y0, z0)?;
-    let hi = read_corner(x1, y1, z1)?;
-    let bounds = box_between(lo, hi)?;
-    Ok(Command::QueryBox {
-        mask: mask as u8,
-        bounds,
-    })
+    let mask = read_natural(word, 0, 255)?;
+    Ok(mask as u8)
 }

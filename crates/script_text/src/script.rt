@@ -1,11 +1,10 @@
+ghost use Rattle.script_text.specs.Sound.{IsSound};
+
 use crate::code::Code;
 use crate::command::Command;
 use std::alloc::{AllocError, AllocFailed};
 use std::marker::Model;
 use word_map::Config;
-
-/// The most lines of a script.
-pub const MAX_LINES: u32 = 200_000;
 
 /// The command lines of a script, in order.
 #[derive(Debug, Drop)]
@@ -40,17 +39,18 @@ impl CommandList {
     }
 }
 
-/// What a text asks the player to do.
+/// What a text asks the player to do. Its own text, a line for each command, is a script with these commands.
 #[derive(Debug, Drop)]
 pub struct Script {
     /// The sizes of the world. `passes` is 1 + `actors` + `most_workers`.
     pub world: Config,
-    /// One command for each line below `world`.
+    /// One command for each command line below `world`.
     pub lines: CommandList,
     /// How many actors there are: none, until they are built.
     pub actors: u32,
     /// The most workers of a block or a step: none, until these are built.
     pub most_workers: u32,
+    pub ghost sound: { IsSound world lines actors most_workers },
 }
 
 /// Why bytes gave no script.

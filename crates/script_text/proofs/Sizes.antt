@@ -4,7 +4,7 @@ use Rattle.std.proofs.lemmas.Bool.Decides.{nat_tests}
 use Rattle.word_map.specs.declared.config.Config.{Config}
 use Rattle.word_map.specs.Limits.{IsConfig, is_up_to, fault_of}
 use Rattle.script_text.specs.Number.{number_of}
-use Rattle.script_text.specs.Grammar.{config_of}
+use Rattle.script_text.specs.Fields.{config_of}
 
 -- where the first does not fail and nothing is found after it, nothing is found
 passes_first : {X : Type 0} (within : Bool) (x : X) (later : Option X) → within ≡ true → later ≡ None → cond (not within) (Some x) later ≡ None

@@ -1,0 +1,201 @@
+ghost use Rattle.std.specs.Prelude.{◌≡◌, ◌∷◌, [], codes};
+ghost use Rattle.script_text.specs.Lines.{texts};
+ghost use Rattle.script_text.specs.Fault.{ReadsInMemory};
+ghost use Rattle.script_text.specs.Fitting.{HasWords};
+ghost use Rattle.script_text.specs.World.{SpellsWorld};
+ghost use Rattle.script_text.specs.Grammar.{world_fault, create_fault, body_fault, batch_fault, bodies_fault, prepare_fault, move_fault, set_user_fault, box_fault, point_fault, ray_fault};
+
+use crate::code::{Code, LineError};
+use crate::command::Command;
+use crate::fields::{
+    box_between, check_count, check_limits, check_numbers, read_bounds, read_corner, read_layer,
+    read_mask, read_segment, read_size, read_user,
+};
+use crate::name_fields::{check_known_name, check_name, check_new_name, read_known_names};
+use crate::names::Names;
+use crate::text::{Text, TextList};
+use std::alloc::Global;
+use word_map::Config;
+
+// Each of these reads the words below the first word of a line.
+
+/// `world BODIES STRIPES LAYERS SLOTS NODES`, for one caller.
+#[tactic(auto, using(crate::proofs::Words::words_5, crate::proofs::Counts::world_count, crate::proofs::Sizes::spelled))]
+pub fn read_world(args: &[&[u8]]) -> Result<Config, LineError>
+    ensures { ReadsInMemory result (world_fault (texts args.now)) (SpellsWorld (texts args.now)) }
+{
+    let [bodies, stripes, layers, slots, nodes] = args else {
+        return Err(LineError::Fault(Code::Count));
+    };
+    check_numbers(args)?;
+    let config = Config {
+        bodies: read_size(bodies)?,
+        stripes: read_size(stripes)?,
+        layers: read_size(layers)?,
+        slots: read_size(slots)?,
+        nodes: read_size(nodes)?,
+        passes: 1,
+    };
+    check_limits(config)?;
+    Ok(config)
+}
+
+/// `create NAME LAYER BOX USER`, in a world with so many layers.
+#[tactic(auto, using(crate::proofs::Words::words_9, crate::proofs::Boxes::in_order))]
+pub fn read_create(
+    alloc: Global,
+    names: &Names,
+    layers: u32,
+    args: &[&[u8]],
+) -> Result<Command, LineError>
+    ensures { ReadsInMemory result (create_fault names.now layers (texts args.now)) (HasWords (codes "create" ∷ texts args.now)) }
+{
+    let [name, layer, x0, y0, z0, x1, y1, z1, user] = args else {
+        return Err(LineError::Fault(Code::Count));
+    };
+    check_new_name(names, name)?;
+    let layer = read_layer(layers, layer)?;
+    let lo = read_corner(x0, y0, z0)?;
+    let hi = read_corner(x1, y1, z1)?;
+    let user = read_user(user)?;
+    let bounds = box_between(lo, hi)?;
+    Ok(Command::Create {
+        name: Text::from_slice(alloc, name)?,
+        layer,
+        bounds,
+        user,
+    })
+}
+
+/// The one name of a body.
+#[tactic(auto, using(crate::proofs::Words::words_1))]
+pub fn read_body(alloc: Global, names: &Names, args: &[&[u8]]) -> Result<Text, LineError>
+    ensures { ReadsInMemory result (body_fault names.now (texts args.now)) (λ name. name ∷ [] ≡ texts args.now) }
+{
+    let [name] = args else {
+        return Err(LineError::Fault(Code::Count));
+    };
+    check_known_name(names, name)?;
+    Ok(Text::from_slice(alloc, name)?)
+}
+
+/// The one name of a batch.
+#[tactic(auto, using(crate::proofs::Words::words_1))]
+pub fn read_batch(alloc: Global, args: &[&[u8]]) -> Result<Text, LineError>
+    ensures { ReadsInMemory result (batch_fault (texts args.now)) (λ batch. batch ∷ [] ≡ texts args.now) }
+{
+    let [batch] = args else {
+        return Err(LineError::Fault(Code::Count));
+    };
+    check_name(batch)?;
+    Ok(Text::from_slice(alloc, batch)?)
+}
+
+/// 1 to `most` names of bodies.
+pub fn read_bodies(
+    alloc: Global,
+    names: &Names,
+    most: u32,
+    args: &[&[u8]],
+) -> Result<TextList, LineError>
+    ensures { ReadsInMemory result (bodies_fault names.now most (texts args.now)) (λ list. list ≡ texts args.now) }
+{
+    check_count(args, 1, most)?;
+    read_known_names(alloc, names, args)
+}
+
+/// `prepare B LAYER NAME..` with 0 to `most` names, in a world with so many layers.
+#[tactic(auto, using(crate::proofs::Counts::prepare_count))]
+pub fn read_prepare(
+    alloc: Global,
+    names: &Names,
+    most: u32,
+    layers: u32,
+    args: &[&[u8]],
+) -> Result<Command, LineError>
+    ensures { ReadsInMemory result (prepare_fault names.now most layers (texts args.now)) (HasWords (codes "prepare" ∷ texts args.now)) }
+{
+    let [batch, layer, bodies @ ..] = args else {
+        return Err(LineError::Fault(Code::Count));
+    };
+    check_count(bodies, 0, most)?;
+    check_name(batch)?;
+    let layer = read_layer(layers, layer)?;
+    let bodies = read_known_names(alloc, names, bodies)?;
+    Ok(Command::Prepare {
+        batch: Text::from_slice(alloc, batch)?,
+        layer,
+        names: bodies,
+    })
+}
+
+/// `move NAME BOX`.
+#[tactic(auto, using(crate::proofs::Words::words_7))]
+pub fn read_move(alloc: Global, names: &Names, args: &[&[u8]]) -> Result<Command, LineError>
+    ensures { ReadsInMemory result (move_fault names.now (texts args.now)) (HasWords (codes "move" ∷ texts args.now)) }
+{
+    let [name, x0, y0, z0, x1, y1, z1] = args else {
+        return Err(LineError::Fault(Code::Count));
+    };
+    check_known_name(names, name)?;
+    let bounds = read_bounds(x0, y0, z0, x1, y1, z1)?;
+    Ok(Command::Move {
+        name: Text::from_slice(alloc, name)?,
+        bounds,
+    })
+}
+
+/// `user NAME U`.
+#[tactic(auto, using(crate::proofs::Words::words_2))]
+pub fn read_set_user(alloc: Global, names: &Names, args: &[&[u8]]) -> Result<Command, LineError>
+    ensures { ReadsInMemory result (set_user_fault names.now (texts args.now)) (HasWords (codes "user" ∷ texts args.now)) }
+{
+    let [name, user] = args else {
+        return Err(LineError::Fault(Code::Count));
+    };
+    check_known_name(names, name)?;
+    let user = read_user(user)?;
+    Ok(Command::User {
+        name: Text::from_slice(alloc, name)?,
+        user,
+    })
+}
+
+/// `box MASK BOX`.
+#[tactic(auto, using(crate::proofs::Words::words_7))]
+pub fn read_box(args: &[&[u8]]) -> Result<Command, LineError>
+    ensures { ReadsInMemory result (box_fault (texts args.now)) (HasWords (codes "box" ∷ texts args.now)) }
+{
+    let [mask, x0, y0, z0, x1, y1, z1] = args else {
+        return Err(LineError::Fault(Code::Count));
+    };
+    let mask = read_mask(mask)?;
+    let bounds = read_bounds(x0, y0, z0, x1, y1, z1)?;
+    Ok(Command::QueryBox { mask, bounds })
+}
+
+/// `point MASK x y z`.
+#[tactic(auto, using(crate::proofs::Words::words_4))]
+pub fn read_point(args: &[&[u8]]) -> Result<Command, LineError>
+    ensures { ReadsInMemory result (point_fault (texts args.now)) (HasWords (codes "point" ∷ texts args.now)) }
+{
+    let [mask, x, y, z] = args else {
+        return Err(LineError::Fault(Code::Count));
+    };
+    let mask = read_mask(mask)?;
+    let at = read_corner(x, y, z)?;
+    Ok(Command::QueryPoint { mask, at })
+}
+
+/// `ray MASK ox oy oz dx dy dz`.
+#[tactic(auto, using(crate::proofs::Words::words_7))]
+pub fn read_ray(args: &[&[u8]]) -> Result<Command, LineError>
+    ensures { ReadsInMemory result (ray_fault (texts args.now)) (HasWords (codes "ray" ∷ texts args.now)) }
+{
+    let [mask, ox, oy, oz, dx, dy, dz] = args else {
+        return Err(LineError::Fault(Code::Count));
+    };
+    let mask = read_mask(mask)?;
+    let segment = read_segment(ox, oy, oz, dx, dy, dz)?;
+    Ok(Command::QueryRay { mask, segment })
+}

@@ -77,7 +77,7 @@ module _ (s : Segment) (b : FixBox) (axis : ℕ) (span : Span) (on : IsSpanOn s 
   before_end_from_between : (f : Frac) (n m : ℕ) → 1 ≤ m → f.n * m ≤ n * f.m → IsBetween s b n m axis → f.n * span.length ≤ span.leave * f.m
   before_end_from_between f n m o h p = at_most_trans f.n f.m n m span.leave span.length o h (omega (arith, ((on.passes n m).0 p).1))
 
-positive_left : (a b c : ℕ) → c < a * b → 1 ≤ a
+pub positive_left : (a b c : ℕ) → c < a * b → 1 ≤ a
 positive_left zero b c h = absurd (omega (arith, h))
 positive_left (suc a) b c h = omega arith
 

@@ -3,3 +3,4 @@ pub mod Passing
 pub mod Later
 pub mod Places
 pub mod Unique
+pub mod Arrivals

@@ -4,3 +4,4 @@ pub mod Fraction
 pub mod Spans
 pub mod Entry
 pub mod Place
+pub mod Touched

@@ -3,6 +3,7 @@ ghost use Rattle.std.specs.Int.{int_max};
 ghost use Rattle.fixed_box.specs.Corner.{on_axis};
 ghost use Rattle.fixed_box.specs.FixBox.{is_within};
 ghost use Rattle.fixed_box.specs.Touch.{Touch};
+ghost use Rattle.shape_test.specs.Touched.{is_touched};
 
 use crate::axis::coordinate;
 use crate::segment_entry::entry;
@@ -34,7 +35,8 @@ fn is_within(p: &[Coord; 3], b: &FixBox) -> bool
 /// It takes a few comparisons for boxes and points, and for the segments whose bounds the box does not touch.
 #[inline]
 pub fn touch(shape: &Shape, b: &FixBox) -> bool
-    ensures { IsTrue result ↔ Touch shape.now b.now }
+    ensures meaning { IsTrue result ↔ Touch shape.now b.now }
+    ensures exact { result ≡ is_touched shape.now b.now }
 {
     match shape {
         Shape::Box(a) => a.touches(b),

@@ -119,3 +119,53 @@ fn boxes_and_points(rt: HostRuntime) -> Result<(), Fail> {
     assert!(rt; !touch(&Shape::Point(corner([10, 0, -1]).ok_or("point")?), &b));
     Ok(())
 }
+
+/// Ways on one axis, as where it begins and its step, beside the sides 0 and 1. No step is longer than 3.
+const WAYS: [(i32, i32); 14] = [
+    (0, 0),
+    (2, 0),
+    (-3, 3),
+    (-2, 3),
+    (-1, 3),
+    (-1, 2),
+    (0, 3),
+    (1, 2),
+    (2, 1),
+    (2, -1),
+    (3, -3),
+    (2, -3),
+    (1, -2),
+    (-1, -1),
+];
+
+/// Each fraction n/m of a way over 1, 2 or 3. One of them is the first at which a segment of such ways is
+/// between all sides, if there is any: it has then come to a whole number on some axis.
+const FRACTIONS: [(i32, i32); 5] = [(0, 1), (1, 3), (1, 2), (2, 3), (1, 1)];
+
+/// Whether a way is between the sides 0 and 1 at a fraction.
+fn is_between(way: (i32, i32), fraction: (i32, i32)) -> bool {
+    let (begin, step) = way;
+    let (n, m) = fraction;
+    let place = begin.wrapping_mul(m).wrapping_add(step.wrapping_mul(n));
+    0 <= place && place <= m
+}
+
+/// Whether the three ways are between the sides at one fraction.
+fn meet(x: (i32, i32), y: (i32, i32), z: (i32, i32)) -> bool {
+    FRACTIONS.iter().any(|f| is_between(x, *f) && is_between(y, *f) && is_between(z, *f))
+}
+
+#[test]
+fn short_segments_one_fraction_after_another(rt: HostRuntime) -> Result<(), Fail> {
+    let b = cube(0, 1).ok_or("cube")?;
+    for x in WAYS {
+        for y in WAYS {
+            for z in WAYS {
+                let s = segment([x.0, y.0, z.0], [x.1, y.1, z.1]).ok_or("segment")?;
+                let touched = touch(&Shape::Segment(s), &b);
+                assert_eq!(rt; touched, meet(x, y, z), "{x:?} {y:?} {z:?}");
+            }
+        }
+    }
+    Ok(())
+}

@@ -2,12 +2,11 @@
 use Rattle.std.proofs.Common.{◌≡◌, ◌≤◌, ◌<◌, ◌+◌, ℕ, Bool, List, [], ◌∷◌, ◌++◌, map, length, get_or, Option, Some, None, String, string_bytes, codes, IsTrue, ◌↔◌, ◌⊎◌, inl, inr, refl, ap, sym, subst, ◌∙◌, length-append, arith}
 use Rattle.std.specs.Global.{Global}
 use Rattle.std.specs.Str.{bytes_eq}
-use Rattle.std.specs.Option.{option_map}
 use Rattle.std.proofs.lemmas.Slice.Eq.{bytes_eq-Decides}
 use Rattle.world_io.specs.Bytes.{Gave, GaveAll}
 use Rattle.world_io.specs.Faults.{Rose}
 use Rattle.world_io.proofs.BytesLemmas.{GaveAll-told}
-use Rattle.script_text.specs.Script.{script_fault}
+use Rattle.script_text.specs.Line.{script_fault}
 use Rattle.broadphase.specs.declared.status.Status.{Status}
 use Rattle.broadphase.specs.declared.status.Status.TheVariants as statuses
 use Rattle.broadphase.specs.declared.reading.TheConstants.{MAX_BYTES}
@@ -48,7 +47,7 @@ plays statuses.BadScript bytes left rest before after f f' k k' ends told within
     let read = ends.read in
     let same = (GaveAll-told bytes rest read.bytes (subst (λ (l : Option (List ℕ)). GaveAll l rest read.bytes) told read.all)).0 in
     let none : script_fault read.bytes ≡ None = ap script_fault (sym same) ∙ script in
-    let bad = sym (ap (option_map (λ f. f.0)) none) ∙ read.bad in
+    let bad = sym none ∙ read.bad in
     absurd cc
 plays statuses.ReadFault bytes left rest before after f f' k k' ends told within no_read no_write script = absurd (no_read ends.0)
 plays statuses.WriteFault bytes left rest before after f f' k k' ends told within no_read no_write script = absurd (no_write ends.0)

@@ -1,7 +1,14 @@
 pub mod ReadingLemmas
-pub mod GivingIds
-pub mod Writing
-pub mod Joining
+pub mod Finding
+pub mod LargeTrees
+pub mod Marking
+pub mod Follows
+pub mod Holding
+pub mod Spending
+pub mod Batching
+pub mod GoingOn
+pub mod Layers
 pub mod Projection
 pub mod PlayedSoFar
+pub mod Writing
 pub mod Ending

@@ -1,5 +1,5 @@
 -- Command after command, and line after line.
-use Rattle.std.proofs.Common.{◌≡◌, ℕ, ◌+◌, ◌<◌, ◌≤◌, List, [], ◌∷◌, ◌++◌, length, take, drop, get_or, Option, refl, ap, sym, subst, ◌∙◌, append_assoc, add-one, drop-cons}
+use Rattle.std.proofs.Common.{◌≡◌, ℕ, ◌+◌, ◌<◌, ◌≤◌, List, [], ◌∷◌, ◌++◌, length, take, drop, get_or, Option, refl, ap, sym, subst, ◌∙◌, append_assoc, add-one, drop-cons, arith}
 use Rattle.std.proofs.lemmas.List.{append-nil, take_more, take-append-drop, take_all}
 use Rattle.world_io.specs.Bytes.{Appended, AppendedPart}
 use Rattle.world_io.proofs.BytesLemmas.{Appended-nothing, Appended-append, AppendedPart-longer, AppendedPart-append}
@@ -14,6 +14,11 @@ use Rattle.broadphase.specs.Table.{Table, empty_table}
 use Rattle.broadphase.specs.Turn.{turn, table_after}
 use Rattle.broadphase.specs.Report.{replies_text, table_below, end_text_of, end_text, serial_report}
 use Rattle.broadphase.specs.Shown.{shown_table, shown_after, Plays, PlaysPart}
+use Rattle.word_map.specs.declared.config.Config.{Config}
+use Rattle.word_map.specs.Limits.{IsConfig}
+use Rattle.scene_model.proofs.Histories.{IsConsistent-empty}
+use Rattle.broadphase.specs.UnderWay.{IsUnderWay}
+use Rattle.broadphase.proofs.GoingOn.{turn_goes_on}
 use Rattle.broadphase.proofs.Projection.{turn-shown, shown_after-turn}
 
 replies_text-append : (table : Table) (xs ys : List Command) → replies_text table (xs ++ ys) ≡ replies_text table xs ++ replies_text (table_below table xs) ys
@@ -30,9 +35,10 @@ table_below-append table (x ∷ xs) ys = table_below-append (table_after table (
 -- the first commands, so many, were played
 pub record HasPlayed (commands : List Command) (old new : Table) (before after : Option (List ℕ)) (i : ℕ) : Type 0 where
   pub done : Plays (take i commands) old new before after
+  pub under_way : IsUnderWay new
 
-pub begins : (commands : List Command) (old : Table) (held : Option (List ℕ)) → HasPlayed commands old old held held 0
-begins commands old held = record { done = record { replies = λ table shows. Appended-nothing held; table = λ table shows. shows } }
+pub begins : (commands : List Command) (old : Table) (held : Option (List ℕ)) → IsUnderWay old → HasPlayed commands old old held held 0
+begins commands old held u = record { under_way = u; done = record { replies = λ table shows. Appended-nothing held; table = λ table shows. shows } }
 
 -- what a turn on a shown table answers, and what it leaves, told of the table
 told : (table shown newer : Table) (x : Command) → shown ≡ shown_table table → newer ≡ shown_after shown (turn shown x)
@@ -48,6 +54,7 @@ one_more commands old new newer before after later i d h below written left =
     let taken : take (i + 1) commands ≡ take i commands ++ x ∷ [] = take_more commands i d below in
     let P : List Command → Type 0 = λ cs. Plays cs old newer before later in
     record {
+      under_way = subst IsUnderWay (sym left) (turn_goes_on new x h.under_way);
       done = subst P (sym taken) (record {
         replies = λ table shows.
             let front = table_below table (take i commands) in
@@ -103,3 +110,16 @@ pub part_of_replies : (script : Script) (old : Table) (before after : Option (Li
 part_of_replies script old before after begun played =
     let table = empty_table script.world in
     AppendedPart-longer before after (replies_text table script.lines) (end_text (table_below table script.lines).scene) (played.replies table begun)
+
+pub still_under_way : (commands : List Command) (old new : Table) (before after : Option (List ℕ)) (i : ℕ) → HasPlayed commands old new before after i → IsUnderWay new
+still_under_way commands old new before after i h = h.under_way
+
+-- the table of a script under which nothing was played
+pub under_way_first : (world : Config) → IsConfig world → IsUnderWay (empty_table world)
+under_way_first world c = record {
+  config = c;
+  bodies = omega (arith, c.bodies.1);
+  sound = (0, IsConsistent-empty 0 world.bodies);
+  nodes = omega arith;
+  held = record { can_join = λ k d below. absurd (omega arith); apart = λ i j d before below. absurd (omega arith) };
+}

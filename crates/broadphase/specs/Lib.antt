@@ -1,8 +1,14 @@
 pub mod Reading
+pub mod Books
 pub mod Table
+pub mod Attempt
+pub mod Body
+pub mod Taking
+pub mod Batches
 pub mod Turn
 pub mod Report
 pub mod Shown
+pub mod UnderWay
 pub mod Playing
 pub mod Ended
 pub mod Status

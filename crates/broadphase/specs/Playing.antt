@@ -1,14 +1,11 @@
--- How a player's fields are seen.
-use Rattle.std.specs.Prelude.{◌<◌, ◌≤◌, ◌^◌}
-use Rattle.std.specs.List.{AllByRecursion}
+-- How the fields of the player and of its books are seen.
 use Rattle.broadphase.specs.declared.player.Player.TheInside.{Inside}
-use Rattle.broadphase.specs.Table.{Table, nodes_kept}
+use Rattle.broadphase.specs.declared.books.Books.TheInside as books
+use Rattle.broadphase.specs.Books.{Books}
+use Rattle.broadphase.specs.Table.{Table}
+
+abbrev pub books_of : books.Inside → Books
+books_of b = record { names = b.names; known = b.known.items; prepared = b.prepared.items; attached = b.attached.items }
 
 abbrev pub table_of : Inside → Table
-table_of p = record { world = p.world; scene = p.scene; names = p.names; known = p.known.items; attached = p.attached.items }
-
--- each index that the scene can give fits an id, and the nodes that are kept are some of the world's
-pub record IsUnderWay (p : Inside) : Type 0 where
-  pub bodies : p.scene.bodies ≤ 2 ^ 23
-  pub freed : AllByRecursion (λ index. index < 2 ^ 23) p.scene.freed
-  pub nodes : nodes_kept p.attached.items ≤ p.world.nodes
+table_of p = record { world = p.world; scene = p.scene; books = p.books }

@@ -1,11 +1,11 @@
 -- How much a source gave, where not all that it gave is kept.
-use Rattle.std.specs.Prelude.{◌≡◌, ◌++◌, ℕ, ◌+◌, ◌≤◌, List, Option, Some, None, option_map, length}
+use Rattle.std.specs.Prelude.{◌≡◌, ◌++◌, ℕ, ◌+◌, ◌≤◌, List, Option, Some, None, length}
 use Rattle.world_io.specs.Bytes.{Gave, GaveAll}
 use Rattle.world_io.specs.Faults.{Rose}
 use Rattle.script_text.specs.declared.code.Code.{Code}
-use Rattle.script_text.specs.declared.code.Code.TheVariants as code
 use Rattle.script_text.specs.declared.script.Script.{Script}
-use Rattle.script_text.specs.Script.{IsScriptOf, script_fault}
+use Rattle.script_text.specs.Line.{script_fault}
+use Rattle.script_text.specs.Script.{IsScriptOf}
 use Rattle.broadphase.specs.declared.reading.ParseEnd.{ParseEnd}
 use Rattle.broadphase.specs.declared.reading.ParseEnd.TheVariants as ends
 use Rattle.broadphase.specs.declared.reading.TheConstants.{MAX_BYTES}
@@ -37,13 +37,12 @@ pub record ScriptRead (left rest : Option (List ℕ)) (script : Script) : Type 0
   pub is_script : IsScriptOf bytes script
   pub no_fault : script_fault bytes ≡ None
 
--- the source gave all its bytes, and this line of them is the first that is no line of a script
+-- the source gave all its bytes, and this line of them is the first that is no line of a script, for this fault
 pub record FaultRead (left rest : Option (List ℕ)) (line : ℕ) (c : Code) : Type 0 where
   pub bytes : List ℕ
   pub all : GaveAll left rest bytes
   pub within : length bytes ≤ MAX_BYTES
-  pub bad : option_map (λ f. f.0) (script_fault bytes) ≡ Some line
-  pub code_is : c ≡ code.Later
+  pub bad : script_fault bytes ≡ Some (line, c)
 
 -- what holds where no script was read
 abbrev pub EndsRead : Option (List ℕ) → Option (List ℕ) → ℕ → ℕ → ParseEnd → Type 0

@@ -1,10 +1,17 @@
 -- The player over a plain scene, which counts creations modulo 256.
-use Rattle.std.specs.Prelude.{◌≡◌, ℕ, List, Option, fold}
+use Rattle.std.specs.Prelude.{◌≡◌, ℕ, List, Option, fold, Result, Ok, Err, Some, None}
+use Rattle.scene_model.specs.declared.entry.Entry.{Entry}
+use Rattle.scene_model.specs.Scene.{Scene}
 use Rattle.scene_model.specs.Shown.{shown, after_shown}
+use Rattle.script_text.specs.declared.refusal.Refusal.{Refusal}
 use Rattle.script_text.specs.declared.reply.Reply.{Reply}
 use Rattle.script_text.specs.declared.command.Command.{Command}
 use Rattle.world_io.specs.Bytes.{Appended, AppendedPart}
+use Rattle.broadphase.specs.Books.{Books}
 use Rattle.broadphase.specs.Table.{Table}
+use Rattle.broadphase.specs.Attempt.{Attempt}
+use Rattle.broadphase.specs.declared.taking.Taken.{Taken}
+use Rattle.broadphase.specs.Taking.{Marking, marks, Taking}
 use Rattle.broadphase.specs.Turn.{Turn}
 use Rattle.broadphase.specs.Report.{replies_text, table_below}
 
@@ -12,14 +19,38 @@ use Rattle.broadphase.specs.Report.{replies_text, table_below}
 abbrev pub shown_table : Table → Table
 shown_table table = record table { scene = shown table.scene }
 
--- what a plain scene shows after a turn
+-- what a plain scene shows after entries, with other books
+abbrev pub shown_with : Table → List Entry → Books → Table
+shown_with table entries books = record table { scene = fold after_shown table.scene entries; books = books }
+
 abbrev pub shown_after : Table → Turn → Table
-shown_after table t = record table { scene = fold after_shown table.scene t.entries; names = t.names; known = t.known; attached = t.attached }
+shown_after table t = shown_with table t.entries t.books
 
 -- this turn is what was answered and done
 pub record Does (t : Turn) (old new : Table) (reply : Reply) : Type 0 where
   pub reply_is : reply ≡ t.reply
   pub after : new ≡ shown_after old t
+
+-- this attempt was made
+pub record Tries (attempt : Attempt) (old new : Table) (refusal : Option Refusal) : Type 0 where
+  pub refusal_is : refusal ≡ attempt.refusal
+  pub after : new ≡ shown_with old attempt.entries attempt.books
+
+-- this marking was made
+pub record Marks (m : Marking) (old new : Scene) (indexes : List ℕ) (refusal : Option Refusal) : Type 0 where
+  pub indexes_are : indexes ≡ m.indexes
+  pub refusal_is : refusal ≡ m.refusal
+  pub after : new ≡ fold after_shown old (marks m.indexes)
+
+-- what was taken, or why nothing was, where the batch keeps so many nodes
+abbrev pub IsTaken : Taking → ℕ → Result Taken Refusal → Type 0
+IsTaken t nodes (Ok taken) = (t.refusal ≡ None) × (taken.indexes ≡ t.indexes) × (taken.nodes ≡ nodes)
+IsTaken t nodes (Err refusal) = t.refusal ≡ Some refusal
+
+-- this taking was made
+pub record Takes (t : Taking) (nodes : ℕ) (old new : Table) (result : Result Taken Refusal) : Type 0 where
+  pub result_is : IsTaken t nodes result
+  pub after : new ≡ shown_with old t.entries old.books
 
 -- commands are played on a shown table: their replies are those on each table that it shows, and what it shows
 -- afterwards is that table after them

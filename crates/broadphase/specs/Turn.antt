@@ -1,103 +1,73 @@
 -- What each command does, and how it is answered.
-use Rattle.std.specs.Prelude.{ℕ, ◌+◌, ◌-◌, ◌%◌, ◌==◌, nat_le, nat_lt, if◌then◌else◌, List, [], ◌∷◌, ◌++◌, fold, Option, Some, None}
+use Rattle.std.specs.Prelude.{ℕ, ◌+◌, List, [], ◌∷◌, Option, Some, None}
 use Rattle.fixed_box.specs.declared.fix_box.FixBox.{FixBox}
-use Rattle.fixed_box.specs.FixBox.{touches}
+use Rattle.fixed_box.specs.declared.shape.Shape.{Shape}
+use Rattle.fixed_box.specs.declared.shape.Shape.TheVariants as shapes
+use Rattle.shape_test.specs.Touched.{is_touched}
 use Rattle.body_ident.specs.Id.{Id, id_of}
-use Rattle.scene_model.specs.declared.body_view.Phase.{Phase}
-use Rattle.scene_model.specs.declared.body_view.Phase.TheVariants.{Out, Held, In}
 use Rattle.scene_model.specs.declared.entry.Entry.{Entry}
 use Rattle.scene_model.specs.declared.entry.Entry.TheVariants as entries
-use Rattle.scene_model.specs.Scene.{Scene, Record, place_at, record_at, next_index}
-use Rattle.scene_model.specs.Step.{after_entry}
+use Rattle.scene_model.specs.Scene.{place_at, next_index}
 use Rattle.scene_model.specs.Query.{hits}
 use Rattle.script_text.specs.declared.command.Command.{Command}
 use Rattle.script_text.specs.declared.command.Command.TheVariants as commands
 use Rattle.script_text.specs.declared.reply.Reply.{Reply}
 use Rattle.script_text.specs.declared.reply.Reply.TheVariants as replies
-use Rattle.script_text.specs.declared.reply.Refusal.{Refusal}
-use Rattle.script_text.specs.declared.reply.Refusal.TheVariants as refusals
-use Rattle.broadphase.specs.declared.known.Known.{Known}
-use Rattle.broadphase.specs.declared.known.Attached.{Attached}
-use Rattle.broadphase.specs.Table.{Table, known_at, slots_kept, nodes_kept}
+use Rattle.script_text.specs.declared.refusal.Refusal.TheVariants as refusals
+use Rattle.broadphase.specs.declared.bodies.Change.TheVariants as changes
+use Rattle.broadphase.specs.Books.{Books, with_name}
+use Rattle.broadphase.specs.Table.{Table, table_with}
+use Rattle.broadphase.specs.Attempt.{Attempt, outcome}
+use Rattle.broadphase.specs.Body.{change_named, read_named, multi_named}
+use Rattle.broadphase.specs.Batches.{prepare_named, finalize_named, abort_named, add_named}
 
--- the entries that a command makes, its reply, and what the player keeps of names and batches from then on
+-- the entries that a command makes, its reply, and the books from then on
 pub record Turn : Type 0 where
   pub entries : List Entry
   pub reply : Reply
-  pub names : List (List ℕ)
-  pub known : List Known
-  pub attached : List Attached
+  pub books : Books
 
 -- nothing is changed
 abbrev pub answered : Table → Reply → Turn
-answered table reply = record { entries = []; reply = reply; names = table.names; known = table.known; attached = table.attached }
+answered table reply = record { entries = []; reply = reply; books = table.books }
 
--- the name is kept, and stands for the id of the body that is created, or for none
+-- an attempt is made
+abbrev pub turn_of : Attempt → Turn
+turn_of attempt = record { entries = attempt.entries; reply = outcome attempt.refusal; books = attempt.books }
+
+-- a body is created, and its name stands for its id; where there is no index, the name stands for nothing
 abbrev pub created_turn : Table → List ℕ → ℕ → FixBox → ℕ → ℕ → Id → Turn
 created_turn table name layer bounds user index id = record {
   entries = entries.Create index layer bounds user ∷ [];
   reply = replies.Id id;
-  names = table.names ++ name ∷ [];
-  known = table.known ++ record { id = Some id; layer = layer } ∷ [];
-  attached = table.attached;
+  books = with_name table.books name (Some (record { id = id; layer = layer }));
 }
 
 abbrev pub create_turn : Table → List ℕ → ℕ → FixBox → ℕ → Option ℕ → Turn
-create_turn table name layer bounds user None =
-    record (answered table (replies.Refused refusals.Full)) { names = table.names ++ name ∷ []; known = table.known ++ record { id = None; layer = layer } ∷ [] }
+create_turn table name layer bounds user None = record (answered table (replies.Refused refusals.Full)) { books = with_name table.books name None }
 create_turn table name layer bounds user (Some index) =
     created_turn table name layer bounds user index (id_of index ((place_at table.scene index).creations + 1))
 
-abbrev pub phase_refusal : Phase → ℕ → ℕ → Option Refusal
-phase_refusal Held own asked = Some refusals.Held
-phase_refusal In own asked = Some refusals.AlreadyIn
-phase_refusal Out own asked = if own == asked then None else Some refusals.WrongLayer
-
--- why the body of an id cannot be marked for a batch of a layer
-abbrev pub record_refusal : ℕ → ℕ → Option Record → Option Refusal
-record_refusal layer seq None = Some refusals.Gone
-record_refusal layer seq (Some r) = if r.generation % 256 == seq then phase_refusal r.phase r.layer layer else Some refusals.Gone
-
-abbrev pub mark_refusal : Scene → ℕ → Id → Option Refusal
-mark_refusal scene layer i = record_refusal layer i.seq (record_at scene i.index)
-
--- why a batch of one body cannot be attached: no slot, no node, or the body
-abbrev pub attach_refusal : Table → ℕ → Id → Option Refusal
-attach_refusal table layer i =
-    if nat_le table.world.slots (slots_kept table.attached layer) then Some refusals.NoSlot
-    else if nat_lt (table.world.nodes - nodes_kept table.attached) 1 then Some refusals.NoNodes
-    else mark_refusal table.scene layer i
-
--- a batch of one body is prepared and attached at once
-abbrev pub attach_turn : Table → ℕ → Id → Option Refusal → Turn
-attach_turn table layer i (Some refusal) = answered table (replies.Refused refusal)
-attach_turn table layer i None = record {
-  entries = entries.Mark i.index ∷ entries.Join layer (i.index ∷ []) ∷ [];
-  reply = replies.Done;
-  names = table.names;
-  known = table.known;
-  attached = table.attached ++ record { layer = layer; nodes = 1 } ∷ [];
-}
-
-abbrev pub add_id_turn : Table → ℕ → Option Id → Turn
-add_id_turn table layer None = answered table (replies.Refused refusals.NoId)
-add_id_turn table layer (Some i) = attach_turn table layer i (attach_refusal table layer i)
-
--- a name that was not created stands for no id
-abbrev pub add_turn : Table → Option Known → Turn
-add_turn table None = answered table (replies.Refused refusals.NoId)
-add_turn table (Some known) = add_id_turn table known.layer known.id
-
--- one name, for now
-abbrev pub add_names_turn : Table → List (List ℕ) → Turn
-add_names_turn table (name ∷ []) = add_turn table (known_at table name)
-add_names_turn table _ = answered table (replies.Refused refusals.NoId)
+-- all bodies are found that are in the broad phase, in a layer of the mask, and touch the shape
+abbrev pub query_turn : Table → ℕ → Shape → Turn
+query_turn table mask shape = answered table (replies.Hits (hits (is_touched shape) mask table.scene))
 
 abbrev pub turn : Table → Command → Turn
 turn table (commands.Create name layer bounds user) = create_turn table name layer bounds user (next_index table.scene)
-turn table (commands.Add names) = add_names_turn table names
-turn table (commands.QueryBox mask bounds) = answered table (replies.Hits (hits (touches bounds) mask table.scene))
+turn table (commands.Destroy name) = turn_of (change_named table changes.Destroy name)
+turn table (commands.Add names) = turn_of (add_named table names)
+turn table (commands.Prepare batch layer names) = turn_of (prepare_named table batch layer names)
+turn table (commands.Finalize batch) = turn_of (finalize_named table batch)
+turn table (commands.Abort batch) = turn_of (abort_named table batch)
+turn table (commands.Remove name) = turn_of (change_named table changes.Remove name)
+turn table (commands.Move name bounds) = turn_of (change_named table (changes.Move bounds) name)
+turn table (commands.User name user) = turn_of (change_named table (changes.SetUser user) name)
+turn table (commands.Read name) = answered table (read_named table name)
+turn table (commands.Multi names) = answered table (multi_named table names)
+turn table (commands.QueryBox mask bounds) = query_turn table mask (shapes.Box bounds)
+turn table (commands.QueryPoint mask at) = query_turn table mask (shapes.Point at)
+turn table (commands.QueryRay mask segment) = query_turn table mask (shapes.Segment segment)
 
 -- the table after a command
 abbrev pub table_after : Table → Turn → Table
-table_after table t = record table { scene = fold after_entry table.scene t.entries; names = t.names; known = t.known; attached = t.attached }
+table_after table t = table_with table t.entries t.books

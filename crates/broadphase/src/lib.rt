@@ -4,13 +4,16 @@
 //! of the top call, `run`: what it wrote is what the plain scene prints for the script that it read.
 #![tactic(auto)]
 
-mod known;
+mod batches;
+mod bodies;
+mod books;
 mod player;
 mod playing;
 mod reading;
 mod room;
 mod status;
 pub mod streams;
+mod taking;
 mod top;
 
 pub use playing::{PlayFault, play};

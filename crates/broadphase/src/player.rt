@@ -1,31 +1,31 @@
 //! The player: it carries the commands of a script out on the plain scene.
-ghost use Rattle.std.specs.Prelude.{◌≡◌, ◌∷◌, [], ◌++◌, ◌≤◌, ℕ, Option, IfOk, OnOk, Some, None, sum_by, ◌<◌, ◌^◌, ◌-◌, option_map};
+ghost use Rattle.std.specs.Prelude.{◌≡◌, ◌≤◌, ◌^◌, ℕ, Option, List, [], IfOk};
 ghost use Rattle.scene_model.specs.Query.{hits, live_count, in_count};
 ghost use Rattle.scene_model.specs.Scene.{next_index};
-ghost use Rattle.scene_model.specs.Step.{HasBody};
-ghost use Rattle.scene_model.specs.Shown.{after_shown};
-ghost use Rattle.fixed_box.specs.FixBox.{touches};
-ghost use Rattle.broadphase.specs.Table.{empty_table, known_at, slots_kept, nodes_kept};
-ghost use Rattle.broadphase.specs.Turn.{create_turn, mark_refusal, attach_refusal, attach_turn, add_id_turn, add_turn, add_names_turn, answered, turn};
+ghost use Rattle.shape_test.specs.Touched.{is_touched};
+ghost use Rattle.broadphase.specs.Table.{empty_table};
+ghost use Rattle.broadphase.specs.Attempt.{outcome};
+ghost use Rattle.broadphase.specs.Turn.{create_turn, turn};
+ghost use Rattle.broadphase.specs.UnderWay.{IsUnderWay};
 ghost use Rattle.broadphase.specs.Shown.{Does};
 
-use crate::known::{Attached, Known};
+use crate::bodies::Change;
+use crate::books::{Books, Known};
 use body_ident::BodyId;
-use fixed_box::FixBox;
-use scene_model::{Entry, IndexList, Phase, PlainScene};
-use script_text::{Command, IdList, Names, Refusal, Reply, Text};
+use fixed_box::{FixBox, Shape};
+use scene_model::{Entry, PlainScene};
+use script_text::{Command, IdList, Refusal, Reply, Text};
+use shape_test::touch;
 use std::alloc::{AllocError, Global};
 use std::marker::Model;
 use word_map::Config;
 
-/// A script under way. Contracts see it as a table of the scene, the names and the batches.
+/// A script under way. Contracts see it as a table of the world's sizes, the scene and the books.
 #[derive(Debug, Drop)]
 pub struct Player {
-    world: Config,
-    scene: PlainScene,
-    names: Names,
-    known: Vec<Known>,
-    attached: Vec<Attached>,
+    pub world: Config,
+    pub scene: PlainScene,
+    pub books: Books,
 }
 
 impl Model for Player {
@@ -33,49 +33,32 @@ impl Model for Player {
 
     ghost Value = { Table };
 
-    ghost use Rattle.broadphase.specs.Playing.{table_of, IsUnderWay};
+    ghost use Rattle.broadphase.specs.Playing.{table_of};
 
     ghost view = { table_of };
+}
 
-    ghost invariant = { IsUnderWay };
+/// The reply to a command that is carried out or refused.
+fn outcome(refusal: Option<Refusal>) -> Reply
+    ensures { result ≡ outcome refusal }
+{
+    match refusal {
+        None => Reply::Done,
+        Some(refusal) => Reply::Refused(refusal),
+    }
 }
 
 impl Player {
     /// A player of a script for this world, with nothing done yet.
     pub fn new(alloc: Global, world: Config) -> Result<Player, AllocError>
-        requires { world.bodies ≤ 65536 }
+        requires { world.bodies ≤ 2 ^ 23 }
         ensures { IfOk result (λ p. p ≡ empty_table world) }
     {
         Ok(Player {
             world,
             scene: PlainScene::new(alloc, world.bodies)?,
-            names: Names::new(alloc),
-            known: Vec::new(alloc),
-            attached: Vec::new(alloc),
+            books: Books::new(alloc),
         })
-    }
-
-    /// Keeps a name, and what it stands for.
-    fn keep(
-        &mut self,
-        alloc: Global,
-        name: &Text,
-        id: Option<BodyId>,
-        layer: u32,
-    ) -> Result<(), AllocError>
-        ensures { OnOk result (self.new ≡ record self.old { names = self.old.names ++ name.now ∷ []; known = self.old.known ++ record { id = id; layer = layer } ∷ [] }) }
-    {
-        self.names.push(alloc, name.items())?;
-        self.known.push(Known { id, layer })?;
-        Ok(())
-    }
-
-    /// What is kept of a name.
-    fn known(&self, name: &Text) -> Option<Known>
-        ensures { result ≡ known_at self.now name.now }
-    {
-        let place = self.names.place(name.items())?;
-        self.known.get(place).copied()
     }
 
     /// `create NAME LAYER BOX USER`
@@ -87,10 +70,11 @@ impl Player {
         bounds: FixBox,
         user: u32,
     ) -> Result<Reply, AllocError>
+        requires { IsUnderWay self.old }
         ensures { IfOk result (Does (create_turn self.old name.now layer bounds user (next_index self.old.scene)) self.old self.new) }
     {
         let Some(index) = self.scene.next_index() else {
-            self.keep(alloc, name, None, layer)?;
+            self.books.keep_name(alloc, name, None)?;
             return Ok(Reply::Refused(Refusal::Full));
         };
         let id = BodyId::new(index, self.scene.next_seq(index));
@@ -100,93 +84,22 @@ impl Player {
             bounds,
             user,
         })?;
-        self.keep(alloc, name, Some(id), layer)?;
+        self.books
+            .keep_name(alloc, name, Some(Known { id, layer }))?;
         Ok(Reply::Id(id))
     }
 
-    /// Why the body of an id cannot be marked for a batch of a layer.
-    fn mark_refusal(&self, layer: u32, id: BodyId) -> Option<Refusal>
-        ensures { result ≡ mark_refusal self.now.scene layer id }
+    /// The bodies that touch a shape: `box`, `point` and `ray`.
+    fn query(&self, alloc: Global, mask: u8, shape: &Shape) -> Result<Reply, AllocError>
+        ensures { IfOk result (λ r. r ≡ Reply.Hits (hits (is_touched shape.now) mask self.now.scene)) }
     {
-        let Some(body) = self.scene.at(id.index()) else {
-            return Some(Refusal::Gone);
-        };
-        if body.id.seq() != id.seq() {
-            return Some(Refusal::Gone);
-        }
-        match body.phase {
-            Phase::Held => Some(Refusal::Held),
-            Phase::In => Some(Refusal::AlreadyIn),
-            Phase::Out if body.layer == layer => None,
-            Phase::Out => Some(Refusal::WrongLayer),
-        }
-    }
-
-    /// How many slots of a layer are kept.
-    fn slots_kept(&self, layer: u32) -> usize
-        ensures { result ≡ slots_kept self.now.attached layer }
-    {
-        self.attached.iter().filter(|b| b.layer == layer).count()
-    }
-
-    /// How many nodes are free.
-    fn nodes_free(&self) -> u32
-        ensures { result ≡ self.now.world.nodes - nodes_kept self.now.attached }
-    {
-        self.world.nodes - nodes_of(&self.attached)
-    }
-
-    /// Why a batch of one body cannot be attached.
-    fn attach_refusal(&self, layer: u32, id: BodyId) -> Option<Refusal>
-        ensures { result ≡ attach_refusal self.now layer id }
-    {
-        if self.world.slots as usize <= self.slots_kept(layer) {
-            return Some(Refusal::NoSlot);
-        }
-        if self.nodes_free() < 1 {
-            return Some(Refusal::NoNodes);
-        }
-        self.mark_refusal(layer, id)
-    }
-
-    /// Prepares a batch of one body and attaches it at once.
-    #[tactic(auto, using(crate::proofs::Joining::can_attach))]
-    fn attach(&mut self, alloc: Global, layer: u32, id: BodyId) -> Result<Reply, AllocError>
-        ensures { IfOk result (Does (attach_turn self.old layer id (attach_refusal self.old layer id)) self.old self.new) }
-    {
-        if let Some(refusal) = self.attach_refusal(layer, id) {
-            return Ok(Reply::Refused(refusal));
-        }
-        self.attached.push(Attached { layer, nodes: 1 })?;
-        mark_and_join(alloc, &mut self.scene, layer, id.index())?;
-        Ok(Reply::Done)
-    }
-
-    /// `add NAME`
-    fn add(&mut self, alloc: Global, names: &[Text]) -> Result<Reply, AllocError>
-        ensures { IfOk result (Does (add_names_turn self.old names.now) self.old self.new) }
-    {
-        let [name] = names else {
-            return Ok(Reply::Refused(Refusal::NoId));
-        };
-        let Some(known) = self.known(name) else {
-            return Ok(Reply::Refused(Refusal::NoId));
-        };
-        let Some(id) = known.id else {
-            return Ok(Reply::Refused(Refusal::NoId));
-        };
-        self.attach(alloc, known.layer, id)
-    }
-
-    /// `box MASK BOX`
-    fn query_box(&self, alloc: Global, mask: u8, bounds: &FixBox) -> Result<Reply, AllocError>
-        ensures { IfOk result (λ r. Does (answered self.now (Reply.Hits (hits (touches bounds.now) mask self.now.scene))) self.now self.now r) }
-    {
-        Ok(Reply::Hits(IdList::new(self.scene.hits(alloc, mask, bounds)?)))
+        let ids = self.scene.hits_where(alloc, mask, |b| touch(shape, b))?;
+        Ok(Reply::Hits(IdList::new(ids)))
     }
 
     /// Carries a command out, and answers it. After an error the player is not used again.
     pub fn turn(&mut self, alloc: Global, command: &Command) -> Result<Reply, AllocError>
+        requires { IsUnderWay self.old }
         ensures { IfOk result (Does (turn self.old command.now) self.old self.new) }
     {
         match command {
@@ -196,8 +109,27 @@ impl Player {
                 bounds,
                 user,
             } => self.create(alloc, name, *layer, *bounds, *user),
-            Command::Add { names } => self.add(alloc, names.items()),
-            Command::QueryBox { mask, bounds } => self.query_box(alloc, *mask, bounds),
+            Command::Destroy { name } => Ok(outcome(self.change(name, Change::Destroy)?)),
+            Command::Add { names } => Ok(outcome(self.add(alloc, names.items())?)),
+            Command::Prepare {
+                batch,
+                layer,
+                names,
+            } => Ok(outcome(self.prepare(alloc, batch, *layer, names.items())?)),
+            Command::Finalize { batch } => Ok(outcome(self.finalize(batch)?)),
+            Command::Abort { batch } => Ok(outcome(self.abort(batch)?)),
+            Command::Remove { name } => Ok(outcome(self.change(name, Change::Remove)?)),
+            Command::Move { name, bounds } => {
+                Ok(outcome(self.change(name, Change::Move(*bounds))?))
+            }
+            Command::User { name, user } => Ok(outcome(self.change(name, Change::SetUser(*user))?)),
+            Command::Read { name } => Ok(self.read(name)),
+            Command::Multi { names } => self.multi(alloc, names.items()),
+            Command::QueryBox { mask, bounds } => self.query(alloc, *mask, &Shape::Box(*bounds)),
+            Command::QueryPoint { mask, at } => self.query(alloc, *mask, &Shape::Point(*at)),
+            Command::QueryRay { mask, segment } => {
+                self.query(alloc, *mask, &Shape::Segment(*segment))
+            }
         }
     }
 
@@ -208,29 +140,4 @@ impl Player {
     {
         (self.scene.live_count(), self.scene.in_count())
     }
-}
-
-/// Puts a body of a layer that is out of the broad phase into it, by a batch of its own.
-#[tactic(auto, using(crate::proofs::Joining::marked_can_join, crate::proofs::Joining::can_mark))]
-fn mark_and_join(
-    alloc: Global,
-    scene: &mut PlainScene,
-    layer: u32,
-    index: u32,
-) -> Result<(), AllocError>
-    requires { HasBody scene.old index (λ r. (r.phase ≡ Phase.Out) × (r.layer ≡ layer)) }
-    ensures ok { OnOk result (scene.new ≡ after_shown (after_shown scene.old (Entry.Mark index)) (Entry.Join layer (index ∷ []))) }
-    ensures kept { (scene.new.freed ≡ scene.old.freed) × (scene.new.bodies ≡ scene.old.bodies) }
-{
-    let indexes = IndexList::new(vec![in alloc; index]?);
-    scene.apply(&Entry::Mark { index })?;
-    scene.apply(&Entry::Join { layer, indexes })
-}
-
-/// How many nodes batches keep.
-fn nodes_of(batches: &[Attached]) -> u32
-    requires { sum_by (λ b. b.nodes) batches.now < 2 ^ 32 }
-    ensures { result ≡ sum_by (λ b. b.nodes) batches.now }
-{
-    batches.iter().map(|b| b.nodes).sum()
 }

@@ -5,6 +5,8 @@ ghost use Rattle.world_io.specs.Faults.{Rose};
 ghost use Rattle.script_text.specs.Reply.{reply_text};
 ghost use Rattle.broadphase.specs.Table.{empty_table};
 ghost use Rattle.broadphase.specs.Turn.{turn};
+ghost use Rattle.broadphase.specs.UnderWay.{IsUnderWay};
+ghost use Rattle.word_map.specs.Limits.{IsConfig};
 ghost use Rattle.broadphase.specs.Shown.{shown_after, Plays, PlaysPart};
 ghost use Rattle.broadphase.specs.Report.{end_text_of, end_text, replies_text, table_below, serial_report};
 ghost use Rattle.broadphase.specs.declared.playing.PlayFault.TheVariants.{Write, Memory};
@@ -48,6 +50,7 @@ fn answer(
     command: &Command,
     line: &mut Vec<u8>,
 ) -> Result<(), AllocError>
+    requires { IsUnderWay player.old }
     ensures line { OnOk result (line.new.items ≡ reply_text (turn player.old command.now).reply) }
     ensures after { OnOk result (player.new ≡ shown_after player.old (turn player.old command.now)) }
 {
@@ -65,6 +68,7 @@ fn play_command<K: Sink>(
     line: &mut Vec<u8>,
     sink: &mut K,
 ) -> Result<(), PlayFault>
+    requires { IsUnderWay player.old }
     ensures ok { OnOk result (Appended (K.contents sink.old) (K.contents sink.new) (reply_text (turn player.old command.now).reply)) }
     ensures after { OnOk result (player.new ≡ shown_after player.old (turn player.old command.now)) }
     ensures part { OnErr result (AppendedPart (K.contents sink.old) (K.contents sink.new) (reply_text (turn player.old command.now).reply)) }
@@ -105,7 +109,7 @@ fn play_end<K: Sink>(player: &Player, line: &mut Vec<u8>, sink: &mut K) -> Resul
 }
 
 /// Writes the replies to commands, one line each.
-#[tactic(auto, using(crate::proofs::PlayedSoFar::one_more, crate::proofs::PlayedSoFar::stops, crate::proofs::PlayedSoFar::all_played))]
+#[tactic(auto, using(crate::proofs::PlayedSoFar::begins, crate::proofs::PlayedSoFar::still_under_way, crate::proofs::PlayedSoFar::one_more, crate::proofs::PlayedSoFar::stops, crate::proofs::PlayedSoFar::all_played))]
 fn play_commands<K: Sink>(
     alloc: Global,
     player: &mut Player,
@@ -113,6 +117,7 @@ fn play_commands<K: Sink>(
     line: &mut Vec<u8>,
     sink: &mut K,
 ) -> Result<(), PlayFault>
+    requires { IsUnderWay player.old }
     ensures ok { OnOk result (Plays commands.now player.old player.new (K.contents sink.old) (K.contents sink.new)) }
     ensures part { OnErr result (PlaysPart commands.now player.old (K.contents sink.old) (K.contents sink.new)) }
     ensures fault { IsErrOf result PlayFault.Write → Rose (K.faults sink.old) (K.faults sink.new) }
@@ -126,9 +131,9 @@ fn play_commands<K: Sink>(
 
 /// Plays a script on the plain scene, and writes its report: a line for each reply as soon as it is known, and
 /// the line that counts the bodies. After an error the bytes written are a first part of the report.
-#[tactic(auto, using(crate::proofs::PlayedSoFar::whole_report, crate::proofs::PlayedSoFar::part_to_end, crate::proofs::PlayedSoFar::part_of_replies))]
+#[tactic(auto, using(crate::proofs::PlayedSoFar::under_way_first, crate::proofs::PlayedSoFar::whole_report, crate::proofs::PlayedSoFar::part_to_end, crate::proofs::PlayedSoFar::part_of_replies))]
 pub fn play<K: Sink>(alloc: Global, script: &Script, sink: &mut K) -> Result<(), PlayFault>
-    requires { script.now.world.bodies ≤ 65536 }
+    requires { IsConfig script.now.world }
     ensures report { OnOk result (Appended (K.contents sink.old) (K.contents sink.new) (serial_report script.now)) }
     ensures part { OnErr result (AppendedPart (K.contents sink.old) (K.contents sink.new) (serial_report script.now)) }
     ensures fault { IsErrOf result PlayFault.Write → Rose (K.faults sink.old) (K.faults sink.new) }

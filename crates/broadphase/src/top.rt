@@ -2,7 +2,7 @@
 ghost use Rattle.std.specs.Prelude.{◌≡◌, ◌≤◌, ◌↔◌, ◌+◌, ◌⊎◌, ℕ, Option, List, Some, None, IsTrue, IsSome, OnOk, OnErr, IfOk, IsErrOf, length};
 ghost use Rattle.world_io.specs.Bytes.{Appended, AppendedPart};
 ghost use Rattle.world_io.specs.Faults.{Rose};
-ghost use Rattle.script_text.specs.Script.{script_fault};
+ghost use Rattle.script_text.specs.Line.{script_fault};
 ghost use Rattle.broadphase.specs.Reading.{GaveCount};
 ghost use Rattle.broadphase.specs.Ended.{ArePlay, Played, PlayedPart, Refused, RefusedPart, PlayEnds, fault_text, code_text};
 ghost use Rattle.broadphase.specs.declared.reading.TheConstants.{MAX_BYTES};

@@ -10,5 +10,6 @@ pub mod Report
 pub mod Shown
 pub mod UnderWay
 pub mod Playing
+pub mod Form
 pub mod Ended
 pub mod Status

@@ -1,4 +1,4 @@
-//! The program: it reads a script, plays it, and writes the report.
+//! The program: it reads a script, plays it, and writes the report; or it only checks the script.
 //!
 //! It stands on every crate below, and nothing stands on it but the program itself. Its promise is the contract
 //! of the top call, `run`: what it wrote is what the plain scene prints for the script that it read.
@@ -7,6 +7,7 @@
 mod batches;
 mod bodies;
 mod books;
+mod form;
 mod player;
 mod playing;
 mod reading;
@@ -16,11 +17,12 @@ pub mod streams;
 mod taking;
 mod top;
 
+pub use form::Form;
 pub use playing::{PlayFault, play};
 pub use reading::{MAX_BYTES, ParseEnd, run_parse};
 pub use room::Room;
 pub use status::Status;
-pub use top::run;
+pub use top::{run, run_check};
 
 #[cfg(test)]
 mod tests;

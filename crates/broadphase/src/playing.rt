@@ -2,7 +2,7 @@
 ghost use Rattle.std.specs.Prelude.{◌≡◌, ◌≤◌, ◌++◌, Option, List, IfOk, OnOk, OnErr, IsErrOf};
 ghost use Rattle.world_io.specs.Bytes.{Appended, AppendedPart};
 ghost use Rattle.world_io.specs.Faults.{Rose};
-ghost use Rattle.script_text.specs.Reply.{reply_text};
+ghost use Rattle.reply_text.specs.Reply.{reply_text};
 ghost use Rattle.broadphase.specs.Table.{empty_table};
 ghost use Rattle.broadphase.specs.Turn.{turn};
 ghost use Rattle.broadphase.specs.UnderWay.{IsUnderWay};
@@ -14,7 +14,8 @@ ghost use Rattle.broadphase.specs.declared.playing.PlayFault.TheVariants.{Write,
 use crate::player::Player;
 use crate::streams::write_all;
 use itoa::Buffer;
-use script_text::{Command, Script, reply_line};
+use reply_text::reply_line;
+use script_text::{Command, Script};
 use std::alloc::{AllocError, Global};
 use world_io::{Failed, Sink};
 

@@ -1,31 +1,24 @@
 //! The top call.
-ghost use Rattle.std.specs.Prelude.{◌≡◌, ◌≤◌, ◌↔◌, ◌+◌, ◌⊎◌, ℕ, Option, List, Some, None, IsTrue, IsSome, OnOk, OnErr, IfOk, IsErrOf, length};
+ghost use Rattle.std.specs.Prelude.{◌≡◌, ◌≤◌, ◌↔◌, ◌+◌, ◌⊎◌, ℕ, Option, List, Some, None, OnOk, OnErr, IfOk, IsErrOf, length, codes};
 ghost use Rattle.world_io.specs.Bytes.{Appended, AppendedPart};
 ghost use Rattle.world_io.specs.Faults.{Rose};
 ghost use Rattle.script_text.specs.Line.{script_fault};
 ghost use Rattle.broadphase.specs.Reading.{GaveCount};
-ghost use Rattle.broadphase.specs.Ended.{ArePlay, Played, PlayedPart, Refused, RefusedPart, PlayEnds, fault_text, code_text};
+ghost use Rattle.word_map.specs.Limits.{IsConfig};
+ghost use Rattle.broadphase.specs.Form.{Asks, AskNothing};
+ghost use Rattle.broadphase.specs.Ended.{Answered, AnsweredPart, Refused, RefusedPart, WantedMemory, Ends, answer_text, fault_text, code_text};
 ghost use Rattle.broadphase.specs.declared.reading.TheConstants.{MAX_BYTES};
 
+use crate::form::{Form, form_of};
 use crate::playing::{PlayFault, play};
 use crate::reading::{ParseEnd, run_parse};
 use crate::room::Room;
 use crate::status::Status;
 use crate::streams::write_all;
 use itoa::Buffer;
-use script_text::Code;
+use script_text::{Code, Script};
 use std::alloc::{AllocError, Global};
 use world_io::{Gate, Sink, Source};
-
-/// Whether the words are the one word `play`.
-fn are_play(words: &[String]) -> bool
-    ensures { IsTrue result ↔ ArePlay words.now }
-{
-    match words {
-        [word] => word.as_bytes() == b"play".as_slice(),
-        _ => false,
-    }
-}
 
 /// The word of a code.
 fn code_word(code: Code) -> &'static [u8]
@@ -73,13 +66,44 @@ fn refuse<K: Sink>(alloc: Global, line: u32, code: Code, sink: &mut K) -> Result
     Ok(())
 }
 
-/// Reads a script, plays it and writes its report.
-fn run_play<S: Source, K: Sink>(alloc: Global, source: &mut S, sink: &mut K) -> Status
-    ensures { PlayEnds result (S.left source.old) (S.left source.new) (K.contents sink.old) (K.contents sink.new)
+/// Writes `ok`.
+#[tactic(auto, using(crate::proofs::Writing::nothing_written))]
+fn tell_ok<K: Sink>(sink: &mut K) -> Result<(), PlayFault>
+    ensures ok { OnOk result (Appended (K.contents sink.old) (K.contents sink.new) (codes "ok\n")) }
+    ensures part { OnErr result (AppendedPart (K.contents sink.old) (K.contents sink.new) (codes "ok\n")) }
+    ensures fault { IsErrOf result PlayFault.Write → Rose (K.faults sink.old) (K.faults sink.new) }
+    ensures memory { ¬ IsErrOf result PlayFault.Memory }
+{
+    write_all(sink, b"ok\n")?;
+    Ok(())
+}
+
+/// Writes what a command has to say of a script.
+fn answer<K: Sink>(
+    alloc: Global,
+    form: Form,
+    script: &Script,
+    sink: &mut K,
+) -> Result<(), PlayFault>
+    requires { IsConfig script.now.world }
+    ensures ok { OnOk result (Appended (K.contents sink.old) (K.contents sink.new) (answer_text form script.now)) }
+    ensures part { OnErr result (AppendedPart (K.contents sink.old) (K.contents sink.new) (answer_text form script.now)) }
+    ensures fault { IsErrOf result PlayFault.Write → Rose (K.faults sink.old) (K.faults sink.new) }
+    ensures memory { form ≡ Form.Check → ¬ IsErrOf result PlayFault.Memory }
+{
+    match form {
+        Form::Play => play(alloc, script, sink),
+        Form::Check => tell_ok(sink),
+    }
+}
+
+/// Reads a script, and writes what the command has to say of it.
+fn carry_out<S: Source, K: Sink>(alloc: Global, form: Form, source: &mut S, sink: &mut K) -> Status
+    ensures { Ends form result (S.left source.old) (S.left source.new) (K.contents sink.old) (K.contents sink.new)
         (S.faults source.old) (S.faults source.new) (K.faults sink.old) (K.faults sink.new) }
 {
     match run_parse(alloc, source, false) {
-        Ok(script) => match play(alloc, &script, sink) {
+        Ok(script) => match answer(alloc, form, &script, sink) {
             Ok(()) => Status::Done,
             Err(PlayFault::Write) => Status::WriteFault,
             Err(PlayFault::Memory) => Status::Memory,
@@ -95,12 +119,51 @@ fn run_play<S: Source, K: Sink>(alloc: Global, source: &mut S, sink: &mut K) -> 
     }
 }
 
+/// Reads a script to its end and writes `ok`, or the line that tells of the first bad line.
+///
+/// Reading stops at the end of the source or at byte 8,388,609. It never ends with `Usage`. Where it ends with
+/// `ReadFault`, `Memory` or `TooLong`, nothing is written.
+pub fn run_check<S: Source, K: Sink>(alloc: Global, source: &mut S, sink: &mut K) -> Status
+    // What each status tells of the bytes that were read and written.
+    ensures ends { Ends Form.Check result (S.left source.old) (S.left source.new) (K.contents sink.old) (K.contents sink.new)
+        (S.faults source.old) (S.faults source.new) (K.faults sink.old) (K.faults sink.new) }
+
+    // Told bytes that are not too many are accepted or refused, unless a fault is counted or memory is wanting.
+    ensures accepts { (bytes : List ℕ) → S.left source.old ≡ Some bytes → length bytes ≤ MAX_BYTES
+        → ¬ Rose (S.faults source.old) (S.faults source.new) → ¬ Rose (K.faults sink.old) (K.faults sink.new)
+        → script_fault bytes ≡ None → (result ≡ Status.Done) ⊎ (result ≡ Status.Memory) }
+    ensures refuses { (bytes : List ℕ) → S.left source.old ≡ Some bytes → length bytes ≤ MAX_BYTES
+        → ¬ Rose (S.faults source.old) (S.faults source.new) → ¬ Rose (K.faults sink.old) (K.faults sink.new)
+        → ¬ (script_fault bytes ≡ None) → (result ≡ Status.BadScript) ⊎ (result ≡ Status.Memory) }
+{
+    carry_out(alloc, Form::Check, source, sink)
+}
+
+/// Reads a script, plays it on the plain scene and writes its report.
+fn run_play<S: Source, K: Sink>(alloc: Global, source: &mut S, sink: &mut K) -> Status
+    ensures { Ends Form.Play result (S.left source.old) (S.left source.new) (K.contents sink.old) (K.contents sink.new)
+        (S.faults source.old) (S.faults source.new) (K.faults sink.old) (K.faults sink.new) }
+{
+    carry_out(alloc, Form::Play, source, sink)
+}
+
+/// Carries out a command of the program.
+fn run_form<S: Source, K: Sink>(alloc: Global, form: Form, source: &mut S, sink: &mut K) -> Status
+    ensures { Ends form result (S.left source.old) (S.left source.new) (K.contents sink.old) (K.contents sink.new)
+        (S.faults source.old) (S.faults source.new) (K.faults sink.old) (K.faults sink.new) }
+{
+    match form {
+        Form::Play => run_play(alloc, source, sink),
+        Form::Check => run_check(alloc, source, sink),
+    }
+}
+
 /// Runs the program on the words of its command line, without its own name.
 ///
-/// The one command is `play`: it reads a script from the source, plays it on the plain scene and writes the report
-/// to the sink, a line for each reply as soon as it is known. Reading stops at the end of the source or at byte
-/// 8,388,609. Every other words are `Usage`. The gate is called by workers alone, of which there are none yet, and
-/// the room stays empty until there is a shared world to leave in it.
+/// `play` reads a script from the source, plays it on the plain scene and writes the report to the sink, a line for
+/// each reply as soon as it is known. `check` reads a script and writes `ok`. Reading stops at the end of the source
+/// or at byte 8,388,609. Every other words are `Usage`. The gate is called by workers alone, of which there are none
+/// yet, and the room stays empty until there is a shared world to leave in it.
 pub fn run<S: Source, K: Sink, G: Gate>(
     alloc: Global,
     words: &[String],
@@ -109,32 +172,32 @@ pub fn run<S: Source, K: Sink, G: Gate>(
     _gate: &G,
     _room: &mut Room,
 ) -> Status
-    // Usage comes exactly where the words are not `play`; nothing is read and nothing is written then.
-    ensures usage { (result ≡ Status.Usage) ↔ ¬ ArePlay words.now }
+    // Usage comes exactly where the words ask for nothing; nothing is read and nothing is written then.
+    ensures usage { (result ≡ Status.Usage) ↔ AskNothing words.now }
     ensures untouched { result ≡ Status.Usage → (S.left source.new ≡ S.left source.old) × (K.contents sink.new ≡ K.contents sink.old) }
 
     // What each other status tells of the bytes that were read and written.
-    ensures done { result ≡ Status.Done → Played (S.left source.old) (S.left source.new) (K.contents sink.old) (K.contents sink.new) }
+    ensures done { (form : Form) → Asks words.now form → result ≡ Status.Done
+        → Answered form (S.left source.old) (S.left source.new) (K.contents sink.old) (K.contents sink.new) }
     ensures bad_script { result ≡ Status.BadScript → Refused (S.left source.old) (S.left source.new) (K.contents sink.old) (K.contents sink.new) }
     ensures too_long { result ≡ Status.TooLong → GaveCount (S.left source.old) (S.left source.new) (MAX_BYTES + 1) × (K.contents sink.new ≡ K.contents sink.old) }
     ensures read_fault { result ≡ Status.ReadFault → Rose (S.faults source.old) (S.faults source.new) × (K.contents sink.new ≡ K.contents sink.old) }
-    ensures write_fault { result ≡ Status.WriteFault → Rose (K.faults sink.old) (K.faults sink.new)
-        × (PlayedPart (S.left source.old) (S.left source.new) (K.contents sink.old) (K.contents sink.new)
+    ensures write_fault { (form : Form) → Asks words.now form → result ≡ Status.WriteFault → Rose (K.faults sink.old) (K.faults sink.new)
+        × (AnsweredPart form (S.left source.old) (S.left source.new) (K.contents sink.old) (K.contents sink.new)
         ⊎ RefusedPart (S.left source.old) (S.left source.new) (K.contents sink.old) (K.contents sink.new)) }
-    ensures memory { result ≡ Status.Memory → (K.contents sink.new ≡ K.contents sink.old)
-        ⊎ PlayedPart (S.left source.old) (S.left source.new) (K.contents sink.old) (K.contents sink.new) }
+    ensures memory { (form : Form) → Asks words.now form → result ≡ Status.Memory
+        → WantedMemory form (S.left source.old) (S.left source.new) (K.contents sink.old) (K.contents sink.new) }
 
-    // Told bytes that are not too many are played or refused, unless a fault is counted or memory is wanting.
-    ensures plays { (bytes : List ℕ) → ArePlay words.now → S.left source.old ≡ Some bytes → length bytes ≤ MAX_BYTES
+    // Told bytes that are not too many are answered or refused, unless a fault is counted or memory is wanting.
+    ensures answers { (form : Form) (bytes : List ℕ) → Asks words.now form → S.left source.old ≡ Some bytes → length bytes ≤ MAX_BYTES
         → ¬ Rose (S.faults source.old) (S.faults source.new) → ¬ Rose (K.faults sink.old) (K.faults sink.new)
         → script_fault bytes ≡ None → (result ≡ Status.Done) ⊎ (result ≡ Status.Memory) }
-    ensures refuses { (bytes : List ℕ) → ArePlay words.now → S.left source.old ≡ Some bytes → length bytes ≤ MAX_BYTES
+    ensures refuses { (form : Form) (bytes : List ℕ) → Asks words.now form → S.left source.old ≡ Some bytes → length bytes ≤ MAX_BYTES
         → ¬ Rose (S.faults source.old) (S.faults source.new) → ¬ Rose (K.faults sink.old) (K.faults sink.new)
         → ¬ (script_fault bytes ≡ None) → (result ≡ Status.BadScript) ⊎ (result ≡ Status.Memory) }
 {
-    if are_play(words) {
-        run_play(alloc, source, sink)
-    } else {
-        Status::Usage
+    match form_of(words) {
+        None => Status::Usage,
+        Some(form) => run_form(alloc, form, source, sink),
     }
 }

@@ -1,9 +1,13 @@
 use Rattle.std.proofs.Common.{List, ℕ, Option, subst}
 use Rattle.script_text.specs.declared.command.Command.{Command}
 use Rattle.broadphase.specs.Shown.{Plays}
-use Rattle.broadphase.proofs.Writing.{on_err_always}
+use Rattle.broadphase.specs.Report.{serial_report}
+use Rattle.broadphase.proofs.Writing.{nothing_written, on_err_always}
 use Rattle.broadphase.proofs.PlayedSoFar.{whole_report, part_to_end}
 use Rattle.broadphase.proofs.playing.play.Goals as goal
+
+pub returns-in_err-player-clause-part : goal.returns-in_err-player-clause-part
+returns-in_err-player-clause-part g c = on_err_always _ (nothing_written (g.K.Sink.contents c.args.sink.now) (serial_report c.args.script.now))
 
 pub returns-in_err-play_end-clause-part : goal.returns-in_err-play_end-clause-part
 returns-in_err-play_end-clause-part g c =

@@ -4,8 +4,8 @@ use Rattle.std.specs.List.{range_with_len}
 use Rattle.scene_model.specs.declared.entry.Entry.{Entry}
 use Rattle.scene_model.specs.declared.entry.Entry.TheVariants as entries
 use Rattle.scene_model.specs.Need.{need}
-use Rattle.script_text.specs.declared.refusal.Refusal.{Refusal}
-use Rattle.script_text.specs.declared.refusal.Refusal.TheVariants as refusals
+use Rattle.reply_text.specs.declared.refusal.Refusal.{Refusal}
+use Rattle.reply_text.specs.declared.refusal.Refusal.TheVariants as refusals
 use Rattle.broadphase.specs.declared.books.Known.{Known}
 use Rattle.broadphase.specs.declared.books.Batch.{Batch}
 use Rattle.broadphase.specs.Books.{Books, known_all, has_batch, batch_named, spent, with_batch, with_attached}

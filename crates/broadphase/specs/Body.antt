@@ -8,12 +8,12 @@ use Rattle.scene_model.specs.declared.entry.Entry.{Entry}
 use Rattle.scene_model.specs.declared.entry.Entry.TheVariants as entries
 use Rattle.scene_model.specs.Scene.{Scene}
 use Rattle.scene_model.specs.Query.{view_at}
-use Rattle.script_text.specs.declared.multi.MultiItem.{MultiItem}
-use Rattle.script_text.specs.declared.multi.MultiItem.TheVariants as items
-use Rattle.script_text.specs.declared.refusal.Refusal.{Refusal}
-use Rattle.script_text.specs.declared.refusal.Refusal.TheVariants as refusals
-use Rattle.script_text.specs.declared.reply.Reply.{Reply}
-use Rattle.script_text.specs.declared.reply.Reply.TheVariants as replies
+use Rattle.reply_text.specs.declared.multi.MultiItem.{MultiItem}
+use Rattle.reply_text.specs.declared.multi.MultiItem.TheVariants as items
+use Rattle.reply_text.specs.declared.refusal.Refusal.{Refusal}
+use Rattle.reply_text.specs.declared.refusal.Refusal.TheVariants as refusals
+use Rattle.reply_text.specs.declared.reply.Reply.{Reply}
+use Rattle.reply_text.specs.declared.reply.Reply.TheVariants as replies
 use Rattle.broadphase.specs.declared.books.Known.{Known}
 use Rattle.broadphase.specs.declared.bodies.Change.{Change}
 use Rattle.broadphase.specs.declared.bodies.Change.TheVariants as changes

@@ -9,8 +9,8 @@ use Rattle.scene_model.specs.declared.entry.Entry.TheVariants as entries
 use Rattle.scene_model.specs.Need.{need}
 use Rattle.scene_model.specs.Scene.{Scene}
 use Rattle.scene_model.specs.Step.{after_entry}
-use Rattle.script_text.specs.declared.refusal.Refusal.{Refusal}
-use Rattle.script_text.specs.declared.refusal.Refusal.TheVariants as refusals
+use Rattle.reply_text.specs.declared.refusal.Refusal.{Refusal}
+use Rattle.reply_text.specs.declared.refusal.Refusal.TheVariants as refusals
 use Rattle.broadphase.specs.declared.books.Known.{Known}
 use Rattle.broadphase.specs.Books.{slots_kept, nodes_kept}
 use Rattle.broadphase.specs.Table.{Table}

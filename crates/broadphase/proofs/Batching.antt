@@ -10,8 +10,8 @@ use Rattle.scene_model.specs.declared.body_view.Phase.TheVariants.{Out, Held}
 use Rattle.scene_model.specs.Scene.{Scene}
 use Rattle.scene_model.specs.Step.{IsPossible, with_phase}
 use Rattle.scene_model.specs.Shown.{after_shown}
-use Rattle.script_text.specs.declared.refusal.Refusal.{Refusal}
-use Rattle.script_text.specs.declared.refusal.Refusal.TheVariants.{Empty, NoSlot, NoNodes}
+use Rattle.reply_text.specs.declared.refusal.Refusal.{Refusal}
+use Rattle.reply_text.specs.declared.refusal.Refusal.TheVariants.{Empty, NoSlot, NoNodes}
 use Rattle.broadphase.specs.declared.books.Known.{Known}
 use Rattle.broadphase.specs.declared.books.Batch.{Batch}
 use Rattle.broadphase.specs.declared.taking.Taken.{Taken}

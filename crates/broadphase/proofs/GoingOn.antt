@@ -19,7 +19,7 @@ use Rattle.scene_model.proofs.Kept.{KeepsBody}
 use Rattle.scene_model.proofs.Views.{HasBody-from_view}
 use Rattle.script_text.specs.declared.command.Command.{Command}
 use Rattle.script_text.specs.declared.command.Command.TheVariants as commands
-use Rattle.script_text.specs.declared.refusal.Refusal.{Refusal}
+use Rattle.reply_text.specs.declared.refusal.Refusal.{Refusal}
 use Rattle.broadphase.specs.declared.books.Known.{Known}
 use Rattle.broadphase.specs.declared.books.Batch.{Batch}
 use Rattle.broadphase.specs.declared.books.Attached.{Attached}

@@ -15,7 +15,7 @@ use Rattle.scene_model.specs.Shown.{after_shown}
 use Rattle.scene_model.proofs.Places.{place_at-with_body_other, place_at-with_change_same}
 use Rattle.scene_model.proofs.Lives.{Contains-cons_cases, Contains-cons_tail, head_apart}
 use Rattle.scene_model.proofs.Batches.{put_in, place_at-fold_phase}
-use Rattle.script_text.specs.declared.refusal.Refusal.{Refusal}
+use Rattle.reply_text.specs.declared.refusal.Refusal.{Refusal}
 use Rattle.broadphase.specs.declared.books.Known.{Known}
 use Rattle.broadphase.specs.Taking.{Marking, marking_on, marking, mark_refusal, marks, unmarks}
 use Rattle.broadphase.specs.UnderWay.{AreApart, ArePossible}

@@ -6,7 +6,7 @@ use Rattle.std.proofs.lemmas.List.Sums.{fold-append}
 use Rattle.scene_model.specs.declared.entry.Entry.{Entry}
 use Rattle.scene_model.specs.Scene.{Scene}
 use Rattle.scene_model.specs.Shown.{after_shown}
-use Rattle.script_text.specs.declared.refusal.Refusal.{Refusal}
+use Rattle.reply_text.specs.declared.refusal.Refusal.{Refusal}
 use Rattle.broadphase.specs.declared.books.Known.{Known}
 use Rattle.broadphase.specs.Books.{Books}
 use Rattle.broadphase.specs.Table.{Table, table_with}

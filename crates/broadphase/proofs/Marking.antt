@@ -14,7 +14,7 @@ use Rattle.scene_model.specs.Step.{HasBody, IsPossible, after_entry}
 use Rattle.scene_model.specs.Query.{view_at, view_of}
 use Rattle.scene_model.specs.Shown.{after_shown}
 use Rattle.scene_model.proofs.Views.{HasBody-from_view}
-use Rattle.script_text.specs.declared.refusal.Refusal.{Refusal}
+use Rattle.reply_text.specs.declared.refusal.Refusal.{Refusal}
 use Rattle.broadphase.specs.declared.books.Known.{Known}
 use Rattle.broadphase.specs.Body.{body_of}
 use Rattle.broadphase.specs.Taking.{Marking, marking_on, marking, mark_refusal, view_refusal, phase_refusal, marks, unmarks}

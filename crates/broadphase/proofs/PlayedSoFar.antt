@@ -4,7 +4,7 @@ use Rattle.std.proofs.lemmas.List.{append-nil, take_more, take-append-drop, take
 use Rattle.world_io.specs.Bytes.{Appended, AppendedPart}
 use Rattle.world_io.proofs.BytesLemmas.{Appended-nothing, Appended-append, AppendedPart-longer, AppendedPart-append}
 use Rattle.script_text.specs.declared.command.Command.{Command}
-use Rattle.script_text.specs.Reply.{reply_text}
+use Rattle.reply_text.specs.Reply.{reply_text}
 use Rattle.scene_model.specs.Scene.{Scene}
 use Rattle.scene_model.specs.Shown.{shown}
 use Rattle.scene_model.specs.Query.{live_count, in_count}

@@ -15,11 +15,11 @@ use Rattle.scene_model.specs.Step.{after_entry}
 use Rattle.scene_model.specs.Shown.{shown, after_shown}
 use Rattle.scene_model.proofs.ShownReads.{view_at-shown, next_index-shown, hits-shown}
 use Rattle.scene_model.proofs.ShownSteps.{place_at-shown, shown-after_entry}
-use Rattle.script_text.specs.declared.multi.MultiItem.{MultiItem}
-use Rattle.script_text.specs.declared.reply.Reply.{Reply}
-use Rattle.script_text.specs.declared.reply.Reply.TheVariants as replies
-use Rattle.script_text.specs.declared.refusal.Refusal.{Refusal}
-use Rattle.script_text.specs.declared.refusal.Refusal.TheVariants as refusals
+use Rattle.reply_text.specs.declared.multi.MultiItem.{MultiItem}
+use Rattle.reply_text.specs.declared.reply.Reply.{Reply}
+use Rattle.reply_text.specs.declared.reply.Reply.TheVariants as replies
+use Rattle.reply_text.specs.declared.refusal.Refusal.{Refusal}
+use Rattle.reply_text.specs.declared.refusal.Refusal.TheVariants as refusals
 use Rattle.script_text.specs.declared.command.Command.{Command}
 use Rattle.script_text.specs.declared.command.Command.TheVariants as commands
 use Rattle.broadphase.specs.declared.books.Known.{Known}

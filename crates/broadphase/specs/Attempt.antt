@@ -1,9 +1,9 @@
 -- What comes of a command that is carried out or refused.
 use Rattle.std.specs.Prelude.{List, [], Option, Some, None}
 use Rattle.scene_model.specs.declared.entry.Entry.{Entry}
-use Rattle.script_text.specs.declared.refusal.Refusal.{Refusal}
-use Rattle.script_text.specs.declared.reply.Reply.{Reply}
-use Rattle.script_text.specs.declared.reply.Reply.TheVariants as replies
+use Rattle.reply_text.specs.declared.refusal.Refusal.{Refusal}
+use Rattle.reply_text.specs.declared.reply.Reply.{Reply}
+use Rattle.reply_text.specs.declared.reply.Reply.TheVariants as replies
 use Rattle.broadphase.specs.Books.{Books}
 use Rattle.broadphase.specs.Table.{Table}
 

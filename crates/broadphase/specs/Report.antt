@@ -4,7 +4,7 @@ use Rattle.scene_model.specs.Scene.{Scene}
 use Rattle.scene_model.specs.Query.{live_count, in_count}
 use Rattle.script_text.specs.declared.command.Command.{Command}
 use Rattle.script_text.specs.declared.script.Script.{Script}
-use Rattle.script_text.specs.Reply.{reply_text}
+use Rattle.reply_text.specs.Reply.{reply_text}
 use Rattle.broadphase.specs.Table.{Table, empty_table}
 use Rattle.broadphase.specs.Turn.{turn, table_after}
 

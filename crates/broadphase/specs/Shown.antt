@@ -3,8 +3,8 @@ use Rattle.std.specs.Prelude.{◌≡◌, ℕ, List, Option, fold, Result, Ok, Er
 use Rattle.scene_model.specs.declared.entry.Entry.{Entry}
 use Rattle.scene_model.specs.Scene.{Scene}
 use Rattle.scene_model.specs.Shown.{shown, after_shown}
-use Rattle.script_text.specs.declared.refusal.Refusal.{Refusal}
-use Rattle.script_text.specs.declared.reply.Reply.{Reply}
+use Rattle.reply_text.specs.declared.refusal.Refusal.{Refusal}
+use Rattle.reply_text.specs.declared.reply.Reply.{Reply}
 use Rattle.script_text.specs.declared.command.Command.{Command}
 use Rattle.world_io.specs.Bytes.{Appended, AppendedPart}
 use Rattle.broadphase.specs.Books.{Books}

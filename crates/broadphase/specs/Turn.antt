@@ -11,9 +11,9 @@ use Rattle.scene_model.specs.Scene.{place_at, next_index}
 use Rattle.scene_model.specs.Query.{hits}
 use Rattle.script_text.specs.declared.command.Command.{Command}
 use Rattle.script_text.specs.declared.command.Command.TheVariants as commands
-use Rattle.script_text.specs.declared.reply.Reply.{Reply}
-use Rattle.script_text.specs.declared.reply.Reply.TheVariants as replies
-use Rattle.script_text.specs.declared.refusal.Refusal.TheVariants as refusals
+use Rattle.reply_text.specs.declared.reply.Reply.{Reply}
+use Rattle.reply_text.specs.declared.reply.Reply.TheVariants as replies
+use Rattle.reply_text.specs.declared.refusal.Refusal.TheVariants as refusals
 use Rattle.broadphase.specs.declared.bodies.Change.TheVariants as changes
 use Rattle.broadphase.specs.Books.{Books, with_name}
 use Rattle.broadphase.specs.Table.{Table, table_with}

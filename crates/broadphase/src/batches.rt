@@ -8,8 +8,9 @@ ghost use Rattle.broadphase.specs.Shown.{Tries};
 use crate::books::{Batch, Known};
 use crate::player::Player;
 use crate::taking::unmark;
+use reply_text::Refusal;
 use scene_model::Entry;
-use script_text::{Refusal, Text};
+use script_text::Text;
 use std::alloc::{AllocError, Global};
 
 /// Those of the bodies that were created in a layer.

@@ -7,8 +7,9 @@ use crate::books::Known;
 use crate::player::Player;
 use body_ident::BodyId;
 use fixed_box::FixBox;
+use reply_text::{MultiItem, MultiList, Refusal, Reply};
 use scene_model::{BodyView, Entry, Phase, PlainScene};
-use script_text::{MultiItem, MultiList, Refusal, Reply, Text};
+use script_text::Text;
 use std::alloc::{AllocError, Global};
 
 /// A change of one body.

@@ -10,8 +10,8 @@ use crate::bodies::body_of;
 use crate::books::Known;
 use crate::player::Player;
 use body_ident::BodyId;
+use reply_text::Refusal;
 use scene_model::{Entry, IndexList, Phase, PlainScene};
-use script_text::Refusal;
 use std::alloc::{AllocError, Global};
 use tree_plan::need;
 

@@ -1,5 +1,7 @@
 -- A draft with one line more.
-use Rattle.std.proofs.Common.{◌≡◌, ℕ, List, [], ◌∷◌, ◌++◌, map, refl, ap, sym, ◌∙◌}
+use Rattle.std.proofs.Common.{◌≡◌, ℕ, true, List, [], ◌∷◌, ◌++◌, map, refl, ap, sym, ◌∙◌, inl, inr}
+use Rattle.std.proofs.lemmas.Bool.{cases_Bool}
+use Rattle.script_text.specs.Fitting.{numbers_fit, all_fit}
 use Rattle.std.proofs.lemmas.List.{map_push}
 use Rattle.script_text.specs.declared.command.Command.{Command}
 use Rattle.script_text.specs.declared.command.Command.TheVariants.{Create, Destroy, Add, Prepare, Finalize, Abort, Remove, Move, User, Read, Multi, QueryBox, QueryPoint, QueryRay}
@@ -33,3 +35,12 @@ after_words above c words e = ap (after_command above) (sym e) ∙ of_command ab
 pub one_more : (first : List (List ℕ)) (lines : List Command) (c : Command) (words : List (List ℕ)) → command_words c ≡ words
     → first ∷ map command_words (lines ++ c ∷ []) ≡ (first ∷ map command_words lines) ++ words ∷ []
 one_more first lines c words e = rw (map_push command_words lines c, e) refl
+
+-- one command more whose numbers fit
+pub fit_more : (commands : List Command) (c : Command) → all_fit commands ≡ true → numbers_fit c ≡ true → all_fit (commands ++ c ∷ []) ≡ true
+fit_more [] c h fits = rw fits refl
+fit_more (d ∷ commands) c h fits =
+    elim (cases_Bool (numbers_fit d)) [
+      | inl good ↦ rw good (fit_more commands c (rw good at h) fits)
+      | inr bad ↦ absurd (let e = rw bad at h in cc)
+    ]

@@ -3,7 +3,7 @@ pub mod Numbers
 pub mod Words
 pub mod Texts
 pub mod Places
-pub mod Printing
+pub mod Spaced
 pub mod Boxes
 pub mod Sizes
 pub mod Counts
@@ -11,3 +11,5 @@ pub mod Cuts
 pub mod FirstWord
 pub mod Drafts
 pub mod Parsing
+pub mod Reprinting
+pub mod Unique

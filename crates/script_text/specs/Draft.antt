@@ -1,12 +1,13 @@
 -- What a reader has read so far.
-use Rattle.std.specs.Prelude.{◌≡◌, ℕ, List, [], ◌∷◌, ◌++◌, map, true, Option, Some, None}
+use Rattle.std.specs.Prelude.{◌≡◌, ℕ, List, [], ◌++◌, true, Option, Some, None}
 use Rattle.word_map.specs.declared.config.Config.{Config}
 use Rattle.script_text.specs.declared.command.Command.{Command}
 use Rattle.script_text.specs.declared.draft.Draft.{Draft}
-use Rattle.script_text.specs.Lines.{some_command, commands_of}
-use Rattle.script_text.specs.Command.{world_words, command_words}
+use Rattle.script_text.specs.Lines.{lines_of, some_command, commands_of}
+use Rattle.script_text.specs.Printed.{words_below}
+use Rattle.script_text.specs.Fitting.{all_fit}
 use Rattle.script_text.specs.Above.{Above, opening, after_command}
-use Rattle.script_text.specs.Line.{lines_fault, end_fault}
+use Rattle.script_text.specs.Line.{lines_fault, end_fault, script_fault}
 
 -- what stands above the lines below a world line
 abbrev pub above_below : Config → List (List ℕ) → Above
@@ -22,7 +23,7 @@ above_next draft = above_of draft.world draft.names
 
 abbrev pub words_of_lines : Option Config → List Command → List (List (List ℕ))
 words_of_lines None lines = []
-words_of_lines (Some world) lines = world_words world ∷ map command_words lines
+words_of_lines (Some world) lines = words_below world lines
 
 -- the words of the commands so far
 abbrev pub words_so_far : Draft → List (List (List ℕ))
@@ -32,8 +33,17 @@ words_so_far draft = words_of_lines draft.world draft.lines.items
 pub record Adds (words : List (List ℕ)) (old new : Draft) : Type 0 where
   pub text : words_so_far new ≡ words_so_far old ++ some_command words
   pub above : above_next new ≡ after_command (above_next old) words
+  pub fit : all_fit old.lines.items ≡ true → all_fit new.lines.items ≡ true
 
 -- these lines more, of which the first has the number 1; the line below them has this number
 pub record AddsAll (lines : List (List ℕ)) (old new : Draft) (number : ℕ) : Type 0 where
   pub text : words_so_far new ≡ words_so_far old ++ commands_of lines
   pub fault : lines_fault (above_next old) 1 lines ≡ end_fault (above_next new) number
+  pub fit : all_fit old.lines.items ≡ true → all_fit new.lines.items ≡ true
+
+-- all lines of a text were read; the line below them has this number
+pub record IsWhole (draft : Draft) (number : ℕ) : Type 0 where
+  pub bytes : List ℕ
+  pub words : words_so_far draft ≡ commands_of (lines_of bytes)
+  pub fault : script_fault bytes ≡ end_fault (above_next draft) number
+  pub fit : all_fit draft.lines.items ≡ true

@@ -1,5 +1,5 @@
 -- What the command of a line is, and what is wrong with words that are none.
-use Rattle.std.specs.Prelude.{ℕ, if◌then◌else◌, List, [], ◌∷◌, Option, Some, None, pos}
+use Rattle.std.specs.Prelude.{ℕ, if◌then◌else◌, List, [], ◌∷◌, Option, Some, None}
 use Rattle.script_text.specs.declared.code.Code.{Code}
 use Rattle.script_text.specs.declared.code.Code.TheVariants as code
 use Rattle.script_text.specs.declared.limits.TheConstants.{MAX_MULTI}

@@ -11,6 +11,7 @@ pub mod Above
 pub mod Grammar
 pub mod Line
 pub mod Draft
-pub mod Script
 pub mod Printed
-pub mod Reply
+pub mod Fitting
+pub mod Sound
+pub mod Script

@@ -1,5 +1,5 @@
 -- What a script is: which bytes spell it, and what is wrong with bytes that spell none.
-use Rattle.std.specs.Prelude.{◌≡◌, ℕ, ◌+◌, List, ◌∷◌, map, Option, Some, None, Result, Ok, Err}
+use Rattle.std.specs.Prelude.{◌≡◌, ℕ, ◌+◌, List, Option, Some, None, Result, Ok, Err}
 use Rattle.word_map.specs.Limits.{IsConfig}
 use Rattle.script_text.specs.declared.code.Code.{Code}
 use Rattle.script_text.specs.declared.code.LineError.{LineError}
@@ -8,14 +8,14 @@ use Rattle.script_text.specs.declared.script.Script.{Script}
 use Rattle.script_text.specs.declared.script.ScriptFault.{ScriptFault}
 use Rattle.script_text.specs.declared.script.ScriptFault.TheVariants as faults
 use Rattle.script_text.specs.Lines.{lines_of, commands_of}
-use Rattle.script_text.specs.Command.{world_words, command_words}
+use Rattle.script_text.specs.Printed.{words_below}
 use Rattle.script_text.specs.World.{IsForOne}
 use Rattle.script_text.specs.declared.draft.Draft.{Draft}
 use Rattle.script_text.specs.Draft.{words_so_far}
 
 -- the words of a script's commands
 abbrev pub script_words : Script → List (List (List ℕ))
-script_words script = world_words script.world ∷ map command_words script.lines
+script_words script = words_below script.world script.lines
 
 -- the words of the bytes' commands are those of the script
 abbrev pub Spells : List ℕ → Script → Type 0
@@ -46,7 +46,7 @@ pub record IsFinished (draft : Draft) (script : Script) : Type 0 where
   pub actors : script.actors ≡ 0
   pub most_workers : script.most_workers ≡ 0
 
--- the script is the one that the bytes spell, for one caller
+-- the script is the one that the bytes spell
 pub record IsScriptOf (bytes : List ℕ) (script : Script) : Type 0 where
   pub text : Spells bytes script
   pub config : IsConfig script.world

@@ -1,8 +1,9 @@
-ghost use Rattle.std.specs.Prelude.{◌≡◌, ◌∷◌, [], Some, None};
+ghost use Rattle.std.specs.Prelude.{◌≡◌, ◌∷◌, [], Some, None, true};
 ghost use Rattle.script_text.specs.Fault.{ReadsInMemory};
 ghost use Rattle.script_text.specs.Lines.{texts};
 ghost use Rattle.script_text.specs.Keyword.{keyword_text};
-ghost use Rattle.script_text.specs.Command.{world_words, command_words};
+ghost use Rattle.script_text.specs.Command.{world_words};
+ghost use Rattle.script_text.specs.Fitting.{HasWords, all_fit};
 ghost use Rattle.script_text.specs.World.{SpellsWorld};
 ghost use Rattle.script_text.specs.Grammar.{fields_fault, first_fault, named_fault, command_fault};
 ghost use Rattle.script_text.specs.Above.{opening};
@@ -30,7 +31,7 @@ fn read_fields(
     args: &[&[u8]],
 ) -> Result<Command, LineError>
     ensures { ReadsInMemory result (fields_fault (above_below world.now names.now) keyword (texts args.now))
-        (λ c. command_words c ≡ keyword_text keyword ∷ texts args.now) }
+        (HasWords (keyword_text keyword ∷ texts args.now)) }
 {
     match keyword {
         Keyword::World => Err(LineError::Fault(Code::World)),
@@ -80,6 +81,7 @@ impl Draft {
     pub fn new(alloc: Global) -> Draft
         ensures words { words_so_far result ≡ [] }
         ensures above { above_next result ≡ opening }
+        ensures fit { all_fit result.lines.items ≡ true }
     {
         Draft {
             world: None,
@@ -100,6 +102,7 @@ impl Draft {
     }
 
     /// Adds a line below the world line.
+    #[tactic(auto, using(crate::proofs::Drafts::after_words, crate::proofs::Drafts::one_more, crate::proofs::Drafts::fit_more))]
     fn continue_with(
         &mut self,
         alloc: Global,

@@ -1,7 +1,7 @@
 ghost use Rattle.std.specs.Prelude.{◌≡◌, ◌∷◌, [], codes};
 ghost use Rattle.script_text.specs.Lines.{texts};
 ghost use Rattle.script_text.specs.Fault.{ReadsInMemory};
-ghost use Rattle.script_text.specs.Command.{command_words};
+ghost use Rattle.script_text.specs.Fitting.{HasWords};
 ghost use Rattle.script_text.specs.World.{SpellsWorld};
 ghost use Rattle.script_text.specs.Grammar.{world_fault, create_fault, body_fault, batch_fault, bodies_fault, prepare_fault, move_fault, set_user_fault, box_fault, point_fault, ray_fault};
 
@@ -48,7 +48,7 @@ pub fn read_create(
     layers: u32,
     args: &[&[u8]],
 ) -> Result<Command, LineError>
-    ensures { ReadsInMemory result (create_fault names.now layers (texts args.now)) (λ c. command_words c ≡ codes "create" ∷ texts args.now) }
+    ensures { ReadsInMemory result (create_fault names.now layers (texts args.now)) (HasWords (codes "create" ∷ texts args.now)) }
 {
     let [name, layer, x0, y0, z0, x1, y1, z1, user] = args else {
         return Err(LineError::Fault(Code::Count));
@@ -113,7 +113,7 @@ pub fn read_prepare(
     layers: u32,
     args: &[&[u8]],
 ) -> Result<Command, LineError>
-    ensures { ReadsInMemory result (prepare_fault names.now most layers (texts args.now)) (λ c. command_words c ≡ codes "prepare" ∷ texts args.now) }
+    ensures { ReadsInMemory result (prepare_fault names.now most layers (texts args.now)) (HasWords (codes "prepare" ∷ texts args.now)) }
 {
     let [batch, layer, bodies @ ..] = args else {
         return Err(LineError::Fault(Code::Count));
@@ -132,7 +132,7 @@ pub fn read_prepare(
 /// `move NAME BOX`.
 #[tactic(auto, using(crate::proofs::Words::words_7))]
 pub fn read_move(alloc: Global, names: &Names, args: &[&[u8]]) -> Result<Command, LineError>
-    ensures { ReadsInMemory result (move_fault names.now (texts args.now)) (λ c. command_words c ≡ codes "move" ∷ texts args.now) }
+    ensures { ReadsInMemory result (move_fault names.now (texts args.now)) (HasWords (codes "move" ∷ texts args.now)) }
 {
     let [name, x0, y0, z0, x1, y1, z1] = args else {
         return Err(LineError::Fault(Code::Count));
@@ -148,7 +148,7 @@ pub fn read_move(alloc: Global, names: &Names, args: &[&[u8]]) -> Result<Command
 /// `user NAME U`.
 #[tactic(auto, using(crate::proofs::Words::words_2))]
 pub fn read_set_user(alloc: Global, names: &Names, args: &[&[u8]]) -> Result<Command, LineError>
-    ensures { ReadsInMemory result (set_user_fault names.now (texts args.now)) (λ c. command_words c ≡ codes "user" ∷ texts args.now) }
+    ensures { ReadsInMemory result (set_user_fault names.now (texts args.now)) (HasWords (codes "user" ∷ texts args.now)) }
 {
     let [name, user] = args else {
         return Err(LineError::Fault(Code::Count));
@@ -164,7 +164,7 @@ pub fn read_set_user(alloc: Global, names: &Names, args: &[&[u8]]) -> Result<Com
 /// `box MASK BOX`.
 #[tactic(auto, using(crate::proofs::Words::words_7))]
 pub fn read_box(args: &[&[u8]]) -> Result<Command, LineError>
-    ensures { ReadsInMemory result (box_fault (texts args.now)) (λ c. command_words c ≡ codes "box" ∷ texts args.now) }
+    ensures { ReadsInMemory result (box_fault (texts args.now)) (HasWords (codes "box" ∷ texts args.now)) }
 {
     let [mask, x0, y0, z0, x1, y1, z1] = args else {
         return Err(LineError::Fault(Code::Count));
@@ -177,7 +177,7 @@ pub fn read_box(args: &[&[u8]]) -> Result<Command, LineError>
 /// `point MASK x y z`.
 #[tactic(auto, using(crate::proofs::Words::words_4))]
 pub fn read_point(args: &[&[u8]]) -> Result<Command, LineError>
-    ensures { ReadsInMemory result (point_fault (texts args.now)) (λ c. command_words c ≡ codes "point" ∷ texts args.now) }
+    ensures { ReadsInMemory result (point_fault (texts args.now)) (HasWords (codes "point" ∷ texts args.now)) }
 {
     let [mask, x, y, z] = args else {
         return Err(LineError::Fault(Code::Count));
@@ -190,7 +190,7 @@ pub fn read_point(args: &[&[u8]]) -> Result<Command, LineError>
 /// `ray MASK ox oy oz dx dy dz`.
 #[tactic(auto, using(crate::proofs::Words::words_7))]
 pub fn read_ray(args: &[&[u8]]) -> Result<Command, LineError>
-    ensures { ReadsInMemory result (ray_fault (texts args.now)) (λ c. command_words c ≡ codes "ray" ∷ texts args.now) }
+    ensures { ReadsInMemory result (ray_fault (texts args.now)) (HasWords (codes "ray" ∷ texts args.now)) }
 {
     let [mask, ox, oy, oz, dx, dy, dz] = args else {
         return Err(LineError::Fault(Code::Count));

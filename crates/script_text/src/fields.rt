@@ -145,14 +145,14 @@ pub fn read_layer(layers: u32, word: &[u8]) -> Result<u32, Code>
 
 /// The user number that a word spells.
 pub fn read_user(word: &[u8]) -> Result<u32, Code>
-    ensures { Reads result (user_fault word.now) (λ n. word.now ≡ decimal n) }
+    ensures { Reads result (user_fault word.now) (SpellsNatural word.now 0 4294967295) }
 {
     read_natural(word, 0, u32::MAX)
 }
 
 /// The mask that a word spells: its bit l asks the layer l.
 pub fn read_mask(word: &[u8]) -> Result<u8, Code>
-    ensures { Reads result (mask_fault word.now) (λ n. word.now ≡ decimal n) }
+    ensures { Reads result (mask_fault word.now) (SpellsNatural word.now 0 255) }
 {
     let mask = read_natural(word, 0, 255)?;
     Ok(mask as u8)

@@ -1,9 +1,10 @@
-ghost use Rattle.std.specs.Prelude.{◌≡◌, [], ◌∷◌, ⊤};
+ghost use Rattle.std.specs.Prelude.{◌≡◌, [], ◌∷◌, ⊤, IfOk};
+ghost use Rattle.script_text.specs.declared.script.Script.{Script};
 ghost use Rattle.script_text.specs.Fault.{first_of, Reads, ReadsInMemory};
 ghost use Rattle.script_text.specs.Lines.{lines_of, text_fault, command_of};
 ghost use Rattle.script_text.specs.Above.{opening};
 ghost use Rattle.script_text.specs.Line.{long_fault, line_fault, lines_fault, end_fault, script_fault};
-ghost use Rattle.script_text.specs.Draft.{Adds, AddsAll, above_next, words_so_far};
+ghost use Rattle.script_text.specs.Draft.{Adds, AddsAll, IsWhole, above_next, words_so_far};
 ghost use Rattle.script_text.specs.Script.{ReadsOn, ReadsScript, IsFinished, IsScriptOf, fault_at};
 
 use crate::code::{Code, LineError};
@@ -77,8 +78,9 @@ fn add_lines(alloc: Global, draft: &mut Draft, text: &[u8]) -> Result<u32, Scrip
     Ok(number)
 }
 
-/// The script of a draft, where the line below its lines has this number.
+/// The script of a draft of all lines, where the line below them has this number.
 fn finish(draft: Draft, number: u32) -> Result<Script, ScriptFault>
+    requires { IsWhole draft number }
     ensures { ReadsScript result (end_fault (above_next draft) number) (IsFinished draft) }
 {
     let Some(world) = draft.world else {
@@ -100,9 +102,10 @@ fn finish(draft: Draft, number: u32) -> Result<Script, ScriptFault>
 /// `At` comes exactly where they spell none. It names the first line that is no line of a script, and what is wrong
 /// with it first; the code is `Later` for a command that is not built yet. `trace` says whether the script is to be
 /// played with its entries told; no command that is built depends on it. Nothing is kept after a fault.
-#[tactic(auto, using(crate::proofs::Parsing::from_first))]
+#[tactic(auto, using(crate::proofs::Parsing::from_first, crate::proofs::Parsing::whole))]
 pub fn parse(alloc: Global, bytes: &[u8], trace: bool) -> Result<Script, ScriptFault>
-    ensures { ReadsScript result (script_fault bytes.now) (IsScriptOf bytes.now) }
+    ensures exact { ReadsScript result (script_fault bytes.now) (IsScriptOf bytes.now) }
+    ensures only { IfOk result (λ script. (other : Script) → IsScriptOf bytes.now other → other ≡ script) }
 {
     let _no_command_is_refused_a_trace = trace;
     let mut draft = Draft::new(alloc);

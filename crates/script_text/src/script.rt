@@ -1,3 +1,5 @@
+ghost use Rattle.script_text.specs.Sound.{IsSound};
+
 use crate::code::Code;
 use crate::command::Command;
 use std::alloc::{AllocError, AllocFailed};
@@ -37,7 +39,7 @@ impl CommandList {
     }
 }
 
-/// What a text asks the player to do.
+/// What a text asks the player to do. Its own text, a line for each command, is a script with these commands.
 #[derive(Debug, Drop)]
 pub struct Script {
     /// The sizes of the world. `passes` is 1 + `actors` + `most_workers`.
@@ -48,6 +50,7 @@ pub struct Script {
     pub actors: u32,
     /// The most workers of a block or a step: none, until these are built.
     pub most_workers: u32,
+    pub ghost sound: { IsSound world lines actors most_workers },
 }
 
 /// Why bytes gave no script.

@@ -48,7 +48,7 @@ same_axis s b f g e k l =
 
 -- ---- the entry
 
-same_frac : (f g : Frac) → f.n ≡ g.n → f.m ≡ g.m → f ≡ g
+pub same_frac : (f g : Frac) → f.n ≡ g.n → f.m ≡ g.m → f ≡ g
 same_frac f g x y = λ i. record { n = x i; m = y i }
 
 same_over_axis : (s : Segment) (b : FixBox) (f g : Frac) → 1 ≤ f.m → f.n * g.m ≡ g.n * f.m → IsOverFirstAxis s b f → IsOverFirstAxis s b g → f ≡ g

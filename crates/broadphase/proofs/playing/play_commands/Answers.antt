@@ -1,7 +1,7 @@
 use Rattle.std.proofs.Common.{◌≡◌, ℕ, List, Option, subst, arith}
 use Rattle.world_io.specs.Bytes.{Appended}
 use Rattle.script_text.specs.declared.command.Command.{Command}
-use Rattle.script_text.specs.Reply.{reply_text}
+use Rattle.reply_text.specs.Reply.{reply_text}
 use Rattle.broadphase.specs.Turn.{turn}
 use Rattle.broadphase.specs.Shown.{shown_after}
 use Rattle.broadphase.proofs.PlayedSoFar.{one_more}

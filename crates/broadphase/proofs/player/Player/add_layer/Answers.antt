@@ -4,7 +4,7 @@ use Rattle.std.proofs.Common.{length}
 use Rattle.scene_model.specs.declared.entry.Entry.TheVariants.{Join}
 use Rattle.scene_model.specs.Scene.{Scene}
 use Rattle.scene_model.specs.Step.{IsPossible}
-use Rattle.script_text.specs.declared.refusal.Refusal.{Refusal}
+use Rattle.reply_text.specs.declared.refusal.Refusal.{Refusal}
 use Rattle.broadphase.specs.declared.taking.Taken.{Taken}
 use Rattle.broadphase.specs.Table.{Table}
 use Rattle.broadphase.specs.Taking.{taking}

@@ -2,15 +2,15 @@ ghost use Rattle.std.specs.Prelude.{◌≡◌, ◌∷◌, ◌++◌, OnOk, OnErr,
 ghost use Rattle.std.specs.List.{flat_map};
 ghost use Rattle.body_ident.specs.Text.{id_text};
 ghost use Rattle.script_text.specs.Printed.{spaced};
-ghost use Rattle.script_text.specs.Reply.{phase_text, body_words, item_text, hits_text, reply_words, reply_text};
+ghost use Rattle.reply_text.specs.Reply.{phase_text, body_words, item_text, hits_text, reply_words, reply_text};
 
-use crate::appending::{append_box, append_number, append_word};
 use crate::id_list::IdList;
 use crate::multi::{MultiItem, MultiList};
 use crate::refusal::Refusal;
 use body_ident::BodyId;
 use itoa::Buffer;
 use scene_model::{BodyView, Phase};
+use script_text::{append_box, append_number, append_word};
 use std::alloc::AllocError;
 
 /// The answer to a command.
@@ -53,7 +53,7 @@ fn append_id(id: BodyId, out: &mut Vec<u8>) -> Result<(), AllocError>
 }
 
 /// Appends a space and an id, for each id.
-#[tactic(auto, using(crate::proofs::Printing::front_kept))]
+#[tactic(auto, using(script_text::proofs::Spaced::front_kept))]
 fn append_ids(ids: &[BodyId], out: &mut Vec<u8>) -> Result<(), AllocError>
     ensures ok { OnOk result (out.new.items ≡ out.old.items ++ flat_map (λ i. 32 ∷ id_text i) ids.now) }
     ensures err { OnErr result (take (length out.old.items) out.new.items ≡ out.old.items) }
@@ -77,7 +77,7 @@ fn append_hits(ids: &[BodyId], out: &mut Vec<u8>) -> Result<(), AllocError>
 }
 
 /// Appends an id, `=` and a user number, behind a space.
-#[tactic(auto, using(crate::proofs::Printing::front_kept))]
+#[tactic(auto, using(script_text::proofs::Spaced::front_kept))]
 fn append_user(id: BodyId, user: u32, out: &mut Vec<u8>) -> Result<(), AllocError>
     ensures ok { OnOk result (out.new.items ≡ out.old.items ++ 32 ∷ (id_text id ++ 61 ∷ decimal user)) }
     ensures err { OnErr result (take (length out.old.items) out.new.items ≡ out.old.items) }
@@ -100,7 +100,7 @@ fn append_item(item: MultiItem, out: &mut Vec<u8>) -> Result<(), AllocError>
 }
 
 /// Appends a space and an item, for each item.
-#[tactic(auto, using(crate::proofs::Printing::front_kept))]
+#[tactic(auto, using(script_text::proofs::Spaced::front_kept))]
 fn append_items(items: &[MultiItem], out: &mut Vec<u8>) -> Result<(), AllocError>
     ensures ok { OnOk result (out.new.items ≡ out.old.items ++ flat_map (λ item. 32 ∷ item_text item) items.now) }
     ensures err { OnErr result (take (length out.old.items) out.new.items ≡ out.old.items) }
@@ -112,7 +112,7 @@ fn append_items(items: &[MultiItem], out: &mut Vec<u8>) -> Result<(), AllocError
 }
 
 /// Appends what stands behind the word `body`.
-#[tactic(auto, using(crate::proofs::Printing::spaced_append, crate::proofs::Printing::front_kept))]
+#[tactic(auto, using(script_text::proofs::Spaced::spaced_append, script_text::proofs::Spaced::front_kept))]
 fn append_body(view: &BodyView, out: &mut Vec<u8>) -> Result<(), AllocError>
     ensures ok { OnOk result (out.new.items ≡ out.old.items ++ spaced (body_words view.now)) }
     ensures err { OnErr result (take (length out.old.items) out.new.items ≡ out.old.items) }

@@ -8,12 +8,12 @@ use Rattle.scene_model.specs.declared.body_view.Phase.{Phase}
 use Rattle.scene_model.specs.declared.body_view.Phase.TheVariants as phases
 use Rattle.script_text.specs.Command.{box_words}
 use Rattle.script_text.specs.Printed.{spaced}
-use Rattle.script_text.specs.declared.multi.MultiItem.{MultiItem}
-use Rattle.script_text.specs.declared.multi.MultiItem.TheVariants as items
-use Rattle.script_text.specs.declared.refusal.Refusal.{Refusal}
-use Rattle.script_text.specs.declared.refusal.Refusal.TheVariants as refusals
-use Rattle.script_text.specs.declared.reply.Reply.{Reply}
-use Rattle.script_text.specs.declared.reply.Reply.TheVariants as replies
+use Rattle.reply_text.specs.declared.multi.MultiItem.{MultiItem}
+use Rattle.reply_text.specs.declared.multi.MultiItem.TheVariants as items
+use Rattle.reply_text.specs.declared.refusal.Refusal.{Refusal}
+use Rattle.reply_text.specs.declared.refusal.Refusal.TheVariants as refusals
+use Rattle.reply_text.specs.declared.reply.Reply.{Reply}
+use Rattle.reply_text.specs.declared.reply.Reply.TheVariants as replies
 
 abbrev pub refusal_text : Refusal → List ℕ
 refusal_text refusals.NoId = codes "noid"

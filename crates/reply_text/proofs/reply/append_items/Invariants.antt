@@ -1,7 +1,7 @@
 use Rattle.std.proofs.Common.{◌≡◌, ◌∷◌, ◌++◌, take}
 use Rattle.std.specs.List.{flat_map}
-use Rattle.script_text.specs.Reply.{item_text}
-use Rattle.script_text.proofs.reply.append_items.Given as goal
+use Rattle.reply_text.specs.Reply.{item_text}
+use Rattle.reply_text.proofs.reply.append_items.Given as goal
 
 -- the items so far stand at the end
 abbrev pub invariant-loop-item : goal.invariant-loop-item

@@ -5,10 +5,7 @@ use std::marker::Model;
 #[derive(Clone, Copy, Debug)]
 pub enum MultiItem {
     /// The body's id and its user number.
-    User {
-        id: BodyId,
-        user: u32,
-    },
+    User { id: BodyId, user: u32 },
     /// The id names no body that is live.
     Gone,
 }
@@ -21,7 +18,7 @@ pub struct MultiList {
 
 impl Model for MultiList {
     ghost use Rattle.std.specs.Prelude.{List};
-    ghost use Rattle.script_text.specs.declared.multi.MultiItem.{MultiItem};
+    ghost use Rattle.reply_text.specs.declared.multi.MultiItem.{MultiItem};
 
     ghost Value = { List MultiItem };
 

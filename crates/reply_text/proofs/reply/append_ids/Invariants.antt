@@ -1,7 +1,7 @@
 use Rattle.std.proofs.Common.{◌≡◌, ◌∷◌, ◌++◌, take}
 use Rattle.std.specs.List.{flat_map}
 use Rattle.body_ident.specs.Text.{id_text}
-use Rattle.script_text.proofs.reply.append_ids.Given as goal
+use Rattle.reply_text.proofs.reply.append_ids.Given as goal
 
 -- the ids so far stand at the end
 abbrev pub invariant-loop-id : goal.invariant-loop-id

@@ -18,6 +18,7 @@ abbrev pub keep_taken : Table → Batch → List Entry → Option Refusal → At
 keep_taken table batch made None = record { entries = made; refusal = None; books = with_batch table.books batch }
 keep_taken table batch made (Some refusal) = record { entries = made; refusal = Some refusal; books = table.books }
 
+-- so many bodies were to be taken for it
 abbrev pub prepare_taken : Table → List ℕ → ℕ → ℕ → Taking → Attempt
 prepare_taken table name layer count t = keep_taken table (record { name = name; layer = layer; indexes = t.indexes; nodes = need count }) t.entries t.refusal
 
@@ -31,6 +32,7 @@ abbrev pub prepare_known : Table → List ℕ → ℕ → Option (List Known) �
 prepare_known table name layer None = refused table refusals.NoId
 prepare_known table name layer (Some bodies) = prepare_bodies table name layer bodies
 
+-- the names of its bodies are looked up first
 abbrev pub prepare_named : Table → List ℕ → ℕ → List (List ℕ) → Attempt
 prepare_named table name layer names = prepare_known table name layer (known_all table.books names)
 
@@ -86,6 +88,7 @@ add_layers table bodies (layer ∷ layers) =
     let first = add_layer table layer (in_layer layer bodies) in
     followed first.refusal first (add_layers (table_with table first.entries first.books) bodies layers)
 
+-- all layers of the world are looked at, from the first on
 abbrev pub add_known : Table → Option (List Known) → Attempt
 add_known table None = refused table refusals.NoId
 add_known table (Some bodies) = add_layers table bodies (range_with_len 0 table.world.layers)

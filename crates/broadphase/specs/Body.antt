@@ -50,19 +50,21 @@ abbrev pub make_change : Table → Entry → Option Refusal → Attempt
 make_change table entry None = record { entries = entry ∷ []; refusal = None; books = table.books }
 make_change table entry (Some refusal) = refused table refusal
 
+-- a body that is gone cannot be changed
 abbrev pub change_body : Table → Change → ℕ → Option BodyView → Attempt
 change_body table change index None = refused table refusals.Gone
 change_body table change index (Some v) = make_change table (entry_of change index) (forbids change v.phase)
 
+-- nor can that of a name which stands for nothing
 abbrev pub change_known : Table → Change → Option Known → Attempt
 change_known table change None = refused table refusals.NoId
 change_known table change (Some known) = change_body table change known.id.index (body_of table.scene known.id)
 
--- a change of the body that a name stands for
+-- a change of the body of a name
 abbrev pub change_named : Table → Change → List ℕ → Attempt
 change_named table change name = change_known table change (known_at table.books name)
 
--- all that there is to know of the body that a name stands for
+-- all that there is to know of a body
 abbrev pub read_body : Option BodyView → Reply
 read_body None = replies.Gone
 read_body (Some v) = replies.Body v
@@ -71,10 +73,11 @@ abbrev pub read_known : Scene → Option Known → Reply
 read_known scene None = replies.Refused refusals.NoId
 read_known scene (Some known) = read_body (body_of scene known.id)
 
+-- the body of a name is read
 abbrev pub read_named : Table → List ℕ → Reply
 read_named table name = read_known table.scene (known_at table.books name)
 
--- the user numbers of the bodies that names stand for
+-- what is told of one of several bodies
 abbrev pub item_of : Option BodyView → MultiItem
 item_of None = items.Gone
 item_of (Some v) = items.User v.id v.user
@@ -83,5 +86,6 @@ abbrev pub multi_known : Scene → Option (List Known) → Reply
 multi_known scene None = replies.Refused refusals.NoId
 multi_known scene (Some bodies) = replies.Multi (map (λ known. item_of (body_of scene known.id)) bodies)
 
+-- the user numbers of the bodies of names
 abbrev pub multi_named : Table → List (List ℕ) → Reply
 multi_named table names = multi_known table.scene (known_all table.books names)

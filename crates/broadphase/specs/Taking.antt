@@ -23,7 +23,7 @@ room_refusal table layer count =
     else (if nat_le table.world.slots (slots_kept table.books layer) then Some refusals.NoSlot
     else (if nat_lt (table.world.nodes - nodes_kept table.books) (need count) then Some refusals.NoNodes else None))
 
--- why a batch of a layer cannot take a body
+-- why a batch of a layer cannot take a body: it has this phase, it has this layer, or it is gone
 abbrev pub phase_refusal : Phase → ℕ → ℕ → Option Refusal
 phase_refusal Held own asked = Some refusals.Held
 phase_refusal In own asked = Some refusals.AlreadyIn
@@ -51,6 +51,7 @@ marking scene layer [] = record { indexes = []; refusal = None }
 marking scene layer (known ∷ bodies) =
     marking_on known.id.index (mark_refusal scene layer known.id) (marking (after_entry scene (entries.Mark known.id.index)) layer bodies)
 
+-- an entry for each of these indexes
 abbrev pub marks : List ℕ → List Entry
 marks indexes = map (λ index. entries.Mark index) indexes
 
@@ -68,6 +69,7 @@ abbrev pub marked : List ℕ → Option Refusal → Taking
 marked indexes None = record { entries = marks indexes; refusal = None; indexes = indexes }
 marked indexes (Some refusal) = record { entries = marks indexes ++ unmarks indexes; refusal = Some refusal; indexes = [] }
 
+-- where there is no room, no body is marked
 abbrev pub taking_in : Option Refusal → Marking → Taking
 taking_in None m = marked m.indexes m.refusal
 taking_in (Some refusal) m = record { entries = []; refusal = Some refusal; indexes = [] }

@@ -31,6 +31,8 @@ pub record AreHeld (scene : Scene) (prepared : List Batch) : Type 0 where
 abbrev pub IsSound : Scene → Type 0
 IsSound scene = (layers : ℕ) × IsConsistent layers scene
 
+-- the sizes are within their limits, each index fits an id, the scene is sound, batches keep no more nodes than there
+-- are, and each prepared batch holds its bodies
 pub record IsUnderWay (table : Table) : Type 0 where
   pub config : IsConfig table.world
   pub bodies : table.scene.bodies ≤ 2 ^ 23

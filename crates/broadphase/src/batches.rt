@@ -107,7 +107,7 @@ impl Player {
                 })?;
                 Ok(None)
             }
-            Err(refusal) => Ok(Some(refusal)),
+            Err(cause) => Ok(Some(cause)),
         }
     }
 

@@ -6,7 +6,6 @@ ghost use Rattle.reply_text.specs.Reply.{reply_text};
 ghost use Rattle.broadphase.specs.Table.{empty_table};
 ghost use Rattle.broadphase.specs.Turn.{turn};
 ghost use Rattle.broadphase.specs.UnderWay.{IsUnderWay};
-ghost use Rattle.word_map.specs.Limits.{IsConfig};
 ghost use Rattle.broadphase.specs.Shown.{shown_after, Plays, PlaysPart};
 ghost use Rattle.broadphase.specs.Report.{end_text_of, end_text, replies_text, table_below, serial_report};
 ghost use Rattle.broadphase.specs.declared.playing.PlayFault.TheVariants.{Write, Memory};
@@ -134,7 +133,6 @@ fn play_commands<K: Sink>(
 /// the line that counts the bodies. After an error the bytes written are a first part of the report.
 #[tactic(auto, using(crate::proofs::PlayedSoFar::under_way_first, crate::proofs::PlayedSoFar::whole_report, crate::proofs::PlayedSoFar::part_to_end, crate::proofs::PlayedSoFar::part_of_replies))]
 pub fn play<K: Sink>(alloc: Global, script: &Script, sink: &mut K) -> Result<(), PlayFault>
-    requires { IsConfig script.now.world }
     ensures report { OnOk result (Appended (K.contents sink.old) (K.contents sink.new) (serial_report script.now)) }
     ensures part { OnErr result (AppendedPart (K.contents sink.old) (K.contents sink.new) (serial_report script.now)) }
     ensures fault { IsErrOf result PlayFault.Write → Rose (K.faults sink.old) (K.faults sink.new) }

@@ -1,7 +1,7 @@
 ghost use Rattle.std.specs.Prelude.{◌<◌};
 
 use crate::streams::read_all;
-use crate::{Room, Status, run};
+use crate::{Room, Status, run, run_check};
 use std::alloc::Global;
 use std::process::Abort;
 use std::test::Fail;
@@ -209,7 +209,13 @@ fn names_the_first_bad_line(rt: HostRuntime) -> Result<(), Fail> {
 // Nothing is written, and the whole script is still there to be read.
 #[test]
 fn other_words_are_no_command(rt: HostRuntime) -> Result<(), Fail> {
-    for words in [[].as_slice(), &["play", "now"], &["Play"], &[""]] {
+    for words in [
+        [].as_slice(),
+        &["play", "now"],
+        &["check", "now"],
+        &["Play"],
+        &[""],
+    ] {
         let mut source = source_of(rt.alloc(), SCRIPT, &[], MANY)?;
         let mut sink = sink_of(rt.alloc(), &[], MANY, MANY)?;
         let ended = run_words(rt.alloc(), words, &mut source, &mut sink)?;
@@ -217,6 +223,27 @@ fn other_words_are_no_command(rt: HostRuntime) -> Result<(), Fail> {
         assert_eq!(rt; sink.contents(), b"".as_slice(), "{words:?}");
         let rest = read_all(rt.alloc(), &mut source, MANY);
         assert!(rt; rest.is_ok_and(|b| b.as_slice() == SCRIPT), "{words:?}");
+    }
+    Ok(())
+}
+
+// A check says that a script is one, or names its first bad line, and plays nothing.
+#[test]
+fn checks_a_script(rt: HostRuntime) -> Result<(), Fail> {
+    for (script, status, text) in [
+        (SCRIPT, Status::Done, b"ok\n".as_slice()),
+        (BAD_SCRIPT, Status::BadScript, BAD_LINE),
+    ] {
+        let mut source = source_of(rt.alloc(), script, &[], 3)?;
+        let mut sink = sink_of(rt.alloc(), &[], 1, MANY)?;
+        let ended = run_words(rt.alloc(), &["check"], &mut source, &mut sink)?;
+        assert_eq!(rt; ended, status, "{script:?}");
+        assert_eq!(rt; sink.contents(), text, "{script:?}");
+        let mut source = source_of(rt.alloc(), script, &[], MANY)?;
+        let mut sink = sink_of(rt.alloc(), &[2], 1, MANY)?;
+        let ended = run_check(rt.alloc(), &mut source, &mut sink);
+        assert_eq!(rt; ended, Status::WriteFault, "{script:?}");
+        assert_eq!(rt; sink.contents(), front(text, 1), "{script:?}");
     }
     Ok(())
 }

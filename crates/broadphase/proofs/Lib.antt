@@ -12,3 +12,5 @@ pub mod Projection
 pub mod PlayedSoFar
 pub mod Writing
 pub mod Ending
+pub mod Possible
+pub mod Histories

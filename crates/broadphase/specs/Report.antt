@@ -1,6 +1,8 @@
 -- What a script is answered: the lines of its report.
-use Rattle.std.specs.Prelude.{ℕ, List, [], ◌∷◌, ◌++◌, codes, decimal}
+use Rattle.std.specs.Prelude.{ℕ, ⊤, List, [], ◌∷◌, ◌++◌, codes, decimal}
+use Rattle.scene_model.specs.declared.entry.Entry.{Entry}
 use Rattle.scene_model.specs.Scene.{Scene}
+use Rattle.scene_model.specs.Step.{IsPossible, after_entry}
 use Rattle.scene_model.specs.Query.{live_count, in_count}
 use Rattle.script_text.specs.declared.command.Command.{Command}
 use Rattle.script_text.specs.declared.script.Script.{Script}
@@ -19,6 +21,18 @@ replies_text table (command ∷ commands) =
 abbrev pub table_below : Table → List Command → Table
 table_below table [] = table
 table_below table (command ∷ commands) = table_below (table_after table (turn table command)) commands
+
+-- the entries that commands make, one command after another
+abbrev pub entries_made : Table → List Command → List Entry
+entries_made table [] = []
+entries_made table (command ∷ commands) =
+    let t = turn table command in
+    t.entries ++ entries_made (table_after table t) commands
+
+-- entries that are possible one after another, each in the scene after those before it
+abbrev pub ArePossibleFrom : Scene → List Entry → Type 0
+ArePossibleFrom scene [] = ⊤
+ArePossibleFrom scene (entry ∷ later) = IsPossible scene entry × ArePossibleFrom (after_entry scene entry) later
 
 -- the last line counts the live bodies, and those in the broad phase
 abbrev pub end_text_of : ℕ → ℕ → List ℕ

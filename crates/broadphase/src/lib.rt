@@ -8,6 +8,7 @@ mod batches;
 mod bodies;
 mod books;
 mod form;
+pub mod laws;
 mod player;
 mod playing;
 mod reading;

@@ -1,0 +1,44 @@
+-- The entries of a script are a history.
+use Rattle.std.proofs.Common.{◌≡◌, List, [], ◌∷◌, ◌++◌, fold, ap, sym, subst, ◌∙◌}
+use Rattle.scene_model.specs.declared.entry.Entry.{Entry}
+use Rattle.scene_model.specs.Scene.{Scene}
+use Rattle.scene_model.specs.Step.{after_entry}
+use Rattle.scene_model.specs.Shown.{shown, after_shown}
+use Rattle.scene_model.proofs.ShownReads.{IsPossible-seen}
+use Rattle.scene_model.proofs.ShownSteps.{shown-after_entry}
+use Rattle.script_text.specs.declared.command.Command.{Command}
+use Rattle.script_text.specs.declared.script.Script.{Script}
+use Rattle.broadphase.specs.Table.{Table, empty_table}
+use Rattle.broadphase.specs.Turn.{Turn, turn, table_after}
+use Rattle.broadphase.specs.Report.{entries_made, ArePossibleFrom}
+use Rattle.broadphase.specs.UnderWay.{ArePossible, IsUnderWay}
+use Rattle.broadphase.specs.Shown.{shown_table, shown_after}
+use Rattle.broadphase.proofs.Projection.{turn-shown, shown_after-turn}
+use Rattle.broadphase.proofs.GoingOn.{turn_goes_on}
+use Rattle.broadphase.proofs.Possible.{turn_possible}
+use Rattle.broadphase.proofs.PlayedSoFar.{under_way_first}
+
+-- what is possible in a plain scene is so in each scene that it shows
+possible_seen : (scene : Scene) (entries : List Entry) → ArePossible (shown scene) entries → ArePossibleFrom scene entries
+possible_seen scene [] h = tt
+possible_seen scene (entry ∷ later) h = (
+  IsPossible-seen scene entry h.0,
+  possible_seen (after_entry scene entry) later (subst (λ (s : Scene). ArePossible s later) (sym (shown-after_entry scene entry)) h.1),
+)
+
+from_append : (scene : Scene) (xs ys : List Entry) → ArePossibleFrom scene xs → ArePossibleFrom (fold after_entry scene xs) ys → ArePossibleFrom scene (xs ++ ys)
+from_append scene [] ys h k = k
+from_append scene (x ∷ xs) ys h k = (h.0, from_append (after_entry scene x) xs ys h.1 k)
+
+history_from : (commands : List Command) (table : Table) → IsUnderWay (shown_table table) → ArePossibleFrom table.scene (entries_made table commands)
+history_from [] table u = tt
+history_from (c ∷ commands) table u =
+    let t = turn table c in
+    let here : ArePossible (shown table.scene) t.entries = subst (λ (s : Turn). ArePossible (shown table.scene) s.entries) (turn-shown table c) (turn_possible (shown_table table) c u) in
+    let next : shown_after (shown_table table) (turn (shown_table table) c) ≡ shown_table (table_after table t) =
+    ap (shown_after (shown_table table)) (turn-shown table c) ∙ shown_after-turn table t in
+    from_append table.scene t.entries (entries_made (table_after table t) commands) (possible_seen table.scene t.entries here)
+    (history_from commands (table_after table t) (subst IsUnderWay next (turn_goes_on (shown_table table) c u)))
+
+pub history_of : (script : Script) → ArePossibleFrom (empty_table script.world).scene (entries_made (empty_table script.world) script.lines)
+history_of script = history_from script.lines (empty_table script.world) (under_way_first script.world script.sound.sizes)

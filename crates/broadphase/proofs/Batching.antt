@@ -1,27 +1,23 @@
 -- What taking bodies for a batch leads to.
-use Rattle.std.proofs.Common.{◌≡◌, ℕ, zero, suc, ◌+◌, ◌-◌, ◌<◌, ◌≤◌, Bool, true, false, cond, eqb, leb, ltb, List, [], ◌∷◌, ◌++◌, length, get_or, fold, All, Option, Some, None, Ok, Err, Result, refl, ap, sym, subst, ◌∙◌, inl, inr, arith}
-use Rattle.std.proofs.lemmas.List.Sums.{fold-append}
-use Rattle.std.proofs.lemmas.Bool.{cases_Bool}
+use Rattle.std.proofs.Common.{◌≡◌, ℕ, ◌-◌, ◌<◌, ◌≤◌, Bool, true, false, cond, eqb, leb, ltb, List, [], ◌∷◌, length, fold, Option, Some, None, Ok, refl, ap, sym, subst, ◌∙◌, arith}
 use Rattle.std.proofs.lemmas.Bool.Decides.{nat_tests}
 use Rattle.scene_model.specs.Need.{need}
-use Rattle.scene_model.specs.declared.entry.Entry.{Entry}
 use Rattle.scene_model.specs.declared.entry.Entry.TheVariants.{Join}
-use Rattle.scene_model.specs.declared.body_view.Phase.TheVariants.{Out, Held}
+use Rattle.scene_model.specs.declared.body_view.Phase.TheVariants.{Held}
 use Rattle.scene_model.specs.Scene.{Scene}
 use Rattle.scene_model.specs.Step.{IsPossible, with_phase}
 use Rattle.scene_model.specs.Shown.{after_shown}
 use Rattle.reply_text.specs.declared.refusal.Refusal.{Refusal}
 use Rattle.reply_text.specs.declared.refusal.Refusal.TheVariants.{Empty, NoSlot, NoNodes}
 use Rattle.broadphase.specs.declared.books.Known.{Known}
-use Rattle.broadphase.specs.declared.books.Batch.{Batch}
 use Rattle.broadphase.specs.declared.taking.Taken.{Taken}
 use Rattle.broadphase.specs.Books.{slots_kept, nodes_kept}
 use Rattle.broadphase.specs.Table.{Table}
 use Rattle.broadphase.specs.Taking.{room_refusal, Marking, marking_on, marking, mark_refusal, marks, unmarks, Taking, marked, taking_in, taking}
-use Rattle.broadphase.specs.UnderWay.{AreApart, ArePossible, AreHeld, IsSound}
+use Rattle.broadphase.specs.UnderWay.{ArePossible}
 use Rattle.broadphase.specs.Shown.{Marks, Takes}
-use Rattle.broadphase.proofs.Follows.{Follows, Follows-hold, Follows-fold, fold_marks, fold_unmarks, AreHeld-kept, all_apart_from_none}
-use Rattle.broadphase.proofs.Holding.{CanMarkAll, marking_can, marks_can_join, marks_can_let_go, held_apart}
+use Rattle.broadphase.proofs.Follows.{fold_marks}
+use Rattle.broadphase.proofs.Holding.{CanMarkAll, marking_can, marks_can_join, marks_can_let_go}
 
 -- those that were marked can be let go
 pub marked_can_let_go : (scene now : Scene) (layer : ℕ) (bodies : List Known) (indexes given : List ℕ) (refusal : Option Refusal)

@@ -6,18 +6,17 @@ use Rattle.std.proofs.lemmas.Bool.{cases_eq}
 use Rattle.std.proofs.lemmas.Bool.Decides.{nat_tests}
 use Rattle.std.proofs.lemmas.Option.{cond_some, same_Some}
 use Rattle.scene_model.specs.declared.body_view.Phase.{Phase}
-use Rattle.scene_model.specs.declared.body_view.Phase.TheVariants.{Out, Held, In}
-use Rattle.scene_model.specs.declared.entry.Entry.{Entry}
-use Rattle.scene_model.specs.declared.entry.Entry.TheVariants.{Create, Destroy, Mark, Unmark, Join, Remove, Move, SetUser}
+use Rattle.scene_model.specs.declared.body_view.Phase.TheVariants.{Out, Held}
+use Rattle.scene_model.specs.declared.entry.Entry.TheVariants.{Destroy, Join}
 use Rattle.scene_model.specs.Scene.{Scene, Place, Record, unused, place_at, record_at, next_of, next_index}
-use Rattle.scene_model.specs.Step.{HasBody, IsPossible, with_body, with_change, with_phase, with_new_body, in_phase}
+use Rattle.scene_model.specs.Step.{HasBody, IsPossible, with_change, with_phase, with_new_body, in_phase}
 use Rattle.scene_model.specs.Shown.{after_shown}
 use Rattle.scene_model.specs.Consistent.{IsLatest, IsConsistent}
 use Rattle.scene_model.proofs.Places.{live_used, place_at-with_body_other, place_at-with_change_same}
 use Rattle.scene_model.proofs.Kept.{KeepsBody, IsConsistent-with_change, IsConsistent-join}
 use Rattle.scene_model.proofs.Lives.{IsBegun, IsConsistent-push, IsConsistent-reuse, IsConsistent-destroy}
 use Rattle.scene_model.proofs.Creations.{place_at-with_new_body_other}
-use Rattle.scene_model.proofs.Batches.{put_in, place_at-fold_phase}
+use Rattle.scene_model.proofs.Batches.{place_at-fold_phase}
 use Rattle.broadphase.specs.declared.books.Batch.{Batch}
 use Rattle.broadphase.specs.Taking.{marks, unmarks}
 use Rattle.broadphase.specs.UnderWay.{AreApart, AreHeld, IsSound}

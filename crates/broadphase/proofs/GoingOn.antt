@@ -1,5 +1,5 @@
 -- A table that is under way is so after each command.
-use Rattle.std.proofs.Common.{◌≡◌, ℕ, ◌+◌, ◌-◌, ◌<◌, ◌≤◌, ◌^◌, ◌⊎◌, Bool, true, false, cond, List, [], ◌∷◌, ◌++◌, length, get_or, fold, map, All, sum_by, Option, Some, None, IsSome, IsSomeAnd, refl, ap, sym, subst, ◌∙◌, inl, inr, arith}
+use Rattle.std.proofs.Common.{◌≡◌, ℕ, ◌+◌, ◌≤◌, ◌^◌, ◌⊎◌, Bool, true, false, cond, List, [], ◌∷◌, ◌++◌, length, get_or, fold, All, sum_by, Option, Some, None, refl, ap, sym, subst, ◌∙◌, inl, inr, arith}
 use Rattle.std.specs.List.{range_with_len}
 use Rattle.std.proofs.lemmas.List.Sums.{fold-append, sum_by_push}
 use Rattle.std.proofs.lemmas.List.Elements.{All-push}
@@ -12,10 +12,9 @@ use Rattle.scene_model.specs.declared.body_view.Phase.TheVariants.{Out, Held, In
 use Rattle.scene_model.specs.declared.entry.Entry.{Entry}
 use Rattle.scene_model.specs.declared.entry.Entry.TheVariants.{Mark, Unmark, Join}
 use Rattle.scene_model.specs.Need.{need}
-use Rattle.scene_model.specs.Scene.{Scene, Record, place_at, record_at, next_index}
+use Rattle.scene_model.specs.Scene.{Scene, place_at, record_at, next_index}
 use Rattle.scene_model.specs.Step.{IsPossible, after_entry, created_in, with_new_body, with_phase, in_phase}
 use Rattle.scene_model.specs.Shown.{shown_place, after_shown}
-use Rattle.scene_model.proofs.Kept.{KeepsBody}
 use Rattle.scene_model.proofs.Views.{HasBody-from_view}
 use Rattle.script_text.specs.declared.command.Command.{Command}
 use Rattle.script_text.specs.declared.command.Command.TheVariants as commands
@@ -28,17 +27,17 @@ use Rattle.broadphase.specs.declared.bodies.Change.TheVariants as changes
 use Rattle.broadphase.specs.Books.{Books, known_at, known_all, nodes_kept, has_batch, batch_named, spent, with_name, with_batch, with_attached}
 use Rattle.broadphase.specs.Table.{Table, table_with}
 use Rattle.broadphase.specs.Attempt.{Attempt}
-use Rattle.broadphase.specs.Body.{body_of, forbids, entry_of, make_change, change_body, change_known, change_named}
-use Rattle.broadphase.specs.Taking.{room_refusal, Marking, marking, marks, unmarks, Taking, marked, taking_in, taking}
-use Rattle.broadphase.specs.Batches.{keep_taken, prepare_taken, prepare_bodies, prepare_known, finalize_batch, abort_batch, join_taken, add_layer, followed, in_layer, add_layers, add_known}
+use Rattle.broadphase.specs.Body.{body_of, forbids, entry_of, make_change, change_body, change_known}
+use Rattle.broadphase.specs.Taking.{room_refusal, Marking, marking, marks, unmarks, marked, taking_in, taking}
+use Rattle.broadphase.specs.Batches.{keep_taken, prepare_taken, prepare_known, finalize_batch, abort_batch, join_taken, add_layer, followed, in_layer, add_layers, add_known}
 use Rattle.broadphase.specs.Turn.{create_turn, turn}
-use Rattle.broadphase.specs.UnderWay.{AreApart, AreHeld, IsSound, IsUnderWay}
+use Rattle.broadphase.specs.UnderWay.{AreApart, AreHeld, IsUnderWay}
 use Rattle.broadphase.specs.Shown.{shown_with, shown_after}
 use Rattle.broadphase.proofs.Marking.{seen_body}
 use Rattle.broadphase.proofs.Follows.{Follows, Follows-refl, Follows-change, Follows-unheld, Follows-destroy, Follows-new, Follows-hold, Follows-fold, fold_marks, fold_unmarks, AreHeld-kept, all_apart_from_none, live}
 use Rattle.broadphase.proofs.Holding.{CanMarkAll, marking_can, held_apart}
 use Rattle.broadphase.proofs.Spending.{stands_at, nodes-spent, others_held}
-use Rattle.broadphase.proofs.Batching.{whole, room_for, CanJoin, taking_can_join}
+use Rattle.broadphase.proofs.Batching.{whole, room_for, taking_can_join}
 
 -- the table after an attempt
 abbrev pub tried : Table → Attempt → Table

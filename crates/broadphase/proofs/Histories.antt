@@ -3,7 +3,7 @@ use Rattle.std.proofs.Common.{◌≡◌, List, [], ◌∷◌, ◌++◌, fold, ap
 use Rattle.scene_model.specs.declared.entry.Entry.{Entry}
 use Rattle.scene_model.specs.Scene.{Scene}
 use Rattle.scene_model.specs.Step.{after_entry}
-use Rattle.scene_model.specs.Shown.{shown, after_shown}
+use Rattle.scene_model.specs.Shown.{shown}
 use Rattle.scene_model.proofs.ShownReads.{IsPossible-seen}
 use Rattle.scene_model.proofs.ShownSteps.{shown-after_entry}
 use Rattle.script_text.specs.declared.command.Command.{Command}

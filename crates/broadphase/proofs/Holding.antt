@@ -1,5 +1,5 @@
 -- The bodies that a batch takes, and those that it holds.
-use Rattle.std.proofs.Common.{◌≡◌, ◌≢◌, ℕ, ◌<◌, false, List, [], ◌∷◌, length, get_or, fold, nat_eq, Contains, Option, Some, None, IsSomeAnd, option_map, refl, ap, sym, subst, ◌∙◌, inl, inr, arith}
+use Rattle.std.proofs.Common.{◌≡◌, ℕ, ◌<◌, false, List, [], ◌∷◌, length, get_or, fold, nat_eq, Contains, Option, Some, None, IsSomeAnd, option_map, refl, sym, subst, inl, inr, arith}
 use Rattle.std.specs.Bool.{⊤}
 use Rattle.std.specs.List.{IsDistinct}
 use Rattle.std.proofs.lemmas.List.Elements.{Contains-get_or, recursion_from_All}
@@ -9,12 +9,12 @@ use Rattle.std.proofs.lemmas.Bool.Decides.{eqb_tells}
 use Rattle.body_ident.specs.Id.{Id}
 use Rattle.scene_model.specs.declared.body_view.Phase.TheVariants.{Out, Held}
 use Rattle.scene_model.specs.declared.entry.Entry.TheVariants.{Join}
-use Rattle.scene_model.specs.Scene.{Scene, Place, Record, place_at, record_at}
+use Rattle.scene_model.specs.Scene.{Scene, Place, Record, record_at}
 use Rattle.scene_model.specs.Step.{HasBody, IsPossible, with_phase, in_phase}
 use Rattle.scene_model.specs.Shown.{after_shown}
 use Rattle.scene_model.proofs.Places.{place_at-with_body_other, place_at-with_change_same}
 use Rattle.scene_model.proofs.Lives.{Contains-cons_cases, Contains-cons_tail, head_apart}
-use Rattle.scene_model.proofs.Batches.{put_in, place_at-fold_phase}
+use Rattle.scene_model.proofs.Batches.{place_at-fold_phase}
 use Rattle.reply_text.specs.declared.refusal.Refusal.{Refusal}
 use Rattle.broadphase.specs.declared.books.Known.{Known}
 use Rattle.broadphase.specs.Taking.{Marking, marking_on, marking, mark_refusal, marks, unmarks}

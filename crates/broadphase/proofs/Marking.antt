@@ -1,5 +1,5 @@
 -- Bodies that are marked one after another, and that are let go one after another.
-use Rattle.std.proofs.Common.{◌≡◌, ℕ, ◌+◌, ◌<◌, ◌≤◌, List, [], ◌∷◌, ◌++◌, length, drop, map, get_or, fold, Option, Some, None, refl, ap, sym, subst, ◌∙◌, append_assoc, add-one, drop-cons, option_and_then, Bool, true, false, cond, eqb, inl, inr, arith, IsSomeAnd}
+use Rattle.std.proofs.Common.{◌≡◌, ℕ, ◌+◌, ◌<◌, ◌≤◌, List, [], ◌∷◌, ◌++◌, length, drop, get_or, fold, Option, Some, None, refl, ap, sym, subst, ◌∙◌, append_assoc, add-one, drop-cons, option_and_then, cond, eqb, inl, inr, IsSomeAnd}
 use Rattle.std.proofs.lemmas.List.{append-nil, drop_all, map-append}
 use Rattle.std.proofs.lemmas.List.Sums.{fold-append}
 use Rattle.std.proofs.lemmas.Bool.{cases_Bool, eqb-true}
@@ -11,7 +11,7 @@ use Rattle.scene_model.specs.declared.entry.Entry.{Entry}
 use Rattle.scene_model.specs.declared.entry.Entry.TheVariants.{Mark, Unmark}
 use Rattle.scene_model.specs.Scene.{Scene, Record}
 use Rattle.scene_model.specs.Step.{HasBody, IsPossible, after_entry}
-use Rattle.scene_model.specs.Query.{view_at, view_of}
+use Rattle.scene_model.specs.Query.{view_at}
 use Rattle.scene_model.specs.Shown.{after_shown}
 use Rattle.scene_model.proofs.Views.{HasBody-from_view}
 use Rattle.reply_text.specs.declared.refusal.Refusal.{Refusal}

@@ -1,15 +1,15 @@
 -- The entries that a command makes are possible, each in the scene after those before it.
-use Rattle.std.proofs.Common.{◌≡◌, ℕ, Bool, true, false, cond, List, [], ◌∷◌, ◌++◌, length, fold, map, Option, Some, None, IsSomeAnd, refl, ap, sym, subst, ◌∙◌}
+use Rattle.std.proofs.Common.{◌≡◌, ℕ, Bool, true, false, cond, List, [], ◌∷◌, ◌++◌, length, fold, Option, Some, None, IsSomeAnd, refl, sym, subst}
 use Rattle.std.specs.List.{range_with_len}
 use Rattle.fixed_box.specs.declared.fix_box.FixBox.{FixBox}
 use Rattle.body_ident.specs.Id.{Id}
 use Rattle.scene_model.specs.declared.body_view.BodyView.{BodyView}
 use Rattle.scene_model.specs.declared.body_view.Phase.TheVariants.{Out, Held}
 use Rattle.scene_model.specs.declared.entry.Entry.{Entry}
-use Rattle.scene_model.specs.declared.entry.Entry.TheVariants.{Mark, Join}
+use Rattle.scene_model.specs.declared.entry.Entry.TheVariants.{Join}
 use Rattle.scene_model.specs.Need.{need}
 use Rattle.scene_model.specs.Scene.{Scene, Record, record_at, next_index}
-use Rattle.scene_model.specs.Step.{IsPossible, HasBody, with_phase}
+use Rattle.scene_model.specs.Step.{IsPossible, with_phase}
 use Rattle.scene_model.specs.Shown.{after_shown}
 use Rattle.script_text.specs.declared.command.Command.{Command}
 use Rattle.script_text.specs.declared.command.Command.TheVariants as commands
@@ -27,7 +27,6 @@ use Rattle.broadphase.specs.Batches.{keep_taken, prepare_known, finalize_batch, 
 use Rattle.broadphase.specs.Turn.{create_turn, turn}
 use Rattle.broadphase.specs.UnderWay.{ArePossible, IsUnderWay}
 use Rattle.broadphase.proofs.Marking.{IsReady}
-use Rattle.broadphase.proofs.Follows.{fold_marks}
 use Rattle.broadphase.proofs.Holding.{CanMarkAll, marking_can, marks_can_let_go, join_can_let_go}
 use Rattle.broadphase.proofs.Spending.{batch_can_join}
 use Rattle.broadphase.proofs.Batching.{taking_can_join}

@@ -1,8 +1,7 @@
 -- A turn on what is shown of a table is the turn on the table.
-use Rattle.std.proofs.Common.{◌≡◌, ℕ, ◌+◌, ◌%◌, Bool, cond, List, [], ◌∷◌, ◌++◌, length, map, fold, eqb, Option, Some, None, option_and_then, refl, ap, sym, ◌∙◌, arith}
+use Rattle.std.proofs.Common.{◌≡◌, ℕ, ◌+◌, ◌%◌, cond, List, [], ◌∷◌, length, map, fold, eqb, Option, Some, None, option_and_then, refl, ap, sym, ◌∙◌, arith}
 use Rattle.std.specs.List.{range_with_len}
 use Rattle.fixed_box.specs.declared.fix_box.FixBox.{FixBox}
-use Rattle.fixed_box.specs.declared.shape.Shape.{Shape}
 use Rattle.fixed_box.specs.declared.shape.Shape.TheVariants as shapes
 use Rattle.shape_test.specs.Touched.{is_touched}
 use Rattle.body_ident.specs.Id.{Id, id_of}
@@ -16,7 +15,6 @@ use Rattle.scene_model.specs.Shown.{shown, after_shown}
 use Rattle.scene_model.proofs.ShownReads.{view_at-shown, next_index-shown, hits-shown}
 use Rattle.scene_model.proofs.ShownSteps.{place_at-shown, shown-after_entry}
 use Rattle.reply_text.specs.declared.multi.MultiItem.{MultiItem}
-use Rattle.reply_text.specs.declared.reply.Reply.{Reply}
 use Rattle.reply_text.specs.declared.reply.Reply.TheVariants as replies
 use Rattle.reply_text.specs.declared.refusal.Refusal.{Refusal}
 use Rattle.reply_text.specs.declared.refusal.Refusal.TheVariants as refusals
@@ -30,7 +28,7 @@ use Rattle.broadphase.specs.Books.{Books, known_at, known_all, has_batch, batch_
 use Rattle.broadphase.specs.Table.{Table, table_with}
 use Rattle.broadphase.specs.Attempt.{Attempt, refused}
 use Rattle.broadphase.specs.Body.{body_of, forbids, entry_of, make_change, change_body, change_known, read_body, read_known, item_of, multi_known}
-use Rattle.broadphase.specs.Taking.{room_refusal, Marking, marking_on, mark_refusal, view_refusal, marking, Taking, taking_in, taking}
+use Rattle.broadphase.specs.Taking.{room_refusal, marking_on, mark_refusal, view_refusal, marking, Taking, taking_in, taking}
 use Rattle.broadphase.specs.Batches.{keep_taken, prepare_taken, prepare_known, finalize_batch, abort_batch, join_taken, add_layer, followed, in_layer, add_layers, add_known}
 use Rattle.broadphase.specs.Turn.{Turn, turn_of, created_turn, create_turn, answered, turn, table_after}
 use Rattle.broadphase.specs.Shown.{shown_table, shown_after}

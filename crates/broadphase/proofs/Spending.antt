@@ -1,6 +1,6 @@
 -- The prepared batch that has a name, and the books without it.
-use Rattle.std.proofs.Common.{◌≡◌, ℕ, ◌+◌, ◌<◌, ◌≤◌, List, [], ◌∷◌, length, get_or, Option, Some, None, All, refl, ap, sym, subst, ◌∙◌, bytes_eq, sum_by, inl, inr, arith, option_and_then}
-use Rattle.std.specs.List.{position, remove, AllPairs, slice_get}
+use Rattle.std.proofs.Common.{◌≡◌, ℕ, ◌+◌, ◌<◌, List, length, get_or, Option, Some, None, All, refl, ap, sym, subst, ◌∙◌, bytes_eq, inl, inr, arith, option_and_then}
+use Rattle.std.specs.List.{remove, AllPairs, slice_get}
 use Rattle.std.specs.Option.{option_map_or}
 use Rattle.std.proofs.lemmas.List.Quantifiers.{position-Some, all_pairs_remove}
 use Rattle.std.proofs.lemmas.List.Edits.{get_or-remove_below, get_or-remove_above, length-remove}

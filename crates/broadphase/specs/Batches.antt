@@ -8,7 +8,7 @@ use Rattle.reply_text.specs.declared.refusal.Refusal.{Refusal}
 use Rattle.reply_text.specs.declared.refusal.Refusal.TheVariants as refusals
 use Rattle.broadphase.specs.declared.books.Known.{Known}
 use Rattle.broadphase.specs.declared.books.Batch.{Batch}
-use Rattle.broadphase.specs.Books.{Books, known_all, has_batch, batch_named, spent, with_batch, with_attached}
+use Rattle.broadphase.specs.Books.{known_all, has_batch, batch_named, spent, with_batch, with_attached}
 use Rattle.broadphase.specs.Table.{Table, table_with}
 use Rattle.broadphase.specs.Attempt.{Attempt, refused, nothing_done}
 use Rattle.broadphase.specs.Taking.{Taking, taking, unmarks}

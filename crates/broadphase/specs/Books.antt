@@ -1,5 +1,5 @@
 -- What the player keeps of names and batches.
-use Rattle.std.specs.Prelude.{ℕ, ◌+◌, ◌==◌, Bool, List, [], ◌∷◌, ◌++◌, Option, Some, None, slice_get, option_map, option_and_then, bytes_eq, position, sum_by, count_by}
+use Rattle.std.specs.Prelude.{ℕ, ◌+◌, ◌==◌, Bool, List, [], ◌∷◌, ◌++◌, Option, Some, slice_get, option_map, option_and_then, bytes_eq, position, sum_by, count_by}
 use Rattle.std.specs.List.{remove, list_any}
 use Rattle.std.specs.Option.{option_map_or}
 use Rattle.script_text.specs.Place.{place_of}

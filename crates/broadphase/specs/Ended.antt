@@ -1,5 +1,5 @@
 -- How a run may end, and what holds then.
-use Rattle.std.specs.Prelude.{◌≡◌, ◌⊎◌, ℕ, ◌+◌, List, [], ◌∷◌, ◌++◌, Option, codes, decimal}
+use Rattle.std.specs.Prelude.{◌≡◌, ◌⊎◌, ℕ, ◌+◌, List, ◌++◌, Option, codes, decimal}
 use Rattle.world_io.specs.Bytes.{Appended, AppendedPart}
 use Rattle.world_io.specs.Faults.{Rose}
 use Rattle.script_text.specs.declared.code.Code.{Code}

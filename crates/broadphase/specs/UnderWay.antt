@@ -1,7 +1,6 @@
 -- What holds of a table between two commands.
 use Rattle.std.specs.Prelude.{ℕ, ◌≤◌, ◌^◌, ⊤, List, [], ◌∷◌, All, Contains}
 use Rattle.std.specs.List.{AllPairs}
-use Rattle.word_map.specs.declared.config.Config.{Config}
 use Rattle.word_map.specs.Limits.{IsConfig}
 use Rattle.scene_model.specs.declared.entry.Entry.{Entry}
 use Rattle.scene_model.specs.declared.entry.Entry.TheVariants.{Join}

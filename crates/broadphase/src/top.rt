@@ -4,7 +4,6 @@ ghost use Rattle.world_io.specs.Bytes.{Appended, AppendedPart};
 ghost use Rattle.world_io.specs.Faults.{Rose};
 ghost use Rattle.script_text.specs.Line.{script_fault};
 ghost use Rattle.broadphase.specs.Reading.{GaveCount};
-ghost use Rattle.word_map.specs.Limits.{IsConfig};
 ghost use Rattle.broadphase.specs.Form.{Asks, AskNothing};
 ghost use Rattle.broadphase.specs.Ended.{Answered, AnsweredPart, Refused, RefusedPart, WantedMemory, Ends, answer_text, fault_text, code_text};
 ghost use Rattle.broadphase.specs.declared.reading.TheConstants.{MAX_BYTES};
@@ -85,7 +84,6 @@ fn answer<K: Sink>(
     script: &Script,
     sink: &mut K,
 ) -> Result<(), PlayFault>
-    requires { IsConfig script.now.world }
     ensures ok { OnOk result (Appended (K.contents sink.old) (K.contents sink.new) (answer_text form script.now)) }
     ensures part { OnErr result (AppendedPart (K.contents sink.old) (K.contents sink.new) (answer_text form script.now)) }
     ensures fault { IsErrOf result PlayFault.Write → Rose (K.faults sink.old) (K.faults sink.new) }

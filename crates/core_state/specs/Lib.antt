@@ -1,0 +1,11 @@
+pub mod Names
+pub mod Log
+pub mod View
+pub mod Core
+pub mod Operation
+pub mod Kind
+pub mod Seats
+pub mod Looking
+pub mod Locking
+pub mod Event
+pub mod Formed

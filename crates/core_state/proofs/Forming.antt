@@ -113,12 +113,12 @@ IsFormed-step asks kind core step allowed formed = record {
 -- ---- seats
 
 -- a view of a split core is that of the seat that was cut, the new one, or an old one of another seat
-data AfterSplit (core : Core) (cut : ℕ) (left right : View) (seat : ℕ) (view : View) : Type 0 where
+pub data AfterSplit (core : Core) (cut : ℕ) (left right : View) (seat : ℕ) (view : View) : Type 0 where
   is_left : seat ≡ cut → left ≡ view → AfterSplit core cut left right seat view
   is_right : seat ≡ length core.views → right ≡ view → AfterSplit core cut left right seat view
   is_other : seat ≢ cut → IsViewAt core seat view → AfterSplit core cut left right seat view
 
-at_split : (core : Core) (cut : ℕ) (left right : View) (seat : ℕ) (view : View) → IsViewAt (after_split core cut left right) seat view → AfterSplit core cut left right seat view
+pub at_split : (core : Core) (cut : ℕ) (left right : View) (seat : ℕ) (view : View) → IsViewAt (after_split core cut left right) seat view → AfterSplit core cut left right seat view
 at_split core cut left right seat view at =
     elim (at_push (set core.views cut left) right view seat at) [
       | inl t ↦ elim (at_set core.views cut seat left view t) [
@@ -240,12 +240,12 @@ joined-sound c log view visitor sound other =
     record { config = sound.config; numbers = sound.numbers; known = covers.0; joined = (covers.1, covers.2) }
 
 -- a view of a core in which a visitor was joined
-data AfterJoin (core : Core) (own other : ℕ) (joined : View) (seat : ℕ) (u : View) : Type 0 where
+pub data AfterJoin (core : Core) (own other : ℕ) (joined : View) (seat : ℕ) (u : View) : Type 0 where
   is_spent : spent_view ≡ u → AfterJoin core own other joined seat u
   is_joined : seat ≡ own → joined ≡ u → AfterJoin core own other joined seat u
   is_old : IsViewAt core seat u → AfterJoin core own other joined seat u
 
-at_join : (core : Core) (own other : ℕ) (joined : View) (seat : ℕ) (u : View) → get_elem? (set (set core.views own joined) other spent_view) seat ≡ some u → AfterJoin core own other joined seat u
+pub at_join : (core : Core) (own other : ℕ) (joined : View) (seat : ℕ) (u : View) → get_elem? (set (set core.views own joined) other spent_view) seat ≡ some u → AfterJoin core own other joined seat u
 at_join core own other joined seat u at =
     elim (at_set (set core.views own joined) other seat spent_view u at) [
       | inl t ↦ is_spent t.1

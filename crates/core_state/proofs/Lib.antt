@@ -5,3 +5,9 @@ pub mod Fitting
 pub mod Prefixes
 pub mod Steps
 pub mod Forming
+pub mod Frames
+pub mod Opening
+pub mod Breaking
+pub mod Queries
+pub mod Guarding
+pub mod Keeping

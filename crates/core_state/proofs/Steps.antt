@@ -28,10 +28,16 @@ result-unstored fetch_add found first second none = absurd (false≢true (sym no
 result-unstored fetch_min found first second none = absurd (false≢true (sym none))
 result-unstored fetch_max found first second none = absurd (false≢true (sym none))
 
+-- a step that stores nothing gains nothing
+pub gained-unstored : (kind : Kind) (core : Core) (step : Step) → stores kind.operation (found_by core step) step.first ≡ false → gained_by kind core step ≡ []
+gained-unstored kind core step none =
+    ap (λ (t : Bool). option_to_list (option_map (item_of kind step) (cond t (Some (left_by kind core step)) None))) none
+
 -- a step gains nothing, and leaves its word, or gains its item
 pub data Gains (kind : Kind) (core : Core) (step : Step) : Type 0 where
   nothing : gained_by kind core step ≡ [] → left_by kind core step ≡ found_by core step → Gains kind core step
-  its_item : gained_by kind core step ≡ item_of kind step (left_by kind core step) ∷ [] → Gains kind core step
+  its_item : stores kind.operation (found_by core step) step.first ≡ true → gained_by kind core step ≡ item_of kind step (left_by kind core step) ∷ []
+      → Gains kind core step
 
 pub gains : (kind : Kind) (core : Core) (step : Step) → Gains kind core step
 gains kind core step = go (stores kind.operation (found_by core step) step.first) refl
@@ -43,8 +49,8 @@ gains kind core step = go (stores kind.operation (found_by core step) step.first
     gained test = option_to_list (option_map (item_of kind step) (cond test (Some left) None))
 
     go : (test : Bool) → stores kind.operation (found_by core step) step.first ≡ test → Gains kind core step
-    go true e = its_item (ap (λ (t : Bool). option_to_list (option_map (item_of kind step) (cond t (Some (left_by kind core step)) None))) e)
-    go false e = nothing (ap (λ (t : Bool). option_to_list (option_map (item_of kind step) (cond t (Some (left_by kind core step)) None))) e) (result-unstored kind.operation (found_by core step) step.first step.second e)
+    go true e = its_item e (ap (λ (t : Bool). option_to_list (option_map (item_of kind step) (cond t (Some (left_by kind core step)) None))) e)
+    go false e = nothing (gained-unstored kind core step e) (result-unstored kind.operation (found_by core step) step.first step.second e)
 
 module _ (kind : Kind) (core : Core) (step : Step) where
   -- its word is then what it left there
@@ -52,7 +58,7 @@ module _ (kind : Kind) (core : Core) (step : Step) where
   word-step =
       elim (gains kind core step) [
         | nothing e f ↦ rw e (ap (λ (l : List Item). word core.config l step.name) (append-nil core.log) ∙ sym f)
-        | its_item e ↦ rw e (word-stored core.config core.log (item_of kind step (left_by kind core step)) step.name refl)
+        | its_item t e ↦ rw e (word-stored core.config core.log (item_of kind step (left_by kind core step)) step.name refl)
       ]
 
   -- and all other words are as before
@@ -60,7 +66,7 @@ module _ (kind : Kind) (core : Core) (step : Step) where
   word-step-other name other =
       elim (gains kind core step) [
         | nothing e f ↦ rw e (ap (λ (l : List Item). word core.config l name) (append-nil core.log))
-        | its_item e ↦ rw e (word-other core.config core.log (item_of kind step (left_by kind core step)) name (λ same. other (sym same)))
+        | its_item t e ↦ rw e (word-other core.config core.log (item_of kind step (left_by kind core step)) name (λ same. other (sym same)))
       ]
 
   -- so in the table one place changes
@@ -72,7 +78,7 @@ module _ (kind : Kind) (core : Core) (step : Step) where
             rw e (ap (words core.config) (append-nil core.log) ∙
             (sym (set-get_or (words core.config core.log) (place_of core.config step.name) 0) ∙
             ap (λ (value : ℕ). slice_set (words core.config core.log) (place_of core.config step.name) value) (reads ∙ sym f)))
-        | its_item e ↦ rw e (words-push core.config core.log (item_of kind step (left_by kind core step)) named)
+        | its_item t e ↦ rw e (words-push core.config core.log (item_of kind step (left_by kind core step)) named)
       ]
 
   -- the stepping pass then knows the whole log

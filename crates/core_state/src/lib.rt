@@ -14,6 +14,7 @@
 //! No call here does anything, and of most types no value is ever made: they are what clauses speak of.
 #![tactic(auto)]
 
+pub mod invariants;
 mod item;
 pub mod laws;
 mod view;

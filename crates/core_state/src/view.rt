@@ -119,6 +119,8 @@ pub struct Noted {
 /// The update that a pass has under way.
 #[derive(Drop)]
 pub struct Rebuild {
+    /// How long the history was when it began.
+    pub from: u64,
     /// The arena that the main trees are in, once it was loaded.
     pub arena: Option<u64>,
     /// How many slot words were loaded.

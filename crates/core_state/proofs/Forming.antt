@@ -27,19 +27,19 @@ use Rattle.core_state.proofs.Prefixes.{IsPrefix-refl, IsPrefix-more, longer-cove
 -- ---- roles
 
 -- a view with a number is that of a pass
-pass_role : (role : Role) (number : ℕ) → number_in role ≡ Some number → (further : ℕ) × (role ≡ Pass number further)
+pub pass_role : (role : Role) (number : ℕ) → number_in role ≡ Some number → (further : ℕ) × (role ≡ Pass number further)
 pass_role (Pass n further) number e = (further, ap (λ (k : ℕ). Pass k further) (same_Some n number e))
 pass_role Visitor number e = absurd (none-some number e)
 pass_role Spent number e = absurd (none-some number e)
 
-unspent_pass : (role : Role) (number : ℕ) → number_in role ≡ Some number → role ≢ Spent
+pub unspent_pass : (role : Role) (number : ℕ) → number_in role ≡ Some number → role ≢ Spent
 unspent_pass role number e spent = none-some number (ap number_in (sym spent) ∙ e)
 
 visitor≢spent : Visitor ≢ Spent
 visitor≢spent e = absurd (grind arith)
 
 -- its number is one of the world's
-pass_below : (passes number : ℕ) (role : Role) → number_in role ≡ Some number → HasNumbers passes role → number < passes
+pub pass_below : (passes number : ℕ) (role : Role) → number_in role ≡ Some number → HasNumbers passes role → number < passes
 pass_below passes number (Pass n further) e h = let same = same_Some n number e in omega arith
 pass_below passes number Visitor e h = absurd (none-some number e)
 pass_below passes number Spent e h = absurd (none-some number e)

@@ -89,10 +89,10 @@ module _ {X : Type 0} (h : X → ℕ) where
 -- ---- who writes is alone
 
 -- what the view of a seat adds to the word of a lock
-abbrev adds : ℕ → View → ℕ
+abbrev pub adds : ℕ → View → ℕ
 adds lock view = amount (part_of lock_scope) (bit_in lock) (part_of lock_scope view)
 
-lock-word : (core : Core) (lock : ℕ) → LocksAgree core → word_of core (Lock lock) ≡ sum_by (adds lock) core.views
+pub lock-word : (core : Core) (lock : ℕ) → LocksAgree core → word_of core (Lock lock) ≡ sum_by (adds lock) core.views
 lock-word core lock agree = agree.holders lock ∙ sum-kept (part_of lock_scope) (bit_in lock) core.views
 
 adds-held : (view : View) (lock number : ℕ) (mode : Mode) → IsPass view number → Holds view lock mode → adds lock view ≡ bit_of number mode

@@ -11,3 +11,4 @@ pub mod Breaking
 pub mod Queries
 pub mod Guarding
 pub mod Keeping
+pub mod LockBits

@@ -64,6 +64,8 @@ pub record NotesHold (nodes : Nodes) (s : Sight) (view : View) (r : Rebuild) : T
   pub unplaced : (n : Noted) → Contains r.noted n → ¬ Contains r.placed n.index → LooksAsNoted s n → s.word (LocB n.index) ≡ 0
   -- one that was placed and stands in such a tree has its place in the new one
   pub placed : (i : ℕ) → Contains r.placed i → IsInOldTree nodes s r i → IsNoted r i (λ n. s.word (LocB i) ≡ n.place)
+  -- and one that was given up stands in none
+  pub given_up : (i : ℕ) → Contains r.given_up i → ¬ IsInOldTree nodes s r i
   -- each body is noted once, and with a box that it had since the update began
   pub once : IsOnce (map (λ n. n.index) r.noted)
   pub boxes : (n : Noted) → Contains r.noted n → HadSince s r.from n.index (sides_of n.bounds)

@@ -5,9 +5,9 @@ use Rattle.word_map.specs.declared.name.Name.TheVariants.{Lock}
 use Rattle.core_state.specs.declared.view.Mode.{Mode}
 use Rattle.core_state.specs.declared.view.Mode.TheVariants.{Write}
 use Rattle.core_state.specs.declared.view.View.{View}
-use Rattle.core_state.specs.View.{number_of, mode_of, Holds}
+use Rattle.core_state.specs.View.{number_of, mode_of, IsPass, Holds}
 use Rattle.core_state.specs.Locking.{bit_of}
-use Rattle.core_state.specs.Core.{Core}
+use Rattle.core_state.specs.Core.{Core, IsViewAt}
 use Rattle.core_state.specs.Scope.{Scope, Sight, sight, EachPass}
 
 abbrev pub is_lock : Name → Bool
@@ -34,3 +34,7 @@ pub record LocksAgreeIn (s : Sight) : Type 0 where
 
 abbrev pub LocksAgree : Core → Type 0
 LocksAgree core = LocksAgreeIn (sight lock_scope core)
+
+-- the pass of this number holds the lock so
+abbrev pub IsHeldBy : Core → ℕ → ℕ → Mode → Type 0
+IsHeldBy core lock number mode = (seat : ℕ) × (view : View) × IsViewAt core seat view × IsPass view number × Holds view lock mode

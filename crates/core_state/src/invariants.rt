@@ -1,14 +1,15 @@
 //! What is proved of the eight invariants and of locks, as the layers above use it. No call here does anything.
-ghost use Rattle.std.specs.Prelude.{◌≡◌, ◌≢◌, ℕ, Some};
+ghost use Rattle.std.specs.Prelude.{◌≡◌, ◌≢◌, ◌↔◌, ◌+◌, ◌<◌, ℕ, Some};
 ghost use Rattle.std.specs.Int.{bit_at};
 ghost use Rattle.fixed_box.specs.Touch.{Touch};
 ghost use Rattle.fixed_box.specs.declared.fix_box.FixBox.{FixBox};
 ghost use Rattle.fixed_box.specs.declared.shape.Shape.TheVariants.{Box};
 ghost use Rattle.word_map.specs.declared.config.Config.{Config};
 ghost use Rattle.word_map.specs.declared.name.Name.{Name};
+ghost use Rattle.word_map.specs.declared.name.Name.TheVariants.{Lock};
 ghost use Rattle.word_map.specs.Limits.{IsConfig};
 ghost use Rattle.core_state.specs.declared.view.Mode.{Mode};
-ghost use Rattle.core_state.specs.declared.view.Mode.TheVariants.{Write};
+ghost use Rattle.core_state.specs.declared.view.Mode.TheVariants.{Read, Write};
 ghost use Rattle.core_state.specs.declared.view.View.{View};
 ghost use Rattle.core_state.specs.Log.{word, IsPrefix};
 ghost use Rattle.core_state.specs.View.{IsPass, Holds, HoldsNot};
@@ -18,10 +19,11 @@ ghost use Rattle.core_state.specs.Seats.{Visits, Joins};
 ghost use Rattle.core_state.specs.Looking.{MayLook, look};
 ghost use Rattle.core_state.specs.Locking.{MayLoadLock, load_lock};
 ghost use Rattle.core_state.specs.Event.{Event, Run};
+ghost use Rattle.core_state.specs.Formed.{IsFormed};
 ghost use Rattle.core_state.specs.Nodes.{Nodes};
 ghost use Rattle.core_state.specs.Scope.{Scope, IsSameTo};
 ghost use Rattle.core_state.specs.Frame.{IsOutside, ReadsNoLog};
-ghost use Rattle.core_state.specs.LocksAgree.{LocksAgree, lock_scope};
+ghost use Rattle.core_state.specs.LocksAgree.{LocksAgree, IsHeldBy, lock_scope};
 ghost use Rattle.core_state.specs.BodiesAgree.{BodiesAgree, body_scope};
 ghost use Rattle.core_state.specs.NodesInOnePlace.{NodesInOnePlace, node_scope};
 ghost use Rattle.core_state.specs.TreesSound.{TreesSound, tree_scope};
@@ -70,6 +72,15 @@ pub fn unseen_events_keep_all()
     ensures joins { (before after : Core) → Joins before after → Invariants before → Invariants after }
     ensures looks { (before after : Core) → Steps MayLook look before after → Invariants before → Invariants after }
     ensures loads { (before after : Core) → Steps MayLoadLock load_lock before after → Invariants before → Invariants after }
+{}
+
+/// Bit p of a lock word is set exactly where pass p holds the lock to read, bit 32 + p exactly where it holds it to
+/// write.
+pub fn lock_words_have_the_bits_of_holders()
+    ensures reader { (core : Core) (lock number : ℕ) → IsFormed core → LocksAgree core → number < 32
+        → ((bit_at (word_of core (Lock lock)) number ≡ 1) ↔ IsHeldBy core lock number Read) }
+    ensures writer { (core : Core) (lock number : ℕ) → IsFormed core → LocksAgree core → number < 32
+        → ((bit_at (word_of core (Lock lock)) (32 + number) ≡ 1) ↔ IsHeldBy core lock number Write) }
 {}
 
 /// Who writes under a lock holds it alone, and what a lock guards stands still for every other pass that holds it.

@@ -1,6 +1,6 @@
 -- Who writes under a lock is alone, and so what the lock guards stands still for others.
 use Rattle.std.proofs.Common.{◌≡◌, ◌≢◌, ◌⊎◌, ℕ, zero, suc, ◌+◌, ◌<◌, ◌≤◌, List, [], ◌∷◌, ◌++◌, false, Option, Some, None, length, take, drop, set, refl, append_assoc, ap, sym, ◌∙◌, subst, inl, inr, arith}
-use Rattle.std.specs.Prelude.{⊤, filter_map, sum_by, Contains, slice_index_or}
+use Rattle.std.specs.Prelude.{⊤, IsSomeAnd, filter_map, sum_by, Contains, slice_index_or}
 use Rattle.std.specs.List.{cons_option}
 use Rattle.std.proofs.lemmas.Option.{none-some, same_Some}
 use Rattle.std.proofs.lemmas.Bool.{false≢true, cases_lt, lt-ltb, le-ltb}
@@ -16,6 +16,9 @@ use Rattle.word_map.specs.declared.name.Name.TheVariants.{Lock}
 use Rattle.core_state.specs.declared.item.Item.{Item}
 use Rattle.core_state.specs.declared.view.Mode.{Mode}
 use Rattle.core_state.specs.declared.view.Mode.TheVariants.{Read, Write}
+use Rattle.core_state.specs.declared.view.Task.{Task}
+use Rattle.core_state.specs.declared.view.Task.TheVariants.{Nothing}
+use Rattle.core_state.specs.declared.view.Rebuild.{Rebuild}
 use Rattle.core_state.specs.declared.view.Role.{Role}
 use Rattle.core_state.specs.declared.view.Role.TheVariants.{Pass}
 use Rattle.core_state.specs.declared.view.View.{View}
@@ -28,7 +31,7 @@ use Rattle.core_state.specs.Operation.{stores}
 use Rattle.core_state.specs.Kind.{Kind, Asking, Step, Steps, found_by, item_of, left_by, log_after, view_after, after_step}
 use Rattle.core_state.specs.Seats.{Opens, Visits, Joins, after_split, visitor_of, longer, joined_view, spent_view}
 use Rattle.core_state.specs.Event.{Event, opens_pass, splits_visitor, joins_visitor, looks, loads_lock, takes_read, takes_write, releases, Run, begins, goes_on}
-use Rattle.core_state.specs.Guards.{IsQuiet, GuardsHold, KeepsGuards, guard_of, IsBodyWord}
+use Rattle.core_state.specs.Guards.{Owns, by_lock, by_creation, by_batch, by_mark, by_node, by_update, IsUpdateWord, IsQuiet, GuardsHold, KeepsGuards, IsBodyWord}
 use Rattle.core_state.specs.Scope.{sight, part_of, bare_view}
 use Rattle.core_state.specs.LocksAgree.{LocksAgree, lock_scope, bit_in}
 use Rattle.core_state.proofs.Lookups.{at_set}
@@ -167,18 +170,43 @@ abbrev IsLockWord : Name → Type 0
 IsLockWord (Lock lock) = ⊤
 IsLockWord _ = ⊥
 
--- a lock word is guarded by none, and is no word of a body
+-- a lock word is nobody's
+lock-unowned : (c : Config) (view : View) (lock : ℕ) → ¬ Owns c view (Lock lock)
+lock-unowned c view lock (by_lock other mode holds e) = none-some other e
+lock-unowned c view lock (by_creation i e h) = h
+lock-unowned c view lock (by_batch batch among e) = subst IsLockWord e tt
+lock-unowned c view lock (by_mark batch m among marked h) = h
+lock-unowned c view lock (by_node n among e) = none-some n e
+lock-unowned c view lock (by_update h) = no_lock view.rebuild h
+  where
+    no_lock : (o : Option Rebuild) → IsSomeAnd o (λ r. IsUpdateWord r (Lock lock)) → ⊥
+    no_lock None h = h
+    no_lock (Some r) h = h
+
+-- and it is no word of a body
 lock-quiet : (c : Config) (view : View) (first : List Item) (item : Item) (lock : ℕ) → item.name ≡ Lock lock → IsQuiet c view first item
 lock-quiet c view first item lock names = record {
-  guarded = λ other mode holds e. none-some other (ap (guard_of c) (sym names) ∙ e);
+  others = λ owns. lock-unowned c view lock (subst (Owns c view) names owns);
   body = λ i mode holds h. absurd (subst (IsBodyWord i) names h);
   location = λ i mode holds e. absurd (subst IsLockWord (sym names ∙ e) tt);
 }
 
--- a pass that holds no lock guards nothing
+abbrev IsNothing : Task → Type 0
+IsNothing Nothing = ⊤
+IsNothing _ = ⊥
+
+-- a pass that has done nothing has nothing for itself
+blank-unowned : (c : Config) (role : Role) (name : Name) → ¬ Owns c (blank_view c role) name
+blank-unowned c role name (by_lock lock mode holds e) = none-some mode holds
+blank-unowned c role name (by_creation i e h) = subst IsNothing e tt
+blank-unowned c role name (by_batch batch among e) = let none = among.1 in absurd (omega arith)
+blank-unowned c role name (by_mark batch m among marked h) = let none = among.1 in absurd (omega arith)
+blank-unowned c role name (by_node n among e) = let none = among.1 in absurd (omega arith)
+blank-unowned c role name (by_update h) = h
+
 blank-quiet : (c : Config) (role : Role) (first : List Item) (item : Item) → IsQuiet c (blank_view c role) first item
 blank-quiet c role first item = record {
-  guarded = λ lock mode holds. absurd (none-some mode holds);
+  others = blank-unowned c role item.name;
   body = λ i mode holds. absurd (none-some mode holds);
   location = λ i mode holds. absurd (none-some mode holds);
 }
@@ -236,9 +264,17 @@ longer-own a b =
       | inr more ↦ let test = le-ltb _ _ more in rw test (omega arith)
     ]
 
--- they guard as the own pass did
+-- the pass has for itself what it had
+joined-owned : (c : Config) (view visitor : View) (name : Name) → Owns c (joined_view view visitor) name → Owns c view name
+joined-owned c view visitor name (by_lock lock mode holds e) = by_lock lock mode holds e
+joined-owned c view visitor name (by_creation i e h) = by_creation i e h
+joined-owned c view visitor name (by_batch batch among e) = by_batch batch among e
+joined-owned c view visitor name (by_mark batch m among marked h) = by_mark batch m among marked h
+joined-owned c view visitor name (by_node n among e) = by_node n among e
+joined-owned c view visitor name (by_update h) = by_update h
+
 joined-quiet : (c : Config) (view visitor : View) (first : List Item) (item : Item) → IsQuiet c view first item → IsQuiet c (joined_view view visitor) first item
-joined-quiet c view visitor first item quiet = record { guarded = quiet.guarded; body = quiet.body; location = quiet.location }
+joined-quiet c view visitor first item quiet = record { others = λ owns. quiet.others (joined-owned c view visitor item.name owns); body = quiet.body; location = quiet.location }
 
 module _ (before after : Core) (joins : Joins before after) (guards : GuardsHold before) where
   join_quiet : (seat number : ℕ) (view : View) (first rest : List Item) (item : Item) → AfterJoin before joins.seat joins.other (joined_view joins.view joins.visitor) seat view
@@ -287,10 +323,10 @@ GuardsHold-run c last (goes_on {last = middle} run event) = GuardsHold-event mid
 cut_at : {X : Type 0} (xs : List X) (k : ℕ) (d : X) → k < length xs → xs ≡ take k xs ++ slice_index_or xs k d ∷ drop (suc k) xs
 cut_at xs k d below = sym (set-get_or xs k d) ∙ set_split xs k (slice_index_or xs k d) below
 
--- a word that a pass guards by a lock that it holds is what it was at the pass's last step
-pub guarded-still : (core : Core) (seat number lock : ℕ) (mode : Mode) (view : View) (name : Name) → GuardsHold core → IsViewAt core seat view → IsPass view number
-    → IsPrefix view.known core.log → Holds view lock mode → guard_of core.config name ≡ Some lock → word_of core name ≡ word core.config view.known name
-guarded-still core seat number lock mode view name guards at pass known holds guarded =
+-- a word that a pass has for itself is what it was at the pass's last step
+pub owned-still : (core : Core) (seat number : ℕ) (view : View) (name : Name) → GuardsHold core → IsViewAt core seat view → IsPass view number
+    → IsPrefix view.known core.log → Owns core.config view name → word_of core name ≡ word core.config view.known name
+owned-still core seat number view name guards at pass known owns =
     let since = known.0 in
     let none : NoneStores since name = λ k d below names.
     let item = slice_index_or since k d in
@@ -299,6 +335,6 @@ guarded-still core seat number lock mode view name guards at pass known holds gu
     known.1 ∙ (ap (λ (l : List Item). view.known ++ l) (cut_at since k d below) ∙ sym (append_assoc view.known (take k since) (item ∷ drop (suc k) since)))
     in
     let quiet = guards seat number view first (drop (suc k) since) item at pass split (omega (arith, length-append view.known (take k since))) in
-    quiet.guarded lock mode holds (ap (guard_of core.config) names ∙ guarded)
+    quiet.others (subst (Owns core.config view) (sym names) owns)
     in
     ap (λ (l : List Item). word core.config l name) known.1 ∙ word-none core.config view.known since name none

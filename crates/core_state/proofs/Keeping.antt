@@ -3,7 +3,7 @@ use Rattle.std.proofs.Common.{None, refl, ap, sym, ◌∙◌, subst}
 use Rattle.std.proofs.lemmas.Bool.{false≢true}
 use Rattle.core_state.specs.declared.view.View.{View}
 use Rattle.core_state.specs.Core.{Core}
-use Rattle.core_state.specs.Kind.{Kind, Asking, Steps, found_by, log_after}
+use Rattle.core_state.specs.Kind.{Kind, Asking, Steps, found_by, learned, log_after}
 use Rattle.core_state.specs.Seats.{Visits, Joins}
 use Rattle.core_state.specs.Looking.{look}
 use Rattle.core_state.specs.Locking.{load_lock}
@@ -67,7 +67,7 @@ load-same scope asks kind before after reads plain steps =
       entry = λ history value. plain.entry step.view step.name value;
       part =
           ap (λ (v : View). scope.part (bare_view step.number) (record v { config = step.view.config; role = step.view.role; known = log_after kind before step; joined = None }))
-          (plain.leaves step.view step.name (found_by before step) step.first step.second) ∙
+          (plain.leaves (learned before step) step.name (found_by before step) step.first step.second) ∙
           reads (bare_view step.number) step.view (log_after kind before step) None;
     } in
     subst (IsSameTo scope before) (sym steps.result) (step-same scope kind before step steps.allowed.at steps.allowed.pass outside)

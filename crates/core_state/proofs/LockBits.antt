@@ -1,5 +1,5 @@
 -- The bits of a lock word are those of its holders: no two of them have one bit.
-use Rattle.std.proofs.Common.{◌≡◌, ◌≢◌, ◌⊎◌, ◌↔◌, ℕ, zero, suc, ◌+◌, ◌*◌, ◌/◌, ◌%◌, ◌^◌, ◌<◌, ◌≤◌, List, [], ◌∷◌, Option, Some, None, length, refl, ap, sym, ◌∙◌, subst, inl, inr, arith}
+use Rattle.std.proofs.Common.{◌≡◌, ◌≢◌, ◌↔◌, ℕ, zero, suc, ◌+◌, ◌/◌, ◌%◌, ◌^◌, ◌<◌, List, [], ◌∷◌, Option, Some, None, refl, ap, sym, ◌∙◌, subst, inl, inr, arith}
 use Rattle.std.specs.Prelude.{sum_by}
 use Rattle.std.specs.Int.{bit_at}
 use Rattle.std.proofs.lemmas.Bool.{cases_eq}
@@ -14,9 +14,9 @@ use Rattle.core_state.specs.declared.view.Mode.TheVariants.{Read, Write}
 use Rattle.core_state.specs.declared.view.Role.{Role}
 use Rattle.core_state.specs.declared.view.Role.TheVariants.{Pass, Visitor, Spent}
 use Rattle.core_state.specs.declared.view.View.{View}
-use Rattle.core_state.specs.View.{number_in, number_of, mode_of, IsPass, Holds}
+use Rattle.core_state.specs.View.{number_in, number_of, mode_of, IsPass}
 use Rattle.core_state.specs.Core.{Core, word_of, IsViewAt}
-use Rattle.core_state.specs.Formed.{AreApart, HasNumbers, IsFormed}
+use Rattle.core_state.specs.Formed.{AreApart, IsFormed}
 use Rattle.core_state.specs.Locking.{bit_of}
 use Rattle.core_state.specs.LocksAgree.{LocksAgree, IsHeldBy, bit_if}
 use Rattle.core_state.proofs.Forming.{pass_role, pass_below, unspent_pass}
@@ -47,7 +47,7 @@ bit_at-add_other (suc k) (suc i) m none ne =
     let half : (2 ^ suc k + m) / 2 ≡ 2 ^ k + m / 2 = omega arith in
     bit_at-suc (2 ^ suc k + m) i ∙
     (ap (λ (n : ℕ). bit_at n i) half ∙
-      (bit_at-add_other k i (m / 2) (sym (bit_at-suc m k) ∙ none) (λ e. ne (ap suc e)) ∙ sym (bit_at-suc m i)))
+    (bit_at-add_other k i (m / 2) (sym (bit_at-suc m k) ∙ none) (λ e. ne (ap suc e)) ∙ sym (bit_at-suc m i)))
 
 -- ---- the bits of holders
 
@@ -97,9 +97,8 @@ bits_first : (lock k : ℕ) (view : View) (views : List View) (o : Option ℕ) �
     → ((j : ℕ) → (bit_at (sum_by (adds lock) views) j ≡ 1) ↔ Sets lock views j) → (bit_at (sum_by (adds lock) (view ∷ views)) k ≡ 1) ↔ Sets lock (view ∷ views) k
 bits_first lock k view views None e own rest =
     let sum : sum_by (adds lock) (view ∷ views) ≡ sum_by (adds lock) views =
-      omega (arith, sum_by-cons (adds lock) view views, adds-bit lock view view.role refl, bit_if-none (number_of view) (mode_of view.locks lock) e)
-      in
-    (
+    omega (arith, sum_by-cons (adds lock) view views, adds-bit lock view view.role refl, bit_if-none (number_of view) (mode_of view.locks lock) e)
+    in (
       λ h. let t = (rest k).0 (ap (λ (n : ℕ). bit_at n k) (sym sum) ∙ h) in (suc t.0, t.1, t.2, t.3),
       λ t. ap (λ (n : ℕ). bit_at n k) sum ∙ (rest k).1 (later t.0 t.1 t.2 t.3),
     )
@@ -109,23 +108,22 @@ bits_first lock k view views None e own rest =
     later (suc seat) v at has = (seat, v, at, has)
 bits_first lock k view views (Some b) e own rest =
     let sum : sum_by (adds lock) (view ∷ views) ≡ 2 ^ b + sum_by (adds lock) views =
-      sum_by-cons (adds lock) view views ∙ ap (λ (n : ℕ). n + sum_by (adds lock) views) (adds-bit lock view view.role refl ∙ bit_if-some (number_of view) (mode_of view.locks lock) b e)
-      in
+    sum_by-cons (adds lock) view views ∙ ap (λ (n : ℕ). n + sum_by (adds lock) views) (adds-bit lock view view.role refl ∙ bit_if-some (number_of view) (mode_of view.locks lock) b e)
+    in
     let low = bit_at-lt (sum_by (adds lock) views) b in
     let clear : bit_at (sum_by (adds lock) views) b ≡ 0 =
-      elim (cases_eq (bit_at (sum_by (adds lock) views) b) 1) [
-        | inl one ↦ (let t = (rest b).0 one in absurd (own 0 (suc t.0) b view t.1 (omega arith) refl t.2 e t.3))
-        | inr other ↦ omega arith
-      ]
-      in
+    elim (cases_eq (bit_at (sum_by (adds lock) views) b) 1) [
+      | inl one ↦ (let t = (rest b).0 one in absurd (own 0 (suc t.0) b view t.1 (omega arith) refl t.2 e t.3))
+      | inr other ↦ omega arith
+    ]
+    in
     elim (cases_eq k b) [
       | inl same ↦ (
-          λ h. (0, view, refl, e ∙ ap Some (sym same)),
-          λ t. ap (λ (n : ℕ). bit_at n k) sum ∙ (ap (bit_at (2 ^ b + sum_by (adds lock) views)) same ∙ bit_at-add_same b (sum_by (adds lock) views) clear),
-        )
+        λ h. (0, view, refl, e ∙ ap Some (sym same)),
+        λ t. ap (λ (n : ℕ). bit_at n k) sum ∙ (ap (bit_at (2 ^ b + sum_by (adds lock) views)) same ∙ bit_at-add_same b (sum_by (adds lock) views) clear),
+      )
       | inr other ↦
-          let same = ap (λ (n : ℕ). bit_at n k) sum ∙ bit_at-add_other b k (sum_by (adds lock) views) clear other in
-          (
+          let same = ap (λ (n : ℕ). bit_at n k) sum ∙ bit_at-add_other b k (sum_by (adds lock) views) clear other in (
             λ h. let t = (rest k).0 (sym same ∙ h) in (suc t.0, t.1, t.2, t.3),
             λ t. same ∙ (rest k).1 (later other t.0 t.1 t.2 t.3),
           )
@@ -190,8 +188,7 @@ module _ (core : Core) (formed : IsFormed core) where
   bit-held : (lock number : ℕ) (mode : Mode) → number < 32 → LocksAgree core → (bit_at (word_of core (Lock lock)) (exponent number mode) ≡ 1) ↔ IsHeldBy core lock number mode
   bit-held lock number mode less agree =
       let word = lock-word core lock agree in
-      let sum = bits_sum lock (exponent number mode) core.views (own_bits lock) in
-      (
+      let sum = bits_sum lock (exponent number mode) core.views (own_bits lock) in (
         λ h. let t = sum.0 (ap (λ (n : ℕ). bit_at n (exponent number mode)) (sym word) ∙ h) in
             let a = exponent_parts (number_of t.1) (mode_of t.1.locks lock) (exponent number mode) t.3 in
             let same = exponent-same a.0 number a.1 mode (below t.0 a.0 t.1 t.2 a.2) less a.4 in

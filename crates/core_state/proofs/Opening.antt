@@ -175,6 +175,7 @@ NodesInOnePlace-opening c sizes =
       );
       owned_once = each_bare s _ refl (λ number. none_paired (λ (a : ℕ) (b : ℕ). a ≢ b));
       batches = λ batch n among. absurd (none_in batch among);
+      loose = each_bare s _ refl (λ number n among. absurd (none_in n among));
       slot_trees = λ n l t e. absurd (idle_not c.nodes n IsPublished (λ h. h) (λ h. h) (subst IsPublished (sym e) tt));
       main_trees = λ n l e. absurd (idle_not c.nodes n IsPublished (λ h. h) (λ h. h) (subst IsPublished (sym e) tt));
       update = λ number. (

@@ -14,7 +14,8 @@ pub record Kind : Type 0 where
   pub operation : Operation
   -- the entry that it makes, by the view, the name of the word and the value that it stores
   pub entry : View → Name → ℕ → Option Entry
-  -- the view that it leaves, by the view before, the name, the word found and the two operands
+  -- the view that it leaves, by the view before, which knows the log up to the step, the name, the word found and the
+  -- two operands
   pub leaves : View → Name → ℕ → ℕ → ℕ → View
 
 -- what a kind of step asks: a fact of the view, the name of the word and the two operands
@@ -58,10 +59,14 @@ gained_by kind core step =
 abbrev pub log_after : Kind → Core → Step → List Item
 log_after kind core step = core.log ++ gained_by kind core step
 
+-- the view of the pass, once it knows the log up to the step
+abbrev pub learned : Core → Step → View
+learned core step = record step.view { known = core.log }
+
 -- the view that it leaves. No kind changes the sizes or whose view it is; what is known is then the whole log
 abbrev pub view_after : Kind → Core → Step → View
 view_after kind core step =
-    record (kind.leaves step.view step.name (found_by core step) step.first step.second) {
+    record (kind.leaves (learned core step) step.name (found_by core step) step.first step.second) {
       config = step.view.config;
       role = step.view.role;
       known = log_after kind core step;

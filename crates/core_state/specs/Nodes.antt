@@ -1,7 +1,7 @@
 -- Where each node of the trees is. The laws of trees speak of one such map; it is no part of the words or views.
 use Rattle.std.specs.Prelude.{◌≡◌, ℕ, ◌<◌, List, [], ◌++◌, flat_map, Option, Some, None, ⊤}
 use Rattle.word_map.specs.declared.name.Name.{Name}
-use Rattle.word_map.specs.declared.name.Name.TheVariants.{Child, Parent}
+use Rattle.word_map.specs.declared.name.Name.TheVariants.{Child, Bound, Parent}
 use Rattle.core_state.specs.declared.view.View.{View}
 use Rattle.core_state.specs.declared.view.Rebuild.{Rebuild}
 use Rattle.core_state.specs.Encoding.{node_child, place, layer_of}
@@ -55,6 +55,13 @@ IsOfLayer layer (made p l) = l ≡ layer
 IsOfLayer layer (superseded p l) = l ≡ layer
 IsOfLayer layer _ = ⊥
 
+-- the node of a word of a tree
+abbrev pub node_in : Name → Option ℕ
+node_in (Child n k) = Some n
+node_in (Bound n k q) = Some n
+node_in (Parent n) = Some n
+node_in _ = None
+
 -- ---- ways up and down, by the words of places
 
 -- the child at a place of a node, or one above it
@@ -74,4 +81,4 @@ nodes_in None = []
 nodes_in (Some r) = r.nodes
 
 abbrev pub nodes_of : View → List ℕ
-nodes_of view = flat_map (λ b. b.nodes) view.batches ++ nodes_in view.rebuild
+nodes_of view = flat_map (λ b. b.nodes) view.batches ++ (view.loose ++ nodes_in view.rebuild)

@@ -23,12 +23,12 @@ is_pool_word Update = true
 is_pool_word Arena = true
 is_pool_word _ = false
 
--- it reads those words, and of each view the locks, what it has under way, the batches and the update
+-- it reads those words, and of each view the locks, what it has under way, the nodes that it owns and the update
 abbrev pub node_scope : Scope
 node_scope = record {
   names = is_pool_word;
   reads_history = false;
-  part = λ bare view. record bare { locks = view.locks; call = view.call; batches = view.batches; rebuild = view.rebuild };
+  part = λ bare view. record bare { locks = view.locks; call = view.call; batches = view.batches; loose = view.loose; rebuild = view.rebuild };
 }
 
 -- no update has loaded the number of the arena since it began
@@ -52,10 +52,11 @@ pub record NodesInOnePlaceIn (nodes : Nodes) (s : Sight) : Type 0 where
   -- its count; while a pass that holds the pool's lock has stored a link and not the count, that may be another
   pub count : EachPass s (λ number view. view.call.task ≢ Pooling) → s.word PoolFree ≡ length chain
   pub pool : EachPass s (λ number view. view.call.task ≡ Pooling → Holds view (pool_lock s.config) Write)
-  -- a pass owns the nodes of its batches, which are batch nodes, and those of its update
+  -- a pass owns the nodes of its batches and those that it is to give back, which are batch nodes, and those of its update
   pub owned : (n number : ℕ) → IsOwnedBy number (nodes.home n) ↔ HasPass s number (λ view. Contains (nodes_of view) n)
   pub owned_once : EachPass s (λ number view. IsOnce (nodes_of view))
   pub batches : (batch : Batch) (n : ℕ) → Contains (all_batches s) batch → Contains batch.nodes n → n < s.config.nodes
+  pub loose : EachPass s (λ number view. (n : ℕ) → Contains view.loose n → n < s.config.nodes)
   -- trees of slots are of batch nodes, main trees of nodes of one arena
   pub slot_trees : (n l t : ℕ) → nodes.home n ≡ under (Slot l t) → n < s.config.nodes
   pub main_trees : (n l : ℕ) → nodes.home n ≡ under (Main l) → IsInArena s.config (arena_of s (s.word Arena) l) n

@@ -8,7 +8,7 @@ use Rattle.core_state.specs.declared.view.Task.TheVariants.{Moving, Removing}
 use Rattle.core_state.specs.declared.view.Rebuild.{Rebuild}
 use Rattle.core_state.specs.Core.{Core}
 use Rattle.core_state.specs.Scope.{Scope, Sight, sight, IsOnce, HasPass, EachPass}
-use Rattle.core_state.specs.Encoding.{node_child, place, bound_in}
+use Rattle.core_state.specs.Encoding.{Sides, node_child, place, bound_in}
 use Rattle.core_state.specs.Nodes.{Nodes, made, superseded, IsLive, Stands, IsOfLayer, Above, Below}
 use Rattle.core_state.specs.Updates.{EachUpdate, IsNoted}
 use Rattle.core_state.specs.LocationsHold.{IsLocation}
@@ -88,7 +88,7 @@ IsBelowBound s r n k index = IsNoted r index (λ noted. (a : ℕ) × (b : ℕ) �
 
 abbrev pub IsTight : Nodes → Sight → ℕ → Rebuild → Type 0
 IsTight nodes s number r = (n k l : ℕ) → nodes.home n ≡ made number l → k < 4 → s.word (Child n k) ≢ 0 →
-    IsInHull (λ box. (index : ℕ) × IsBelowBound s r n k index × (HadSince s r.from index box ⊎ IsComing s index box)) (bound_in s.word n k)
+    IsInHull (λ q side. (index : ℕ) × IsBelowBound s r n k index × (((box : Sides) × HadSince s r.from index box × (box q ≡ side)) ⊎ IsComing s index q side)) (bound_in s.word n k)
 
 pub record ReadersCountedIn (nodes : Nodes) (s : Sight) : Type 0 where
   pub odd : (number : ℕ) → (s.word (Reader number) % 2 ≡ 1) ↔ HasPass s number (λ view. view.walk.is_on ≡ true)

@@ -1,5 +1,5 @@
 -- The trees are sound: child and parent words agree, each node stands once, trees are low, and bounds are boxes.
-use Rattle.std.specs.Prelude.{◌≡◌, ◌≢◌, ◌⊎◌, ℕ, suc, ◌<◌, ◌≤◌, Bool, true, false, length, Contains, Option, Some, None, slice_index, slice_index_or, IfSome}
+use Rattle.std.specs.Prelude.{◌≡◌, ◌≢◌, ◌⊎◌, ℕ, suc, ◌<◌, ◌≤◌, Bool, true, false, length, Contains, slice_index, slice_index_or, IfSome}
 use Rattle.word_map.specs.declared.name.Name.{Name}
 use Rattle.word_map.specs.declared.name.Name.TheVariants.{Child, Bound, Parent, Main, Slot}
 use Rattle.core_state.specs.declared.item.Store.{Store}
@@ -8,7 +8,7 @@ use Rattle.core_state.specs.declared.view.Merged.{Merged}
 use Rattle.core_state.specs.Core.{Core, word_of}
 use Rattle.core_state.specs.Scope.{Scope, Sight, sight, IsOnce, HasPass, EachPass}
 use Rattle.core_state.specs.Encoding.{body_child, node_child, place, NamesRoot, IsBox, bound_in}
-use Rattle.core_state.specs.Nodes.{Nodes, Home, owned, made, under, superseded, Stands, IsOwnedBy, Below}
+use Rattle.core_state.specs.Nodes.{Nodes, Home, node_in, owned, made, under, superseded, Stands, IsOwnedBy, Below}
 use Rattle.core_state.specs.Updates.{EachUpdate, HasUpdate}
 
 abbrev pub is_tree_word : Name → Bool
@@ -67,13 +67,6 @@ IsAsStored s (made number l) (Parent n) value = s.word (Parent n) ≡ value
 IsAsStored s (made number l) (Child n k) value = (s.word (Child n k) ≡ value) ⊎ ((s.word (Child n k) ≡ 0) × ((i : ℕ) × (value ≡ body_child i)))
 IsAsStored s (made number l) (Bound n k q) value = (q < 3 → s.word (Bound n k q) ≤ value) × (3 ≤ q → value ≤ s.word (Bound n k q))
 IsAsStored s _ name value = ⊥
-
--- the node of a word of a tree
-abbrev pub node_in : Name → Option ℕ
-node_in (Child n k) = Some n
-node_in (Bound n k q) = Some n
-node_in (Parent n) = Some n
-node_in _ = None
 
 -- all below the roots of those parts is the pass's own, and a node below is where its parent word says
 pub record IsReturning (nodes : Nodes) (s : Sight) (number : ℕ) (r : Rebuild) : Type 0 where

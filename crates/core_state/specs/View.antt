@@ -58,6 +58,7 @@ blank_view c role = record {
   walk = no_walk;
   call = no_call;
   batches = [];
+  loose = [];
   written = [];
   rebuild = None;
 }

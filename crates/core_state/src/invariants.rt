@@ -1,5 +1,5 @@
 //! What is proved of the eight invariants and of locks, as the layers above use it. No call here does anything.
-ghost use Rattle.std.specs.Prelude.{◌≡◌, ◌≢◌, ◌↔◌, ◌+◌, ◌<◌, ℕ, Some};
+ghost use Rattle.std.specs.Prelude.{◌≡◌, ◌≢◌, ◌↔◌, ◌+◌, ◌<◌, ℕ};
 ghost use Rattle.std.specs.Int.{bit_at};
 ghost use Rattle.fixed_box.specs.Touch.{Touch};
 ghost use Rattle.fixed_box.specs.declared.fix_box.FixBox.{FixBox};
@@ -8,7 +8,6 @@ ghost use Rattle.word_map.specs.declared.config.Config.{Config};
 ghost use Rattle.word_map.specs.declared.name.Name.{Name};
 ghost use Rattle.word_map.specs.declared.name.Name.TheVariants.{Lock};
 ghost use Rattle.word_map.specs.Limits.{IsConfig};
-ghost use Rattle.core_state.specs.declared.view.Mode.{Mode};
 ghost use Rattle.core_state.specs.declared.view.Mode.TheVariants.{Read, Write};
 ghost use Rattle.core_state.specs.declared.view.View.{View};
 ghost use Rattle.core_state.specs.Log.{word, IsPrefix};
@@ -34,7 +33,7 @@ ghost use Rattle.core_state.specs.WalksLead.{WalksLead, walk_scope};
 ghost use Rattle.core_state.specs.ReadersCounted.{ReadersCounted, reader_scope};
 ghost use Rattle.core_state.specs.Invariants.{Invariants};
 ghost use Rattle.core_state.specs.Unseen.{IsUnseen};
-ghost use Rattle.core_state.specs.Guards.{KeepsGuards, GuardsHold, guard_of};
+ghost use Rattle.core_state.specs.Guards.{Owns, KeepsGuards, GuardsHold};
 ghost use Rattle.core_state.specs.Broken.{bit_of_nobody, body_of_nothing, miscounted_pool, endless_tree, body_without_entry, body_without_location, walk_past_a_body, uncounted_reader};
 
 /// A world of any sizes within the limits opens with all invariants.
@@ -83,16 +82,17 @@ pub fn lock_words_have_the_bits_of_holders()
         → ((bit_at (word_of core (Lock lock)) (32 + number) ≡ 1) ↔ IsHeldBy core lock number Write) }
 {}
 
-/// Who writes under a lock holds it alone, and what a lock guards stands still for every other pass that holds it.
-pub fn guarded_words_stand_still()
+/// Who writes under a lock holds it alone. What a pass has for itself, by a lock that it holds or otherwise, stands
+/// still from its last step on.
+pub fn owned_words_stand_still()
     ensures alone { (core : Core) (lock seat other number second : ℕ) (view view_of_other : View) → LocksAgree core → IsViewAt core seat view → IsPass view number
         → Holds view lock Write → other ≢ seat → IsViewAt core other view_of_other → IsPass view_of_other second → HoldsNot view_of_other lock }
     ensures step { (kind : Kind) (core : Core) (step : Step) → IsViewAt core step.seat step.view → KeepsGuards kind core step → GuardsHold core
         → GuardsHold (after_step kind core step) }
     ensures event { (before after : Core) → Event before after → GuardsHold before → GuardsHold after }
     ensures run { (c : Config) (last : Core) → Run (opening c) last → GuardsHold last }
-    ensures still { (core : Core) (seat number lock : ℕ) (mode : Mode) (view : View) (name : Name) → GuardsHold core → IsViewAt core seat view → IsPass view number
-        → IsPrefix view.known core.log → Holds view lock mode → guard_of core.config name ≡ Some lock → word_of core name ≡ word core.config view.known name }
+    ensures still { (core : Core) (seat number : ℕ) (view : View) (name : Name) → GuardsHold core → IsViewAt core seat view → IsPass view number
+        → IsPrefix view.known core.log → Owns core.config view name → word_of core name ≡ word core.config view.known name }
 {}
 
 /// Each invariant fails in some core, so none of them is empty; and there are queries, so the one on walks speaks of

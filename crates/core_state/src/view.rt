@@ -178,6 +178,8 @@ pub struct View {
     pub call: Call,
     /// The batches that it prepares.
     pub batches: LinkedList<Batch>,
+    /// The batch nodes that it owns for no batch any more, and is to give back.
+    pub loose: LinkedList<u32>,
     /// What it stored in nodes of its own since they are its own.
     pub written: LinkedList<Store>,
     pub rebuild: Option<Rebuild>,

@@ -1,5 +1,5 @@
-use Rattle.core_state.proofs.Guarding.{writer-alone, GuardsHold-step, GuardsHold-event, GuardsHold-run, guarded-still}
-use Rattle.core_state.proofs.invariants.guarded_words_stand_still.Goals as goal
+use Rattle.core_state.proofs.Guarding.{writer-alone, GuardsHold-step, GuardsHold-event, GuardsHold-run, owned-still}
+use Rattle.core_state.proofs.invariants.owned_words_stand_still.Goals as goal
 
 pub returns-clause-alone : goal.returns-clause-alone
 returns-clause-alone c = writer-alone
@@ -14,4 +14,4 @@ pub returns-clause-run : goal.returns-clause-run
 returns-clause-run c = GuardsHold-run
 
 pub returns-clause-still : goal.returns-clause-still
-returns-clause-still c = guarded-still
+returns-clause-still c = owned-still

@@ -83,13 +83,13 @@ read_no_child l (suc zero) below e = subst (λ (x : Load). IsNoChild x.name) e t
 read_no_child l (suc (suc j)) below e = absurd (omega arith)
 
 -- nothing is left to read, so no way leads to a body
-no_way : (s : Sight) (Had : Sides → Type 0) (query : Query) → ¬ IsAhead s Had 0 query walker.walk (record { rest = []; stack = []; spot = resting })
-no_way s Had query (is_found c) = read_no_child _ c.2.0 c.2.1 c.2.2
-no_way s Had query (by_slot c) = none_in (Slot c.0 c.1) c.2.0
-no_way s Had query (by_main c) = none_in (Main c.0) c.1.0
-no_way s Had query (by_stack n among way) = none_in n among
-no_way s Had query (by_child c) = c
-no_way s Had query (by_part c) = c
+no_way : (word : Name → ℕ) (Had : Sides → Type 0) (query : Query) → ¬ IsAhead word Had 0 query walker.walk (record { rest = []; stack = []; spot = resting })
+no_way word Had query (is_found c) = read_no_child _ c.2.0 c.2.1 c.2.2
+no_way word Had query (by_slot c) = none_in (Slot c.0 c.1) c.2.0
+no_way word Had query (by_main c) = none_in (Main c.0) c.1.0
+no_way word Had query (by_stack n among way) = none_in n among
+no_way word Had query (by_child c) = c
+no_way word Had query (by_part c) = c
 
 -- the words of a query of layer 0
 asked : (query : Query) → bit_at query.mask 0 ≡ 1 → asked_words smallest query.mask ≡ Slot 0 0 ∷ Main 0 ∷ []
@@ -105,7 +105,7 @@ walk_past_a_body-breaks b query asks touches h =
     in
     let leads = h.leads 0 (record (bare_view 0) { walk = walker.walk }) (0, omega arith, refl) refl refl query follows in
     let done = subst (λ (rest : List Name). WalkLeads s walker.walk query (replay query (from rest) walker.walk.loads)) words leads in
-    no_way s _ query
+    no_way s.word _ query
     (done.ahead 0 1
     (λ n low high.
     let last : 3 ≡ n = omega arith in

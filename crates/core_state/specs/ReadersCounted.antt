@@ -35,19 +35,19 @@ reader_scope = record {
 -- ---- what a walk can still reach
 
 -- from the node at hand by the children from one on
-abbrev pub ReachesByChild : Sight → ℕ → ℕ → ℕ → Type 0
-ReachesByChild s n from a = (k : ℕ) × (m : ℕ) × (from ≤ k) × (k < 4) × (s.word (Child n k) ≡ node_child m) × Below s.word m a
+abbrev pub ReachesByChild : (Name → ℕ) → ℕ → ℕ → ℕ → Type 0
+ReachesByChild word n from a = (k : ℕ) × (m : ℕ) × (from ≤ k) × (k < 4) × (word (Child n k) ≡ node_child m) × Below word m a
 
-pub data ReachesBySpot (s : Sight) (a : ℕ) : Spot → Type 0 where
-  the_node : (k : ℕ) → ReachesBySpot s a (at_child a k)
-  the_node_of_bound : (k x : ℕ) (read : List ℕ) → ReachesBySpot s a (at_bound a k x read)
-  by_child : (n k : ℕ) → ReachesByChild s n k a → ReachesBySpot s a (at_child n k)
-  by_next_child : (n k x : ℕ) (read : List ℕ) → ReachesByChild s n (k + 1) a → ReachesBySpot s a (at_bound n k x read)
-  by_part : (n k x m : ℕ) (read : List ℕ) → x ≡ node_child m → Below s.word m a → ReachesBySpot s a (at_bound n k x read)
+pub data ReachesBySpot (word : Name → ℕ) (a : ℕ) : Spot → Type 0 where
+  the_node : (k : ℕ) → ReachesBySpot word a (at_child a k)
+  the_node_of_bound : (k x : ℕ) (read : List ℕ) → ReachesBySpot word a (at_bound a k x read)
+  by_child : (n k : ℕ) → ReachesByChild word n k a → ReachesBySpot word a (at_child n k)
+  by_next_child : (n k x : ℕ) (read : List ℕ) → ReachesByChild word n (k + 1) a → ReachesBySpot word a (at_bound n k x read)
+  by_part : (n k x m : ℕ) (read : List ℕ) → x ≡ node_child m → Below word m a → ReachesBySpot word a (at_bound n k x read)
 
-pub data Reaches (s : Sight) (at : Position) (a : ℕ) : Type 0 where
-  by_stack : (n : ℕ) → Contains at.stack n → Below s.word n a → Reaches s at a
-  by_spot : ReachesBySpot s a at.spot → Reaches s at a
+pub data Reaches (word : Name → ℕ) (at : Position) (a : ℕ) : Type 0 where
+  by_stack : (n : ℕ) → Contains at.stack n → Below word n a → Reaches word at a
+  by_spot : ReachesBySpot word a at.spot → Reaches word at a
 
 -- the layer of the main word or slot that was read last
 abbrev pub layer_after : Option ℕ → Load → Option ℕ
@@ -63,8 +63,8 @@ nodes_at (at_child n k) stack = n ∷ stack
 nodes_at (at_bound n k x read) stack = n ∷ stack
 
 -- all that a walk reaches is in published or superseded trees of the layer at hand
-pub record WalkStays (nodes : Nodes) (s : Sight) (loads : List Load) (at : Position) : Type 0 where
-  pub live : (a : ℕ) → Reaches s at a → IsLive (nodes.home a) × IfSome (layer_at_hand loads) (λ l. IsOfLayer l (nodes.home a))
+pub record WalkStays (nodes : Nodes) (word : Name → ℕ) (loads : List Load) (at : Position) : Type 0 where
+  pub live : (a : ℕ) → Reaches word at a → IsLive (nodes.home a) × IfSome (layer_at_hand loads) (λ l. IsOfLayer l (nodes.home a))
   pub once : IsOnce (nodes_at at.spot at.stack)
 
 -- ---- readers that an update has seen
@@ -93,10 +93,10 @@ IsTight nodes s number r = (n k l : ℕ) → nodes.home n ≡ made number l → 
 pub record ReadersCountedIn (nodes : Nodes) (s : Sight) : Type 0 where
   pub odd : (number : ℕ) → (s.word (Reader number) % 2 ≡ 1) ↔ HasPass s number (λ view. view.walk.is_on ≡ true)
   pub stays : EachPass s (λ number view. view.walk.is_on ≡ true → (query : Query) → Follows s.config query view.walk.loads
-      → WalkStays nodes s view.walk.loads (position_of s.config query view.walk.loads))
+      → WalkStays nodes s.word view.walk.loads (position_of s.config query view.walk.loads))
   -- a walk that an update has seen off reaches nothing that this update superseded
   pub seen_off : EachUpdate s (λ number view r. EachPass s (λ q other. HasSeenOff s r q → other.walk.is_on ≡ true → (query : Query) → Follows s.config query other.walk.loads
-      → (a l : ℕ) → Reaches s (position_of s.config query other.walk.loads) a → nodes.home a ≢ superseded number l))
+      → (a l : ℕ) → Reaches s.word (position_of s.config query other.walk.loads) a → nodes.home a ≢ superseded number l))
   pub climbs : EachPass s (λ number view. ClimbsInTrees nodes s view.call.task)
   -- the bounds of published and superseded trees lie in the space of their layer, those of new trees in a smaller hull
   pub space : (n k l : ℕ) → IsLive (nodes.home n) → IsOfLayer l (nodes.home n) → k < 4 → s.word (Child n k) ≢ 0 → IsInSpace s l (bound_in s.word n k)

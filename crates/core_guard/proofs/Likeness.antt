@@ -1,20 +1,16 @@
 -- Views that differ in their locks, and in a call that was not under way, and sights of such views.
-use Rattle.std.proofs.Common.{◌≡◌, ◌≢◌, ◌⊎◌, ℕ, zero, suc, ◌+◌, ◌<◌, List, [], ◌∷◌, ◌++◌, Option, Some, None, length, get_or, set, refl, ap, sym, ◌∙◌, subst, inl, inr, arith}
-use Rattle.std.specs.Prelude.{⊤, Contains, filter_map, flat_map, fold}
-use Rattle.std.specs.List.{AllZip, cons_option}
-use Rattle.std.proofs.lemmas.Option.{none-some, same_Some}
+use Rattle.std.proofs.Common.{◌≡◌, ◌≢◌, ◌⊎◌, ℕ, suc, ◌<◌, List, [], ◌∷◌, ◌++◌, length, get_or, refl, ap, sym, ◌∙◌, subst, inl, inr, arith}
+use Rattle.std.specs.Prelude.{Contains, flat_map, fold}
+use Rattle.std.specs.List.{AllZip}
 use Rattle.std.proofs.lemmas.List.{append-nil}
-use Rattle.std.proofs.lemmas.List.Elements.{AllZip-get_or, Contains-get_or, Contains-append_left, Contains-push, Contains-push_cases}
+use Rattle.std.proofs.lemmas.List.Elements.{AllZip-get_or, Contains-get_or, Contains-append_left, Contains-push_cases}
 use Rattle.std.proofs.lemmas.List.Concat.{flat_map-append}
 use Rattle.std.proofs.lemmas.List.Sums.{fold-append}
-use mathlib.Core.Option.{some, some-injective, some-ne-none}
-use lib.ListN.{get_elem?}
 use Rattle.core_state.specs.declared.view.Mode.{Mode}
-use Rattle.core_state.specs.declared.view.Task.{Task}
-use Rattle.core_state.specs.declared.view.Task.TheVariants.{Nothing, Creating, Destroying, Pooling, Moving, Removing, Placing}
+use Rattle.core_state.specs.declared.view.Task.TheVariants.{Nothing}
 use Rattle.core_state.specs.declared.view.Call.{Call}
 use Rattle.core_state.specs.declared.view.View.{View}
-use Rattle.core_state.specs.View.{number_of, IsPass, Holds, no_call}
+use Rattle.core_state.specs.View.{number_of, Holds, no_call}
 use Rattle.core_state.specs.Scope.{Sight, HasPass, EachPass, bare_view}
 
 -- a call is as before, or none was under way and it is cleared
@@ -139,8 +135,8 @@ flat-like f before after same none (same_many zip) = zip-flat f before after sam
 flat-like {X = X} f before after same none (one_more middle number zip e) =
     ap (λ (l : List View). flat_map f l) e ∙
     (flat_map-append f middle (bare_view number ∷ []) ∙
-      (ap (λ (l : List X). flat_map f middle ++ (l ++ [])) (none number) ∙
-        (append-nil (flat_map f middle) ∙ zip-flat f before middle same zip)))
+    (ap (λ (l : List X). flat_map f middle ++ (l ++ [])) (none number) ∙
+    (append-nil (flat_map f middle) ∙ zip-flat f before middle same zip)))
 
 zip-fold : (g : ℕ → View → ℕ) (a : ℕ) (xs ys : List View) → ((n : ℕ) (v w : View) → IsLike v w → g n w ≡ g n v) → AllZip IsLike xs ys → fold g a ys ≡ fold g a xs
 zip-fold g a [] [] same h = refl

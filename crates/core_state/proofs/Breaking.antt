@@ -12,7 +12,7 @@ use Rattle.word_map.specs.declared.name.Name.TheVariants.{Child, Main, Slot}
 use Rattle.core_state.specs.declared.item.Load.{Load}
 use Rattle.core_state.specs.Nodes.{Nodes, Stands}
 use Rattle.core_state.specs.Encoding.{Sides}
-use Rattle.core_state.specs.Scope.{Sight, sight, bare_view}
+use Rattle.core_state.specs.Scope.{sight, bare_view}
 use Rattle.core_state.specs.Bodies.{IsChain}
 use Rattle.core_state.specs.LocksAgree.{LocksAgree}
 use Rattle.core_state.specs.BodiesAgree.{BodiesAgree}

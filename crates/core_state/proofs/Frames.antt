@@ -23,7 +23,7 @@ use Rattle.core_state.proofs.Steps.{gains, nothing, its_item, gained-unstored, w
 use Rattle.core_state.proofs.Lookups.{set_else}
 
 -- what is hidden is the same, and so is what is the same where it is seen
-same_cond : {A : Type 0} (test : Bool) (x y d : A) → (IsTrue test → x ≡ y) → cond test x d ≡ cond test y d
+pub same_cond : {A : Type 0} (test : Bool) (x y d : A) → (IsTrue test → x ≡ y) → cond test x d ≡ cond test y d
 same_cond true x y d same = same refl
 same_cond false x y d same = refl
 
@@ -42,7 +42,7 @@ frame scope Law a b same h = subst Law (sight-same scope a b same) h
 -- ---- steps that a law does not see
 
 -- what a function keeps of a list stays where an element is changed to one of which it keeps the same
-filter_map-set : {X Y : Type 0} (f : X → Option Y) (xs : List X) (i : ℕ) (x y : X) → get_elem? xs i ≡ some x → f y ≡ f x → filter_map f (set xs i y) ≡ filter_map f xs
+pub filter_map-set : {X Y : Type 0} (f : X → Option Y) (xs : List X) (i : ℕ) (x y : X) → get_elem? xs i ≡ some x → f y ≡ f x → filter_map f (set xs i y) ≡ filter_map f xs
 filter_map-set f [] i x y at same = refl
 filter_map-set {Y = Y} f (z ∷ xs) zero x y at same =
     let value : f y ≡ f z = same ∙ ap f (sym (some-injective z x at)) in
@@ -57,7 +57,7 @@ made-gained kind core step none =
       | its_item t e ↦ rw (e, none (left_by kind core step)) refl
     ]
 
-step-history : (kind : Kind) (core : Core) (step : Step) → ((value : ℕ) → kind.entry step.view step.name value ≡ None) → history (log_after kind core step) ≡ history core.log
+pub step-history : (kind : Kind) (core : Core) (step : Step) → ((value : ℕ) → kind.entry step.view step.name value ≡ None) → history (log_after kind core step) ≡ history core.log
 step-history kind core step none =
     filter_map-append made_by core.log (gained_by kind core step) ∙
     (ap (λ (l : List Made). history core.log ++ l) (made-gained kind core step none) ∙ append-nil (history core.log))

@@ -68,7 +68,7 @@ module _ {X Y : Type 0} (f : X → Option Y) (g : Y → ℕ) where
   Contains-kept (z ∷ xs) (suc i) x b at kept = Contains-cons (f z) (filter_map f xs) b (Contains-kept xs i x b at kept)
 
 module _ {X : Type 0} (h : X → ℕ) where
-  sum_one : (xs : List X) (i : ℕ) (x : X) → get_elem? xs i ≡ some x → h x ≤ sum_by h xs
+  pub sum_one : (xs : List X) (i : ℕ) (x : X) → get_elem? xs i ≡ some x → h x ≤ sum_by h xs
   sum_one [] i x at = absurd (some-ne-none x (sym at))
   sum_one (z ∷ xs) zero x at = let same = ap h (some-injective z x at) in omega (arith, sum_by-cons h z xs)
   sum_one (z ∷ xs) (suc i) x at = let rest = sum_one xs i x at in omega (arith, sum_by-cons h z xs)
@@ -101,7 +101,7 @@ lock-word core lock agree = agree.holders lock ∙ sum-kept (part_of lock_scope)
 adds-held : (view : View) (lock number : ℕ) (mode : Mode) → IsPass view number → Holds view lock mode → adds lock view ≡ bit_of number mode
 adds-held view lock number mode pass holds = rw (pass, holds) refl
 
-bit-some : (number : ℕ) (mode : Mode) → 0 < bit_of number mode
+pub bit-some : (number : ℕ) (mode : Mode) → 0 < bit_of number mode
 bit-some number Read = pow_pos number
 bit-some number Write = pow_pos (32 + number)
 

@@ -37,6 +37,14 @@ load_lock = record {
   leaves = λ view name found first second. view;
 }
 
+-- what taking a lock does, either way: where the word is the one expected, the other operand is put there
+abbrev pub take : Mode → Kind
+take mode = record {
+  operation = compare_exchange;
+  entry = λ view name value. None;
+  leaves = λ view name found first second. taken_if view name mode found first;
+}
+
 -- what taking a lock to read asks: nobody writes in the word that is expected, and the own bit is added to it
 pub record MayRead (view : View) (name : Name) (expected new : ℕ) : Type 0 where
   pub lock : ℕ
@@ -49,11 +57,7 @@ pub record MayRead (view : View) (name : Name) (expected new : ℕ) : Type 0 whe
 
 -- Kind 6, take a lock to read
 abbrev pub take_read : Kind
-take_read = record {
-  operation = compare_exchange;
-  entry = λ view name value. None;
-  leaves = λ view name found first second. taken_if view name Read found first;
-}
+take_read = take Read
 
 -- what taking a lock to write asks: the word expected is 0, and the own bit is put there
 pub record MayWrite (view : View) (name : Name) (expected new : ℕ) : Type 0 where
@@ -67,11 +71,7 @@ pub record MayWrite (view : View) (name : Name) (expected new : ℕ) : Type 0 wh
 
 -- Kind 7, take a lock to write
 abbrev pub take_write : Kind
-take_write = record {
-  operation = compare_exchange;
-  entry = λ view name value. None;
-  leaves = λ view name found first second. taken_if view name Write found first;
-}
+take_write = take Write
 
 -- what letting a lock go asks: it is held, nothing is half done, and the summand takes the own bit away
 pub record MayRelease (view : View) (name : Name) (summand second : ℕ) : Type 0 where

@@ -61,12 +61,12 @@ pub record IsSoundNode (nodes : Nodes) (s : Sight) (n : ℕ) : Type 0 where
 
 -- an owned node has what its owner stored there. In a tree that an update has made others may since have widened bounds
 -- and taken bodies away
-abbrev pub IsAsStored : Sight → Home → Name → ℕ → Type 0
-IsAsStored s (owned number) name value = s.word name ≡ value
-IsAsStored s (made number l) (Parent n) value = s.word (Parent n) ≡ value
-IsAsStored s (made number l) (Child n k) value = (s.word (Child n k) ≡ value) ⊎ ((s.word (Child n k) ≡ 0) × ((i : ℕ) × (value ≡ body_child i)))
-IsAsStored s (made number l) (Bound n k q) value = (q < 3 → s.word (Bound n k q) ≤ value) × (3 ≤ q → value ≤ s.word (Bound n k q))
-IsAsStored s _ name value = ⊥
+abbrev pub IsAsStored : (Name → ℕ) → Home → Name → ℕ → Type 0
+IsAsStored word (owned number) name value = word name ≡ value
+IsAsStored word (made number l) (Parent n) value = word (Parent n) ≡ value
+IsAsStored word (made number l) (Child n k) value = (word (Child n k) ≡ value) ⊎ ((word (Child n k) ≡ 0) × ((i : ℕ) × (value ≡ body_child i)))
+IsAsStored word (made number l) (Bound n k q) value = (q < 3 → word (Bound n k q) ≤ value) × (3 ≤ q → value ≤ word (Bound n k q))
+IsAsStored word _ name value = ⊥
 
 -- all below the roots of those parts is the pass's own, and a node below is where its parent word says
 pub record IsReturning (nodes : Nodes) (s : Sight) (number : ℕ) (r : Rebuild) : Type 0 where
@@ -83,7 +83,7 @@ pub record TreesSoundIn (nodes : Nodes) (s : Sight) : Type 0 where
   -- the root that a main or slot word names is of that tree, and has no parent
   pub roots : (name : Name) (root : ℕ) → NamesRoot name (s.word name) root → (nodes.home root ≡ under name) × (s.word (Parent root) ≡ 0)
   -- what a pass stored in its own nodes stands there
-  pub stored : EachPass s (λ number view. (store : Store) → Contains view.written store → IfSome (node_in store.name) (λ n. IsOwnedBy number (nodes.home n) × IsAsStored s (nodes.home n) store.name store.value))
+  pub stored : EachPass s (λ number view. (store : Store) → Contains view.written store → IfSome (node_in store.name) (λ n. IsOwnedBy number (nodes.home n) × IsAsStored s.word (nodes.home n) store.name store.value))
   -- of merged trees that are given back, the parts that are left are whole
   pub returning : EachUpdate s (λ number view r. IsReturning nodes s number r)
   pub none_lost : EachUpdate s (λ number view r. IsNoneLost s r)

@@ -1,0 +1,150 @@
+-- What a step on a lock, and the opening of a pass, leave of the sights of all laws but that of locks.
+use Rattle.std.proofs.Common.{◌≡◌, ℕ, zero, suc, List, [], ◌∷◌, ◌++◌, Bool, true, false, cond, eqb, Option, Some, None, set, refl, ap, sym, ◌∙◌, subst, inl, inr}
+use Rattle.std.specs.Prelude.{IsTrue, filter_map, option_map}
+use Rattle.std.specs.List.{AllZip, cons_option}
+use Rattle.std.proofs.lemmas.Bool.{eqb-true}
+use Rattle.std.proofs.lemmas.Option.{none-some, same_Some}
+use Rattle.std.proofs.lemmas.List.Sums.{fold-append}
+use Rattle.std.proofs.lemmas.List.Elements.{filter_map-append}
+use mathlib.Core.Option.{some, some-injective, some-ne-none}
+use lib.ListN.{get_elem?}
+use Rattle.word_map.specs.declared.config.Config.{Config}
+use Rattle.word_map.specs.declared.name.Name.{Name}
+use Rattle.word_map.specs.declared.name.Name.TheVariants.{Lock}
+use Rattle.core_state.specs.declared.view.Role.TheVariants.{Pass}
+use Rattle.core_state.specs.declared.view.Mode.{Mode}
+use Rattle.core_state.specs.declared.view.LockStep.{LockStep}
+use Rattle.core_state.specs.declared.view.LockStep.TheVariants.{Taken}
+use Rattle.core_state.specs.declared.view.Task.TheVariants.{Nothing}
+use Rattle.core_state.specs.declared.view.View.{View}
+use Rattle.core_state.specs.Log.{history}
+use Rattle.core_state.specs.View.{IsPass, mode_of, mode_after, HoldsNot, blank_view}
+use Rattle.core_state.specs.Core.{Core, word_of, IsViewAt}
+use Rattle.core_state.specs.Kind.{Kind, Step, learned, found_by, view_after}
+use Rattle.core_state.specs.Locking.{with_lock_step, taken_if, released}
+use Rattle.core_state.specs.Scope.{Scope, sight, part_of, bare_view}
+use Rattle.core_state.proofs.Frames.{filter_map-set, same_cond}
+use Rattle.core_guard.proofs.Likeness.{IsLike, IsLike-refl, AreLike, same_many, one_more, with_passes}
+
+-- ---- the stepping view
+
+-- a lock more leaves the others as they were
+mode-taken : (steps : List LockStep) (taken lock : ℕ) (mode held : Mode) → mode_of steps taken ≡ None → mode_of steps lock ≡ Some held → mode_of (steps ++ Taken taken mode ∷ []) lock ≡ Some held
+mode-taken steps taken lock mode held none holds = fold-append (mode_after lock) None steps (Taken taken mode ∷ []) ∙ go (eqb taken lock) refl
+  where
+    go : (test : Bool) → eqb taken lock ≡ test → cond (eqb taken lock) (Some mode) (mode_of steps lock) ≡ Some held
+    go true e = absurd (none-some held (sym none ∙ (ap (mode_of steps) (eqb-true taken lock e) ∙ holds)))
+    go false e = rw e holds
+
+taken-like : (view : View) (lock : ℕ) (mode : Mode) (test : Bool) → HoldsNot view lock → IsLike view (cond test (with_lock_step view (Taken lock mode)) view)
+taken-like view lock mode true free = record {
+  number = refl;
+  batches = refl;
+  loose = refl;
+  written = refl;
+  rebuild = refl;
+  walk = refl;
+  call = inl refl;
+  locks = λ busy other held holds. mode-taken view.locks lock other mode held free holds;
+}
+taken-like view lock mode false free = IsLike-refl view
+
+-- a view from which a lock was taken, whether it was or not
+pub taken_if-like : (view : View) (name : Name) (lock : ℕ) (mode : Mode) (found expected : ℕ) → name ≡ Lock lock → HoldsNot view lock → IsLike view (taken_if view name mode found expected)
+taken_if-like view name lock mode found expected names free =
+    subst (λ (n : Name). IsLike view (taken_if view n mode found expected)) (sym names) (taken-like view lock mode (eqb found expected) free)
+
+-- a view that let a lock go
+pub released-like : (view : View) (name : Name) (lock : ℕ) → name ≡ Lock lock → view.call.task ≡ Nothing → IsLike view (released view name)
+released-like view name lock names done =
+    subst (λ (n : Name). IsLike view (released view n)) (sym names)
+    (record {
+      number = refl;
+      batches = refl;
+      loose = refl;
+      written = refl;
+      rebuild = refl;
+      walk = refl;
+      call = inr (done, refl);
+      locks = λ busy lock mode holds. absurd (busy refl);
+    })
+
+-- what is known, and with whom, is no matter
+pub after-like : (kind : Kind) (core : Core) (step : Step) → IsLike (learned core step) (kind.leaves (learned core step) step.name (found_by core step) step.first step.second)
+    → IsLike step.view (view_after kind core step)
+after-like kind core step l = record {
+  number = refl;
+  batches = l.batches;
+  loose = l.loose;
+  written = l.written;
+  rebuild = l.rebuild;
+  walk = l.walk;
+  call = l.call;
+  locks = l.locks;
+}
+
+-- ---- the passes that a law sees
+
+-- a law reads of like views what is like
+abbrev pub ReadsLike : Scope → Type 0
+ReadsLike scope = (number : ℕ) (v w : View) → IsLike v w → IsLike (scope.part (bare_view number) v) (scope.part (bare_view number) w)
+
+-- and of a pass that has done nothing nothing
+abbrev pub ReadsBlank : Scope → Type 0
+ReadsBlank scope = (c : Config) (number further : ℕ) → scope.part (bare_view number) (blank_view c (Pass number further)) ≡ bare_view number
+
+zip-same : (xs : List View) → AllZip IsLike xs xs
+zip-same [] = tt
+zip-same (x ∷ xs) = (IsLike-refl x, zip-same xs)
+
+zip-cons : (o p : Option View) (xs ys : List View) → ((v w : View) → o ≡ Some v → p ≡ Some w → IsLike v w) → ((v : View) → o ≡ Some v → (w : View) × (p ≡ Some w)) → (o ≡ None → p ≡ None)
+    → AllZip IsLike xs ys → AllZip IsLike (cons_option o xs) (cons_option p ys)
+zip-cons None None xs ys like kept none h = h
+zip-cons None (Some w) xs ys like kept none h = absurd (none-some w (sym (none refl)))
+zip-cons (Some v) None xs ys like kept none h = let t = kept v refl in absurd (none-some t.0 t.1)
+zip-cons (Some v) (Some w) xs ys like kept none h = (like v w refl refl, h)
+
+zip-set : (f : View → Option View) (xs : List View) (i : ℕ) (v w a b : View) → get_elem? xs i ≡ some v → f v ≡ Some a → f w ≡ Some b → IsLike a b → AllZip IsLike (filter_map f xs) (filter_map f (set xs i w))
+zip-set f [] i v w a b at old new like = absurd (some-ne-none v (sym at))
+zip-set f (z ∷ xs) zero v w a b at old new like =
+    let first : f z ≡ Some a = ap f (some-injective z v at) ∙ old in
+    rw (first, new) (like, zip-same (filter_map f xs))
+zip-set f (z ∷ xs) (suc i) v w a b at old new like =
+    let rest = zip-set f xs i v w a b at old new like in
+    zip-cons (f z) (f z) (filter_map f xs) (filter_map f (set xs i w))
+    (λ p q e k. subst (λ (u : View). IsLike p u) (same_Some p q (sym e ∙ k)) (IsLike-refl p)) (λ p e. (p, e)) (λ e. e) rest
+
+-- a seat whose view is like what it was
+pub passes-set : (scope : Scope) (core : Core) (seat number : ℕ) (view w : View) → ReadsLike scope → IsViewAt core seat view → IsPass view number → IsLike view w
+    → AreLike (sight scope core).passes (filter_map (part_of scope) (set core.views seat w))
+passes-set scope core seat number view w reads at pass like =
+    same_many
+    (zip-set (part_of scope) core.views seat view w (scope.part (bare_view number) view) (scope.part (bare_view number) w) at
+    (ap (option_map (λ n. scope.part (bare_view n) view)) pass) (ap (option_map (λ n. scope.part (bare_view n) w)) (like.number ∙ pass)) (reads number view w like))
+
+-- a pass more that has done nothing
+pub passes-opened : (scope : Scope) (core : Core) (seat number further : ℕ) → ReadsBlank scope → IsViewAt core seat (blank_view core.config (Pass number (suc further)))
+    → AreLike (sight scope core).passes (filter_map (part_of scope) (set core.views seat (blank_view core.config (Pass number 0)) ++ blank_view core.config (Pass (suc number) further) ∷ []))
+passes-opened scope core seat number further reads at =
+    let c = core.config in
+    let old = blank_view c (Pass number (suc further)) in
+    let left = blank_view c (Pass number 0) in
+    let right = blank_view c (Pass (suc number) further) in
+    let same : filter_map (part_of scope) (set core.views seat left) ≡ filter_map (part_of scope) core.views =
+    filter_map-set (part_of scope) core.views seat old left at (ap Some (reads c number 0 ∙ sym (reads c number (suc further))))
+    in
+    one_more (filter_map (part_of scope) core.views) (suc number) (zip-same (filter_map (part_of scope) core.views))
+    (filter_map-append (part_of scope) (set core.views seat left) (right ∷ []) ∙
+    (λ i. same i ++ reads c (suc number) further i ∷ []))
+
+-- ---- the sight
+
+-- with the words of a law and the history as they were, only the passes may be others
+pub sight-passes : (scope : Scope) (a b : Core) → a.config ≡ b.config → ((name : Name) → IsTrue (scope.names name) → word_of a name ≡ word_of b name) → (IsTrue scope.reads_history → history a.log ≡ history b.log)
+    → with_passes (sight scope a) (filter_map (part_of scope) b.views) ≡ sight scope b
+sight-passes scope a b config words past = λ i. record {
+  config = config i;
+  word = λ name. same_cond (scope.names name) (word_of a name) (word_of b name) 0 (words name) i;
+  history = same_cond scope.reads_history (history a.log) (history b.log) [] past i;
+  passes = filter_map (part_of scope) b.views;
+}

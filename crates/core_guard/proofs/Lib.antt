@@ -1,0 +1,11 @@
+pub mod Likeness
+pub mod BodiesAlike
+pub mod UpdatesAlike
+pub mod NodesAlike
+pub mod TreesAlike
+pub mod LocationsAlike
+pub mod CoverAlike
+pub mod WalksAlike
+pub mod Changing
+pub mod LockWords
+pub mod Keeping

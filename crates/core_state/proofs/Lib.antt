@@ -1,0 +1,15 @@
+pub mod SameNames
+pub mod Reading
+pub mod Lookups
+pub mod Fitting
+pub mod Prefixes
+pub mod Steps
+pub mod Forming
+pub mod Frames
+pub mod Opening
+pub mod Breaking
+pub mod Queries
+pub mod Guarding
+pub mod Keeping
+pub mod LockBits
+pub mod Beginning

@@ -1,0 +1,30 @@
+-- The events of the core, a constructor for each kind of step, and runs.
+use Rattle.std.specs.Prelude.{◌≢◌, ℕ}
+use Rattle.core_state.specs.declared.view.Role.TheVariants.{Visitor}
+use Rattle.core_state.specs.declared.view.View.{View}
+use Rattle.core_state.specs.Core.{Core, IsViewAt}
+use Rattle.core_state.specs.Kind.{Steps}
+use Rattle.core_state.specs.Seats.{Opens, Visits, Joins}
+use Rattle.core_state.specs.Looking.{MayLook, look}
+use Rattle.core_state.specs.Locking.{MayLoadLock, load_lock, MayRead, take_read, MayWrite, take_write, MayRelease, release}
+
+-- one event leads from the one core to the other; docs/steps.md has the kinds by number
+pub data Event (before after : Core) : Type 0 where
+  opens_pass : Opens before after → Event before after
+  splits_visitor : Visits before after → Event before after
+  joins_visitor : Joins before after → Event before after
+  looks : Steps MayLook look before after → Event before after
+  loads_lock : Steps MayLoadLock load_lock before after → Event before after
+  takes_read : Steps MayRead take_read before after → Event before after
+  takes_write : Steps MayWrite take_write before after → Event before after
+  releases : Steps MayRelease release before after → Event before after
+
+-- events one after the other
+pub data Run (first : Core) : Core → Type 0 where
+  begins : Run first first
+  goes_on : {last next : Core} → Run first last → Event last next → Run first next
+
+-- of the views that are not on their way to another pass, all but one stand as before
+pub record ChangesOne (before after : Core) : Type 0 where
+  pub seat : ℕ
+  pub others : (other : ℕ) (view : View) → other ≢ seat → IsViewAt before other view → view.role ≢ Visitor → IsViewAt after other view

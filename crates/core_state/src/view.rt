@@ -1,0 +1,186 @@
+use crate::item::{Item, Load, Store};
+use std::collections::LinkedList;
+use word_map::Config;
+
+/// Whose view it is.
+#[derive(Clone, Copy, Debug, PartialEq, Eq)]
+pub enum Role {
+    /// That of the pass with this number, which may still give the numbers after it, so many, to passes that it opens.
+    Pass { number: u32, further: u32 },
+    /// A copy of what a pass knows, on its way to another pass that meets it.
+    Visitor,
+    /// None any more: what it knew went to a pass.
+    Spent,
+}
+
+/// How a lock is held.
+#[derive(Clone, Copy, Debug, PartialEq, Eq)]
+pub enum Mode {
+    Read,
+    Write,
+}
+
+/// A step on a lock.
+#[derive(Clone, Copy, Debug, PartialEq, Eq)]
+pub enum LockStep {
+    /// The lock with this number was taken.
+    Taken { lock: u32, mode: Mode },
+    /// The lock with this number was let go.
+    Released { lock: u32 },
+}
+
+/// The current or last walk of a pass through the trees.
+#[derive(Drop)]
+pub struct Walk {
+    /// Whether it has begun and has not ended.
+    pub is_on: bool,
+    /// How long the history was when it began.
+    pub from: u64,
+    /// What it loaded of slots, main roots, children and bounds, in order.
+    pub loads: LinkedList<Load>,
+    /// The bound that it has read in part, as it stood at the first load of it: six words, or none.
+    pub bound: LinkedList<u64>,
+}
+
+/// What a pass is in the middle of, under the locks that it holds.
+#[derive(Drop)]
+pub enum Task {
+    /// Nothing is half done.
+    Nothing,
+    /// The index was taken off the list of free ones, and its body is not created yet.
+    Creating { index: u32 },
+    /// The index was put on the list of free ones, and its body is not destroyed yet.
+    Destroying { index: u32 },
+    /// A link of the pool of batch nodes was stored, and its count was not.
+    Pooling,
+    /// The body is to have the box of these six words.
+    Moving { index: u32, target: LinkedList<u64> },
+    /// The body is out of the broad phase, and its places in trees are not all cleared.
+    Removing { index: u32 },
+    /// The body is to stand at its place in the new tree of its layer.
+    Placing { index: u32 },
+}
+
+/// How far a call under a lock has come.
+#[derive(Drop)]
+pub struct Call {
+    pub task: Task,
+    /// What it loaded since its task began, in order.
+    pub loads: LinkedList<Load>,
+    /// What it stored since its task began, in order.
+    pub stores: LinkedList<Store>,
+}
+
+/// A body that a batch holds.
+#[derive(Drop)]
+pub struct Marked {
+    pub index: u32,
+    /// The six words of its box when it was marked.
+    pub bounds: LinkedList<u64>,
+    /// Where it stands in the nodes of the batch, as a location word; 0 until that is planned.
+    pub place: u64,
+    /// Whether its word `LocA` says so yet.
+    pub is_placed: bool,
+}
+
+/// A batch that a pass prepares: a reserved slot, its nodes and the bodies that it holds.
+#[derive(Drop)]
+pub struct Batch {
+    pub layer: u32,
+    pub slot: u32,
+    /// Its nodes, all of them batch nodes.
+    pub nodes: LinkedList<u32>,
+    pub marked: LinkedList<Marked>,
+}
+
+/// A tree in a slot that an update is to merge into the main tree.
+#[derive(Clone, Copy, Debug, PartialEq, Eq)]
+pub struct Merged {
+    pub layer: u32,
+    pub slot: u32,
+    pub root: u32,
+}
+
+/// A body that an update noted, as it found it.
+#[derive(Drop)]
+pub struct Noted {
+    pub index: u32,
+    pub state: u64,
+    pub phase: u64,
+    pub layer: u32,
+    /// The six words of its box.
+    pub bounds: LinkedList<u64>,
+    /// Its word `LocA`.
+    pub location: u64,
+    /// Where it stands in the new tree of its layer, as a location word; 0 until that is planned.
+    pub place: u64,
+}
+
+/// The update that a pass has under way.
+#[derive(Drop)]
+pub struct Rebuild {
+    /// How long the history was when it began.
+    pub from: u64,
+    /// The arena that the main trees are in, once it was loaded.
+    pub arena: Option<u64>,
+    /// How many slot words were loaded.
+    pub slots_read: u32,
+    /// The trees that were found in slots.
+    pub merged: LinkedList<Merged>,
+    /// How many indexes were looked at.
+    pub passed: u32,
+    /// The bodies that were found in the main trees and in merged slots.
+    pub noted: LinkedList<Noted>,
+    /// The nodes that it owns: those of the other arena that stand in no published tree, and later those to give back.
+    pub nodes: LinkedList<u32>,
+    /// Whether the new trees stand in those nodes.
+    pub is_planned: bool,
+    /// The new main word of each layer.
+    pub roots: LinkedList<u64>,
+    /// The bodies that were placed in the new trees, and those of them that were found gone.
+    pub placed: LinkedList<u32>,
+    pub given_up: LinkedList<u32>,
+    /// The old main words of the layers that were exchanged, from layer 0 on.
+    pub swapped: LinkedList<u64>,
+    /// How many of the merged slots were cleared.
+    pub cleared: u32,
+    /// The bodies whose place in the new tree became their only one.
+    pub promoted: LinkedList<u32>,
+    /// The reader words that were loaded since, in order.
+    pub readers: LinkedList<Load>,
+    /// Whether no reader is left in the old trees.
+    pub is_reclaimed: bool,
+    /// The roots of the parts of merged trees that were not given back yet, the next one first.
+    pub returning: LinkedList<u32>,
+    /// Whether the word `Arena` names the other arena by now.
+    pub is_switched: bool,
+}
+
+/// What two passes knew when they met.
+#[derive(Drop)]
+pub struct Joined {
+    pub own: LinkedList<Item>,
+    pub other: LinkedList<Item>,
+}
+
+/// What a pass knows of its world. No value of it is made: the laws of the core speak of it.
+#[derive(Drop)]
+pub struct View {
+    pub config: Config,
+    pub role: Role,
+    /// The log as it was at its last step.
+    pub known: LinkedList<Item>,
+    /// While it meets another pass: what the two knew.
+    pub joined: Option<Joined>,
+    /// The locks that it took and let go, in order.
+    pub locks: LinkedList<LockStep>,
+    pub walk: Walk,
+    pub call: Call,
+    /// The batches that it prepares.
+    pub batches: LinkedList<Batch>,
+    /// The batch nodes that it owns for no batch any more, and is to give back.
+    pub loose: LinkedList<u32>,
+    /// What it stored in nodes of its own since they are its own.
+    pub written: LinkedList<Store>,
+    pub rebuild: Option<Rebuild>,
+}

@@ -158,6 +158,9 @@ some_same p q e =
     let both : p ≡ q = cc in
     (ap (λ (r : ℕ × ℕ). r.0) both, ap (λ (r : ℕ × ℕ). r.1) both)
 
+place_same : (o : Option (ℕ × ℕ)) (a b c d : ℕ) → o ≡ Some (a, b) → a ≡ c → b ≡ d → o ≡ Some (c, d)
+place_same o a b c d e p q = e ∙ ap (λ k. Some (k, b)) p ∙ ap (λ k. Some (c, k)) q
+
 none_some : (o : Option (ℕ × ℕ)) (p : ℕ × ℕ) → o ≡ None → o ≡ Some p → ⊥
 none_some o p e f = cc
 
@@ -241,7 +244,7 @@ parents_over bodies runs children most nodes some h =
                 let p = node_at bodies runs children nodes (4 * m + c) n h (omega arith) (sym over ∙ e) in
                 let above : (4 * m + c) / 4 ≡ m = omega arith in
                 let child : (4 * m + c) % 4 ≡ c = omega arith in
-                parent_over most nodes runs children n h.room p.made ∙ p.parent ∙ ap (λ k. Some (k, (4 * m + c) % 4)) above ∙ ap (λ k. Some (m, k)) child,
+                place_same (parent_at plan n) ((4 * m + c) / 4) ((4 * m + c) % 4) m c (parent_over most nodes runs children n h.room p.made ∙ p.parent) above child,
           );
     }
 

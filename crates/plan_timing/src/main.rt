@@ -102,7 +102,9 @@ fn report<R: Clock + Print>(rt: &R, alloc: Global, timed: bool, count: u32) -> i
     }
     let micros = least / 1000;
     let each = least / u128::from(count);
-    println!(rt; "{count} bodies: {nodes} nodes hold {bodies}, in {micros} microseconds, {each} nanoseconds each")
+    println!(rt;
+        "{count} bodies: {nodes} nodes hold {bodies}, in {micros} microseconds, {each} nanoseconds each"
+    )
 }
 
 fn main(rt: HostRuntime) -> io::Result<()> {

@@ -35,7 +35,7 @@ pub halves_permute : (xs : List (ℕ × FixBox)) → IsPermutation xs (front_hal
 halves_permute xs =
     subst (λ (ys : List (ℕ × FixBox)). IsPermutation xs ys) (sym (take-append-drop (length xs - length xs / 2) (sorted xs))) (in_order_permutes (widest xs) xs)
 
-pub length-sorted : (xs : List (ℕ × FixBox)) → length (sorted xs) ≡ length xs
+length-sorted : (xs : List (ℕ × FixBox)) → length (sorted xs) ≡ length xs
 length-sorted xs = length_permutation xs (sorted xs) (in_order_permutes (widest xs) xs)
 
 pub length-front_half : (xs : List (ℕ × FixBox)) → length (front_half xs) ≡ length xs - length xs / 2
@@ -72,7 +72,7 @@ pub same_node : (a b c d e f g h : Tree) → a ≡ e → b ≡ f → c ≡ g →
 same_node a b c d e f g h p q r s = cc
 
 -- what holds of a list's halves holds of the four runs
-pub in_runs : (P : List (ℕ × FixBox) → Type 0) (most : ℕ) (xs : List (ℕ × FixBox)) → length xs ≤ 4 * most
+in_runs : (P : List (ℕ × FixBox) → Type 0) (most : ℕ) (xs : List (ℕ × FixBox)) → length xs ≤ 4 * most
     → ((run : List (ℕ × FixBox)) → length run ≤ most → (2 ≤ length run → length run < length xs) → P run)
     → P (front_half (front_half xs)) × P (back_half (front_half xs)) × P (front_half (back_half xs)) × P (back_half (back_half xs))
 in_runs P most xs fits h =

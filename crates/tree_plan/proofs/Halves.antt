@@ -18,7 +18,7 @@ use Rattle.tree_plan.proofs.Members.{In, in_append_left, in_append_right, place_
 use Rattle.tree_plan.proofs.Order.{lex, lex-from_less, lex-from_equal, index_apart, in_order-permutation, in_order-append, AreApart-permutation}
 use Rattle.tree_plan.proofs.Spreads.{widest_same}
 
-pub sorted-permutation : (xs ys : List (ℕ × FixBox)) → IsPermutation xs ys → AreApart xs → sorted xs ≡ sorted ys
+sorted-permutation : (xs ys : List (ℕ × FixBox)) → IsPermutation xs ys → AreApart xs → sorted xs ≡ sorted ys
 sorted-permutation xs ys same apart =
     ap (λ axis. in_order axis xs) (widest_same xs ys same) ∙ in_order-permutation (widest ys) xs ys same apart
 

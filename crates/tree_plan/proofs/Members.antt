@@ -13,11 +13,6 @@ in_at [] z k within e = absurd (omega arith)
 in_at (x ∷ xs) z zero within e = inl (sym e)
 in_at (x ∷ xs) z (suc k) within e = inr (in_at xs z k (omega arith) e)
 
-pub in_from_get_or : {X : Type 0} (xs : List X) (k : ℕ) (d : X) → k < length xs → In (get_or xs k d) xs
-in_from_get_or [] k d within = absurd (omega arith)
-in_from_get_or (x ∷ xs) zero d within = inl refl
-in_from_get_or (x ∷ xs) (suc k) d within = inr (in_from_get_or xs k d (omega arith))
-
 pub contains_from_in : {X : Type 0} (xs : List X) (z : X) → In z xs → Contains xs z
 contains_from_in [] z h = absurd h
 contains_from_in (x ∷ xs) z (inl e) = (0, omega arith, sym e)

@@ -77,7 +77,7 @@ in_inserted : (axis : ℕ) (b : ℕ × FixBox) (xs : List (ℕ × FixBox)) (z : 
 in_inserted axis b xs z h =
     in_permutation (insert_in_order axis b xs) (b ∷ xs) z (IsPermutation-sym (b ∷ xs) (insert_in_order axis b xs) (insert_permutes axis b xs)) h
 
-pub in_ordered : (axis : ℕ) (xs : List (ℕ × FixBox)) (z : ℕ × FixBox) → In z (in_order axis xs) → In z xs
+in_ordered : (axis : ℕ) (xs : List (ℕ × FixBox)) (z : ℕ × FixBox) → In z (in_order axis xs) → In z xs
 in_ordered axis xs z h = in_permutation (in_order axis xs) xs z (IsPermutation-sym xs (in_order axis xs) (in_order_permutes axis xs)) h
 
 after_first : (axis : ℕ) (b x : ℕ × FixBox) (xs : List (ℕ × FixBox)) → comes_before axis x b ≡ true → AllByRecursion (λ y. comes_before axis x y ≡ true) xs

@@ -91,10 +91,10 @@ part_same : (bodies : List (ℕ × FixBox)) (s t m n : ℕ) → s ≡ t → m �
 part_same bodies s t m n p q = ap (λ k. part bodies k m) p ∙ ap (part bodies t) q
 
 -- one child: its slot's run is its quarter
-child_tree : (bodies : List (ℕ × FixBox)) (runs : List Run) (children : List PlanChild) (nodes levels j t : ℕ) (f : ℕ → Tree) → IsNumbered bodies runs children nodes nodes (4 * nodes) → t < 4 * nodes
+child_tree : (bodies : List (ℕ × FixBox)) (runs : List Run) (children : List PlanChild) (nodes j t : ℕ) (f : ℕ → Tree) → IsNumbered bodies runs children nodes nodes (4 * nodes) → t < 4 * nodes
     → ((n : ℕ) → 2 ≤ slot_size runs t → t / 4 < n → n < nodes → (run_at runs n).size ≡ slot_size runs t → f n ≡ standing_within j (part bodies (run_at runs n).start (run_at runs n).size))
     → tree_under f (slot_child children t) ≡ child_of (standing_within j) (slot_part bodies runs t)
-child_tree bodies runs children nodes levels j t f h below tree_at =
+child_tree bodies runs children nodes j t f h below tree_at =
     let filled = h.filled t below in
     child_match f (standing_within j) (slot_child children t) (slot_part bodies runs t) (slot_size runs t)
     (length-part bodies (slot_start runs t) (slot_size runs t) (slot_within bodies runs children nodes nodes (4 * nodes) h t below)) filled.none filled.one
@@ -128,7 +128,7 @@ tree_at bodies runs children most nodes (suc levels) (suc j) n h made deep fits 
     let child : (c : ℕ) → c < 4 → tree_under f (child_at plan n c) ≡ child_of (standing_within j) (part bodies (r.start + quarter_start r.size c) (quarter_size r.size c)) =
     λ c few.
     ap (tree_under f) (child_over most nodes runs children n c made few)
-    ∙ child_tree bodies runs children nodes levels j (4 * n + c) f h (omega arith)
+    ∙ child_tree bodies runs children nodes j (4 * n + c) f h (omega arith)
     (λ k two later below same.
     let size = quarter_size_slot runs n c few in
     let less : quarter_size r.size c < r.size = quarter_less r.size c (omega arith) in
@@ -157,6 +157,9 @@ some_same : (p q : ℕ × ℕ) → Some p ≡ Some q → (p.0 ≡ q.0) × (p.1 �
 some_same p q e =
     let both : p ≡ q = cc in
     (ap (λ (r : ℕ × ℕ). r.0) both, ap (λ (r : ℕ × ℕ). r.1) both)
+
+place_same : (o : Option (ℕ × ℕ)) (a b c d : ℕ) → o ≡ Some (a, b) → a ≡ c → b ≡ d → o ≡ Some (c, d)
+place_same o a b c d e p q = e ∙ ap (λ k. Some (k, b)) p ∙ ap (λ k. Some (c, k)) q
 
 none_some : (o : Option (ℕ × ℕ)) (p : ℕ × ℕ) → o ≡ None → o ≡ Some p → ⊥
 none_some o p e f = cc
@@ -241,7 +244,7 @@ parents_over bodies runs children most nodes some h =
                 let p = node_at bodies runs children nodes (4 * m + c) n h (omega arith) (sym over ∙ e) in
                 let above : (4 * m + c) / 4 ≡ m = omega arith in
                 let child : (4 * m + c) % 4 ≡ c = omega arith in
-                parent_over most nodes runs children n h.room p.made ∙ p.parent ∙ ap (λ k. Some (k, (4 * m + c) % 4)) above ∙ ap (λ k. Some (m, k)) child,
+                place_same (parent_at plan n) ((4 * m + c) / 4) ((4 * m + c) % 4) m c (parent_over most nodes runs children n h.room p.made ∙ p.parent) above child,
           );
     }
 

@@ -33,7 +33,7 @@ pub part-whole : (bodies : List (ℕ × FixBox)) → part bodies 0 (length bodie
 part-whole bodies = take_all (length bodies) bodies (omega arith)
 
 -- a part in two
-pub part-split : (bodies : List (ℕ × FixBox)) (start m n : ℕ) → part bodies start (m + n) ≡ part bodies start m ++ part bodies (start + m) n
+part-split : (bodies : List (ℕ × FixBox)) (start m n : ℕ) → part bodies start (m + n) ≡ part bodies start m ++ part bodies (start + m) n
 part-split bodies start m n =
     let ys = drop start bodies in
     sym (take-append-drop m (take (m + n) ys))

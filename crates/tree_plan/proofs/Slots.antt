@@ -21,7 +21,7 @@ use Rattle.tree_plan.proofs.Quarters.{quarter_within, need_by_quarters, part-who
 -- ---- what is still needed
 
 -- a slot that is to be filled is one of a node
-pub slot_under : (runs : List Run) (nodes count slot : ℕ) → slot < 4 * nodes → slot ≤ 4 * count → count + needs_from runs slot (4 * count - slot) ≡ nodes → slot < 4 * count
+slot_under : (runs : List Run) (nodes count slot : ℕ) → slot < 4 * nodes → slot ≤ 4 * count → count + needs_from runs slot (4 * count - slot) ≡ nodes → slot < 4 * count
 slot_under runs nodes count slot below reached still =
     elim (cases_lt slot (4 * count)) [
       | inl h ↦ h
@@ -31,7 +31,7 @@ slot_under runs nodes count slot below reached still =
           absurd (omega arith)
     ]
 
-pub needs_next : (runs : List Run) (count slot : ℕ) → slot < 4 * count
+needs_next : (runs : List Run) (count slot : ℕ) → slot < 4 * count
     → needs_from runs slot (4 * count - slot) ≡ need_of_run need (slot_size runs slot) + needs_from runs (slot + 1) (4 * count - (slot + 1))
 needs_next runs count slot under =
     let left : 4 * count - slot ≡ suc (4 * count - (slot + 1)) = omega arith in
@@ -100,7 +100,7 @@ once_few : (all done left part rest done' : List ℕ) → left ≡ part ++ rest 
 once_few all done left part rest done' p q h =
     subst (λ (ys : List ℕ). IsPermutation all ys) (ap (λ ys. done ++ ys) p ∙ sym (append_assoc done part rest) ∙ ap (λ ys. ys ++ rest) (sym q)) h
 
-pub IsNumbered-few : (bodies : List (ℕ × FixBox)) (runs : List Run) (children : List PlanChild) (nodes count slot : ℕ) (e : PlanChild) → IsNumbered bodies runs children nodes count slot → slot < 4 * nodes
+IsNumbered-few : (bodies : List (ℕ × FixBox)) (runs : List Run) (children : List PlanChild) (nodes count slot : ℕ) (e : PlanChild) → IsNumbered bodies runs children nodes count slot → slot < 4 * nodes
     → slot_size runs slot < 2 → filter_map node_of (e ∷ []) ≡ [] → filter_map body_of (e ∷ []) ≡ map (λ b. b.0) (slot_part bodies runs slot)
     → (slot_size runs slot ≡ 0 → e ≡ Nothing) → ((b : ℕ × FixBox) → slot_size runs slot ≡ 1 → slot_part bodies runs slot ≡ b ∷ [] → e ≡ Body b.0)
     → IsNumbered bodies runs (set children slot e) nodes count (slot + 1)

@@ -41,14 +41,14 @@ back_at xs (inr two) =
     (omega (arith, length-arranged (front_half xs), length-arranged xs, length-front_half xs))
 
 -- the halves of arranged bodies, as they stand, are their halves, arranged
-pub front_of-arranged : (xs : List (ℕ × FixBox)) → front_of (arranged xs) ≡ arranged (front_half xs)
+front_of-arranged : (xs : List (ℕ × FixBox)) → front_of (arranged xs) ≡ arranged (front_half xs)
 front_of-arranged xs = front_at xs (cases_lt (length xs) 2)
 
-pub back_of-arranged : (xs : List (ℕ × FixBox)) → back_of (arranged xs) ≡ arranged (back_half xs)
+back_of-arranged : (xs : List (ℕ × FixBox)) → back_of (arranged xs) ≡ arranged (back_half xs)
 back_of-arranged xs = back_at xs (cases_lt (length xs) 2)
 
 -- a run of two bodies or more is its tree
-pub child_of-two : (f : List (ℕ × FixBox) → Tree) (xs : List (ℕ × FixBox)) → 2 ≤ length xs → child_of f xs ≡ f xs
+child_of-two : (f : List (ℕ × FixBox) → Tree) (xs : List (ℕ × FixBox)) → 2 ≤ length xs → child_of f xs ≡ f xs
 child_of-two f [] two = absurd (omega arith)
 child_of-two f (x ∷ []) two = absurd (omega arith)
 child_of-two f (x ∷ y ∷ xs) two = refl

@@ -207,6 +207,7 @@ fn plans_of_up_to_70_bodies_are_the_definition(rt: HostRuntime) -> Result<(), Fa
     Ok(())
 }
 
+/// At a reach of 1 all stand at one point.
 #[test]
 fn equal_centres_are_told_apart_by_index(rt: HostRuntime) -> Result<(), Fail> {
     for reach in 1..4 {
@@ -229,6 +230,7 @@ fn seventeen_in_a_row(rt: HostRuntime) -> Result<(), Fail> {
     assert_eq!(rt; planner.child(0, 0), PlanChild::Node(1));
     assert_eq!(rt; planner.child(0, 3), PlanChild::Node(4));
     assert_eq!(rt; planner.parent(4), Some((0, 3)));
+    assert_eq!(rt; planner.parent(5), Some((1, 0)));
     assert_eq!(rt; planner.child(1, 0), PlanChild::Node(5));
     assert_eq!(rt; planner.child(1, 1), PlanChild::Body(2));
     assert_eq!(rt; planner.child(5, 0), PlanChild::Body(0));

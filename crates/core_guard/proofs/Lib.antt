@@ -9,3 +9,4 @@ pub mod WalksAlike
 pub mod Changing
 pub mod LockWords
 pub mod Keeping
+pub mod Widening

@@ -7,6 +7,8 @@ ghost use Rattle.core_state.specs.Seats.{Opens};
 ghost use Rattle.core_state.specs.Locking.{MayRead, take_read, MayWrite, take_write, MayRelease, release};
 ghost use Rattle.core_state.specs.Event.{Event, Run};
 ghost use Rattle.core_state.specs.Formed.{IsFormed};
+ghost use Rattle.core_state.specs.Nodes.{Nodes};
+ghost use Rattle.core_state.specs.TreesSound.{BoundsOnlyWiden};
 ghost use Rattle.core_state.specs.Invariants.{Invariants};
 
 /// Opening a pass, taking a lock to read or to write, be it in vain, and letting it go each keep all invariants.
@@ -22,4 +24,10 @@ pub fn locks_keep_all()
 pub fn events_keep_all()
     ensures event { (before after : Core) → Event before after → IsFormed before → Invariants before → Invariants after }
     ensures run { (c : Config) (last : Core) → IsConfig c → Run (opening c) last → Invariants last }
+{}
+
+/// Bounds of trees only widen: every event of the kinds that are built leaves each bound as wide as it was.
+#[tactic(auto, using(crate::proofs::Widening::event_widens))]
+pub fn bounds_only_widen()
+    ensures { (nodes : Nodes) (before after : Core) → Event before after → BoundsOnlyWiden nodes before after }
 {}

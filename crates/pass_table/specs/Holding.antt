@@ -2,9 +2,17 @@
 use Rattle.std.specs.Prelude.{◌≡◌, ℕ, List, Option, None, length, slice_index_or}
 use Rattle.core_state.specs.declared.view.Mode.{Mode}
 use Rattle.core_state.specs.declared.view.LockStep.{LockStep}
+use Rattle.core_state.specs.declared.view.View.{View}
 use Rattle.core_state.specs.View.{mode_of}
+use Rattle.core_state.specs.Kind.{Kind}
+use Rattle.word_map.specs.declared.name.Name.{Name}
 
 -- a lock with a higher number is not held
 pub record AreModes (modes : List (Option Mode)) (steps : List LockStep) : Type 0 where
   pub len : length modes ≡ 66
   pub each : (lock : ℕ) → slice_index_or modes lock None ≡ mode_of steps lock
+
+-- steps of this kind leave the locks of the pass as they were, and whether it walks
+abbrev pub IsStill : Kind → Type 0
+IsStill kind = (view : View) (name : Name) (found first second : ℕ) →
+    ((kind.leaves view name found first second).locks ≡ view.locks) × ((kind.leaves view name found first second).walk.is_on ≡ view.walk.is_on)

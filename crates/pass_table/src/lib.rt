@@ -6,6 +6,7 @@ mod kinds;
 mod pass;
 mod rule;
 mod step;
+mod stepping;
 mod world;
 
 pub use pass::Pass;

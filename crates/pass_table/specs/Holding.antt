@@ -2,8 +2,9 @@
 use Rattle.std.specs.Prelude.{◌≡◌, ℕ, List, Option, None, length, slice_index_or}
 use Rattle.core_state.specs.declared.view.Mode.{Mode}
 use Rattle.core_state.specs.declared.view.LockStep.{LockStep}
+use Rattle.core_state.specs.declared.view.Task.TheVariants.{Nothing}
 use Rattle.core_state.specs.declared.view.View.{View}
-use Rattle.core_state.specs.View.{mode_of}
+use Rattle.core_state.specs.View.{mode_of, Holds}
 use Rattle.core_state.specs.Kind.{Kind}
 use Rattle.word_map.specs.declared.name.Name.{Name}
 
@@ -16,3 +17,9 @@ pub record AreModes (modes : List (Option Mode)) (steps : List LockStep) : Type 
 abbrev pub IsStill : Kind → Type 0
 IsStill kind = (view : View) (name : Name) (found first second : ℕ) →
     ((kind.leaves view name found first second).locks ≡ view.locks) × ((kind.leaves view name found first second).walk.is_on ≡ view.walk.is_on)
+
+-- what letting a lock go asks of its caller: the pass holds the lock, and nothing under it is half done
+pub record MayLetGo (view : View) (lock : ℕ) : Type 0 where
+  pub mode : Mode
+  pub holds : Holds view lock mode
+  pub done : view.call.task ≡ Nothing

@@ -1,5 +1,5 @@
 //! What a caller of a world is.
-ghost use Rattle.std.specs.Prelude.{◌≡◌};
+ghost use Rattle.std.specs.Prelude.{◌≡◌, ◌<◌};
 ghost use Rattle.core_state.specs.View.{IsPass};
 ghost use Rattle.pass_table.specs.Holding.{AreModes};
 
@@ -20,6 +20,7 @@ pub struct Pass {
     /// How it holds each lock.
     pub(crate) modes: [Option<Mode>; MAX_LOCKS],
     pub(crate) walks: bool,
+    ghost few: { number < 32 },
     ghost numbered: { IsPass seat.me.0 number },
     ghost holds: { AreModes modes seat.me.0.locks },
     ghost walking: { walks ≡ seat.me.0.walk.is_on },

@@ -1,5 +1,7 @@
 //! Steps that a pass makes on a word by its name.
-ghost use Rattle.std.specs.Prelude.{◌≡◌};
+ghost use Rattle.std.specs.Prelude.{◌≡◌, ◌≢◌, ◌<◌, MatchResult};
+ghost use Rattle.word_map.specs.declared.name.Name.TheVariants.{Lock};
+ghost use Rattle.core_state.specs.Locking.{take};
 ghost use Rattle.word_map.specs.Names.{IsName};
 ghost use Rattle.core_state.specs.Operation.{load, fetch_add, compare_exchange};
 ghost use Rattle.pass_table.specs.Stepping.{Stepped};
@@ -9,6 +11,7 @@ use crate::pass::Pass;
 use crate::step;
 use crate::step::Kind;
 use crate::world::World;
+use core_state::Mode;
 use word_map::Name;
 
 /// A kind of step that leaves the locks of the pass as they are, and whether it walks.
@@ -30,5 +33,47 @@ impl Pass {
     {
         let place = world.map.place(name);
         step::load::<K>(&world.table.shared, &mut self.seat, place)
+    }
+
+    /// A compare and exchange of a lock's word, which takes the lock where it finds the word expected.
+    pub(crate) fn take<K: Kind>(
+        &mut self,
+        world: &World,
+        lock: u32,
+        mode: Mode,
+        expected: u64,
+        new: u64,
+    ) -> Result<(), u64>
+        requires of { IsOf world.now self.old }
+        requires named { IsName world.now.map (Lock lock) }
+        requires takes { K.kind ≡ take mode }
+        requires asks { K.asks (view_of self.old) (Lock lock) expected new }
+        ensures of { IsOf world.now self.new }
+        ensures step { MatchResult result (λ _. Stepped K.asks (take mode) (view_of self.old) (Lock lock) expected new expected (view_of self.new)) (λ found. (found ≢ expected) × Stepped K.asks (take mode) (view_of self.old) (Lock lock) expected new found (view_of self.new)) }
+    {
+        let place = world.map.place(Name::Lock(lock));
+        let index = world.lock_index(lock);
+        let found = step::compare_exchange::<K>(
+            &world.table.shared,
+            &mut self.seat,
+            place,
+            expected,
+            new,
+        );
+        if found != expected {
+            return Err(found);
+        }
+        self.modes[index] = Some(mode);
+        Ok(())
+    }
+}
+
+impl World {
+    /// A lock's number as an index.
+    fn lock_index(&self, lock: u32) -> usize
+        requires { IsName self.now.map (Lock lock) }
+        ensures { (result ≡ lock) × (result < 66) }
+    {
+        lock as usize
     }
 }

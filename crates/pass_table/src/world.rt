@@ -16,6 +16,7 @@ use word_map::{Config, Map};
 pub struct World {
     pub(crate) map: Map,
     pub(crate) table: Table<(), View, Config, CoreRule, Global>,
+    ghost in_limits: { IsConfig map },
     ghost sized: { (table.shared.key ≡ map) × (table.shared.table_id.words ≡ word_count map) },
 }
 

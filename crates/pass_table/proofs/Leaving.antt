@@ -2,7 +2,7 @@
 use Rattle.std.proofs.lemmas.Bool.{cases_eq, eq-eqb, ne_eqb}
 use Rattle.std.proofs.lemmas.List.{get_or-set_same, get_or-set_other, length-set}
 use Rattle.std.proofs.lemmas.List.Sums.{fold-append}
-use Rattle.std.proofs.Common.{◌≡◌, ◌≢◌, inl, inr, cond, ℕ, ◌<◌, ◌^◌, List, [], ◌∷◌, ◌++◌, Some, None, Option, Bool, true, false, eqb, length, refl, ap, sym, ◌∙◌, subst, arith}
+use Rattle.std.proofs.Common.{◌≡◌, ◌≢◌, inl, inr, cond, ℕ, ◌<◌, ◌^◌, ◌-◌, List, [], ◌∷◌, ◌++◌, Some, None, Option, Bool, true, false, eqb, length, refl, ap, sym, ◌∙◌, subst, arith}
 use Rattle.std.specs.Prelude.{slice_set, slice_index_or}
 use Rattle.atomic_table.specs.Table.{Me}
 use Rattle.atomic_table.specs.Seated.{TableId}
@@ -13,9 +13,10 @@ use Rattle.word_map.specs.Layout.{word_count, name_of}
 use Rattle.core_state.specs.declared.view.Mode.{Mode}
 use Rattle.core_state.specs.declared.view.LockStep.{LockStep}
 use Rattle.core_state.specs.declared.view.LockStep.TheVariants.{Taken, Released}
+use Rattle.core_state.specs.declared.view.Task.TheVariants.{Nothing}
 use Rattle.core_state.specs.declared.view.View.{View}
-use Rattle.core_state.specs.View.{IsPass, number_of, mode_of, mode_after}
-use Rattle.core_state.specs.Locking.{take, release}
+use Rattle.core_state.specs.View.{IsPass, number_of, mode_of, mode_after, Holds}
+use Rattle.core_state.specs.Locking.{bit_of, take, MayRelease, release}
 use Rattle.core_state.specs.Kind.{Kind, Asking, found_by, view_after}
 use Rattle.pass_table.specs.Stepping.{step_by, Stepped, MayStep}
 use Rattle.pass_table.specs.Holding.{AreModes, IsStill}
@@ -130,3 +131,8 @@ module _ (asks : Asking) (view next : View) (lock summand second found : ℕ) (s
 
   pub let_go-walk : next.walk.is_on ≡ view.walk.is_on
   let_go-walk = ap (λ (v : View). v.walk.is_on) stepped.leaves
+
+-- what letting a lock go asks of the core
+pub may-release : (view : View) (lock number summand : ℕ) (mode : Mode) → IsPass view number → Holds view lock mode → view.call.task ≡ Nothing → summand ≡ 2 ^ 64 - bit_of number mode
+    → MayRelease view (Lock lock) summand 0
+may-release view lock number summand mode pass holds done away = record { lock = lock; number = number; mode = mode; names = refl; pass = pass; holds = holds; done = done; takes_away = away }

@@ -1,3 +1,6 @@
 pub mod Keeping
 pub mod Allowing
 pub mod Leaving
+pub mod Seating
+pub mod Knowing
+pub mod Ruling

@@ -6,7 +6,10 @@ use Rattle.core_state.specs.declared.view.Task.TheVariants.{Nothing}
 use Rattle.core_state.specs.declared.view.View.{View}
 use Rattle.core_state.specs.View.{mode_of, Holds}
 use Rattle.core_state.specs.Kind.{Kind}
+use Rattle.core_state.specs.Locking.{MayRelease, release}
 use Rattle.word_map.specs.declared.name.Name.{Name}
+use Rattle.word_map.specs.declared.name.Name.TheVariants.{Lock}
+use Rattle.pass_table.specs.Stepping.{Stepped}
 
 -- a lock with a higher number is not held
 pub record AreModes (modes : List (Option Mode)) (steps : List LockStep) : Type 0 where
@@ -23,3 +26,7 @@ pub record MayLetGo (view : View) (lock : ℕ) : Type 0 where
   pub mode : Mode
   pub holds : Holds view lock mode
   pub done : view.call.task ≡ Nothing
+
+-- what a step on a lock tells where its summand follows from the pass
+abbrev pub LetGo : View → ℕ → ℕ → View → Type 0
+LetGo view lock found next = (summand : ℕ) × Stepped MayRelease release view (Lock lock) summand 0 found next

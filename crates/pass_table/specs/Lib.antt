@@ -1,4 +1,7 @@
 pub mod Standing
 pub mod Stepping
+pub mod Seating
 pub mod Holding
+pub mod Knowing
 pub mod Passes
+pub mod Opened

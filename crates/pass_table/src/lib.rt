@@ -3,11 +3,20 @@
 
 mod calls;
 mod kinds;
+mod looking;
+mod open;
+mod opened;
+mod opening;
 mod pass;
 mod rule;
+mod seats;
 mod step;
 mod stepping;
+mod typed;
 mod world;
 
+pub use open::{PassList, open_world};
+pub use opened::OpenFault;
 pub use pass::Pass;
+pub use typed::{step_5, step_6, step_7, step_8};
 pub use world::World;

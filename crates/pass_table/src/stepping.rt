@@ -1,12 +1,17 @@
 //! Steps that a pass makes on a word by its name.
-ghost use Rattle.std.specs.Prelude.{◌≡◌, ◌≢◌, ◌<◌, MatchResult};
+ghost use Rattle.std.specs.Prelude.{◌≡◌, ◌≢◌, ◌-◌, ◌^◌, ◌<◌, MatchResult};
 ghost use Rattle.word_map.specs.declared.name.Name.TheVariants.{Lock};
-ghost use Rattle.core_state.specs.Locking.{take};
+ghost use Rattle.core_state.specs.Locking.{take, bit_of};
+ghost use Rattle.core_state.specs.View.{Holds};
+ghost use Rattle.core_state.specs.declared.view.Mode.{Mode};
+ghost use Rattle.core_state.specs.declared.view.Mode.TheVariants.{Read};
+ghost use Rattle.pass_table.specs.Holding.{MayLetGo, LetGo};
 ghost use Rattle.word_map.specs.Names.{IsName};
 ghost use Rattle.core_state.specs.Operation.{load, fetch_add, compare_exchange};
 ghost use Rattle.pass_table.specs.Stepping.{Stepped};
 ghost use Rattle.pass_table.specs.Passes.{view_of, IsOf};
 
+use crate::kinds::Release;
 use crate::pass::Pass;
 use crate::step;
 use crate::step::Kind;
@@ -65,6 +70,51 @@ impl Pass {
         }
         self.modes[index] = Some(mode);
         Ok(())
+    }
+
+    /// A fetch-add of a lock's word that takes the own bit away, and so lets the lock go. It answers the word found.
+    pub(crate) fn let_go(&mut self, world: &World, lock: u32) -> u64
+        requires of { IsOf world.now self.old }
+        requires named { IsName world.now.map (Lock lock) }
+        requires may { MayLetGo (view_of self.old) lock }
+        ensures of { IsOf world.now self.new }
+        ensures step { LetGo (view_of self.old) lock result (view_of self.new) }
+    {
+        let index = world.lock_index(lock);
+        let place = world.map.place(Name::Lock(lock));
+        let summand = self.taken_away(index);
+        let found = step::fetch_add::<Release>(
+            &world.table.shared,
+            &mut self.seat,
+            place,
+            summand,
+        );
+        self.modes[index] = None;
+        found
+    }
+
+    /// What is added to a lock's word so that the own bit goes: 2^64 less the bit.
+    fn taken_away(&self, lock: usize) -> u64
+        requires lock { lock < 66 }
+        requires holds { (mode : Mode) × Holds (view_of self.now) lock mode }
+        ensures { (mode : Mode) × Holds (view_of self.now) lock mode × (result ≡ 2 ^ 64 - bit_of self.now.number mode) }
+    {
+        match self.modes[lock] {
+            Some(mode) => u64::MAX - self.own_bit(mode) + 1,
+            None => unreachable!(),
+        }
+    }
+
+    /// The bit of the pass in the word of a lock that it holds so.
+    pub(crate) fn own_bit(&self, mode: Mode) -> u64
+        ensures value { result ≡ bit_of self.now.number mode }
+        ensures some { 0 < result }
+        ensures low { mode ≡ Read → result < 2 ^ 32 }
+    {
+        match mode {
+            Mode::Read => 1u64 << self.number,
+            Mode::Write => 1u64 << (32 + self.number),
+        }
     }
 }
 

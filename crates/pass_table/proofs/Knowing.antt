@@ -23,9 +23,10 @@ module _ (asks : Asking) (kind : Kind) (view next : View) (name : Name) (first s
   -- what is known goes on from what was known
   pub known-more : IsPrefix view.known next.known
   known-more =
-      let gained = gained_by kind stepped.before made in
-      (stepped.since ++ gained,
-      ap (λ (v : View). v.known) stepped.leaves ∙ (ap (λ (l : List Item). l ++ gained) stepped.learns ∙ append_assoc view.known stepped.since gained))
+      let gained = gained_by kind stepped.before made in (
+        stepped.since ++ gained,
+        ap (λ (v : View). v.known) stepped.leaves ∙ (ap (λ (l : List Item). l ++ gained) stepped.learns ∙ append_assoc view.known stepped.since gained),
+      )
 
   pub knows-more : IsPlain kind → KnowsMore view next
   knows-more plain =

@@ -4,3 +4,4 @@ pub mod Leaving
 pub mod Seating
 pub mod Knowing
 pub mod Ruling
+pub mod Trying

@@ -45,10 +45,8 @@ module _ {S : Type 0} (c : Config) (id : ℕ) where
         log = ruled.log;
         words = ruled.words;
         stands = Stands-event core after
-        (joins_visitor (record { seat = id; other = other; number = number; view = view; visitor = visitor; at = at; pass = pass; apart = apart; other_at = at_other; visits = visits; result = refl })) ruled.stands;
+            (joins_visitor (record { seat = id; other = other; number = number; view = view; visitor = visitor; at = at; pass = pass; apart = apart; other_at = at_other; visits = visits; result = refl })) ruled.stands;
       }
-
-
 
 -- a table has words
 pub words-some : (c : Config) (words : ℕ) → words ≡ word_count c → 0 < words

@@ -3,5 +3,6 @@ pub mod Stepping
 pub mod Seating
 pub mod Holding
 pub mod Knowing
+pub mod Trying
 pub mod Passes
 pub mod Opened

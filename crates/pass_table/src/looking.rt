@@ -8,8 +8,8 @@ ghost use Rattle.pass_table.specs.Knowing.{KnowsMore, MeetsWith};
 ghost use Rattle.pass_table.specs.Passes.{view_of, IsOf};
 
 use crate::kinds::Look;
-use crate::seats::{Meet, Visit};
 use crate::pass::Pass;
+use crate::seats::{Meet, Visit};
 use crate::world::World;
 use word_map::Name;
 

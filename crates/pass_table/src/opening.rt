@@ -9,7 +9,11 @@ use word_map::{Config, Map, Name};
 fn opening_link(count: u32, place: u32) -> u64
     ensures { result ≡ opening_link count place }
 {
-    if place as u64 + 1 == count as u64 { 0 } else { 2 + place as u64 }
+    if place as u64 + 1 == count as u64 {
+        0
+    } else {
+        2 + place as u64
+    }
 }
 
 /// A side of the bound of a child that is not there.

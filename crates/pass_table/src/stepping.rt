@@ -83,12 +83,7 @@ impl Pass {
         let index = world.lock_index(lock);
         let place = world.map.place(Name::Lock(lock));
         let summand = self.taken_away(index);
-        let found = step::fetch_add::<Release>(
-            &world.table.shared,
-            &mut self.seat,
-            place,
-            summand,
-        );
+        let found = step::fetch_add::<Release>(&world.table.shared, &mut self.seat, place, summand);
         self.modes[index] = None;
         found
     }

@@ -12,7 +12,8 @@ of_words-requires c =
 pub invariant_of-result : goal.invariant_of-result
 invariant_of-result c = record {
   in_limits = subst IsConfig c.config-config.ensures.sizes c.config-config.ensures.in_limits;
-  sized =
-      (c.in_ok-table.ensures.5 ∙ c.config-config.ensures.sizes,
-      c.in_ok-table.ensures.0 ∙ opening-len c.args.map _ (c.as_slice.ensures.value ∙ c.in_ok-words.ensures));
+  sized = (
+    c.in_ok-table.ensures.5 ∙ c.config-config.ensures.sizes,
+    c.in_ok-table.ensures.0 ∙ opening-len c.args.map _ (c.as_slice.ensures.value ∙ c.in_ok-words.ensures),
+  );
 }

@@ -1,25 +1,23 @@
 -- The table allows each step of each kind.
-use Rattle.std.proofs.Common.{◌≡◌, ◌≢◌, ℕ, ◌+◌, ◌≤◌, ◌<◌, ◌^◌, List, ◌∷◌, ◌++◌, length, append_assoc, refl, ap, sym, ◌∙◌, subst, arith}
+use Rattle.std.proofs.Common.{◌≡◌, ◌≢◌, ℕ, ◌<◌, List, ◌∷◌, ◌++◌, append_assoc, refl, ap, sym, ◌∙◌, subst, arith}
 use Rattle.std.specs.Prelude.{All, slice_set, slice_index}
 use Rattle.std.proofs.lemmas.List.{length-append}
 use mathlib.Core.Option.{none}
-use lib.ListN.{get_elem?}
-use Rattle.atomic_table.specs.Table.{State, Me, Allows, stepped, step, keeps}
+use Rattle.atomic_table.specs.Table.{Me, Allows, step, keeps}
 use Rattle.atomic_table.specs.Seated.{TableId}
 use Rattle.word_map.specs.declared.config.Config.{Config}
 use Rattle.word_map.specs.declared.name.Name.{Name}
-use Rattle.word_map.specs.Layout.{word_count, place_of, name_of}
+use Rattle.word_map.specs.Layout.{name_of}
 use Rattle.word_map.proofs.Places.{name_of-at}
 use Rattle.core_state.specs.declared.item.Item.{Item}
 use Rattle.core_state.specs.declared.view.Role.TheVariants.{Pass}
 use Rattle.core_state.specs.declared.view.View.{View}
-use Rattle.core_state.specs.Log.{word, words}
+use Rattle.core_state.specs.Log.{words}
 use Rattle.core_state.specs.View.{IsPass}
-use Rattle.core_state.specs.Core.{Core, IsViewAt}
-use Rattle.core_state.specs.Kind.{Kind, Asking, Step, Steps, IsAllowed, found_by, left_by, log_after, view_after, after_step}
+use Rattle.core_state.specs.Core.{Core}
+use Rattle.core_state.specs.Kind.{Kind, Asking, Steps, IsAllowed, found_by, left_by, log_after, view_after, after_step}
 use Rattle.core_state.specs.Operation.{result_of}
 use Rattle.core_state.specs.Event.{Event}
-use Rattle.core_state.specs.Guards.{IsQuiet}
 use Rattle.core_state.proofs.Forming.{pass_role, unspent_pass}
 use Rattle.core_state.proofs.Reading.{words-at}
 use Rattle.core_state.proofs.Steps.{words-step}

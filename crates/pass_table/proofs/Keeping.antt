@@ -1,7 +1,7 @@
 -- Every event keeps what stands.
-use Rattle.std.proofs.Common.{◌≡◌, ◌≢◌, ◌⊎◌, ℕ, suc, ◌+◌, ◌<◌, ◌≤◌, List, [], ◌∷◌, ◌++◌, Some, length, set, append_assoc, refl, ap, sym, ◌∙◌, subst, inl, inr, arith}
+use Rattle.std.proofs.Common.{◌≡◌, ◌≢◌, ◌⊎◌, ℕ, suc, List, [], ◌∷◌, ◌++◌, Some, length, set, append_assoc, refl, ap, sym, ◌∙◌, subst, inl, inr, arith}
 use Rattle.std.specs.Prelude.{All}
-use Rattle.std.proofs.lemmas.List.{append-nil, append_cancel_left, length-append}
+use Rattle.std.proofs.lemmas.List.{append_cancel_left, length-append}
 use Rattle.std.proofs.lemmas.List.Elements.{All-nil, All-cons, All-tail, All-append}
 use Rattle.word_map.specs.declared.config.Config.{Config}
 use Rattle.word_map.specs.Limits.{IsConfig}
@@ -10,9 +10,9 @@ use Rattle.core_state.specs.declared.view.Role.{Role}
 use Rattle.core_state.specs.declared.view.Role.TheVariants.{Pass, Visitor, Spent}
 use Rattle.core_state.specs.declared.view.View.{View}
 use Rattle.core_state.specs.Log.{IsPrefix}
-use Rattle.core_state.specs.View.{number_in, IsPass, blank_view}
+use Rattle.core_state.specs.View.{number_in, IsPass}
 use Rattle.core_state.specs.Core.{Core, IsViewAt, opening}
-use Rattle.core_state.specs.Kind.{Kind, Asking, Step, Steps, IsAllowed, left_by, item_of, gained_by, view_after, after_step}
+use Rattle.core_state.specs.Kind.{Kind, Asking, Step, Steps, left_by, item_of, gained_by, view_after, after_step}
 use Rattle.core_state.specs.Seats.{Opens, Visits, Joins, after_split, visitor_of, joined_view, spent_view}
 use Rattle.core_state.specs.Event.{Event, opens_pass, splits_visitor, joins_visitor, looks, loads_lock, takes_read, takes_write, releases}
 use Rattle.core_state.specs.Formed.{AreApart, IsFormed}

@@ -1,12 +1,11 @@
 -- What a pass knows after a step.
-use Rattle.std.proofs.Common.{◌≡◌, ℕ, List, [], ◌∷◌, ◌++◌, Some, None, append_assoc, refl, ap, sym, ◌∙◌, subst}
+use Rattle.std.proofs.Common.{◌≡◌, ℕ, List, ◌++◌, None, append_assoc, ap, sym, ◌∙◌}
 use Rattle.word_map.specs.declared.name.Name.{Name}
 use Rattle.core_state.specs.declared.item.Item.{Item}
 use Rattle.core_state.specs.declared.view.View.{View}
 use Rattle.core_state.specs.Log.{IsPrefix}
-use Rattle.core_state.specs.View.{IsPass}
 use Rattle.core_state.specs.Seats.{joined_view}
-use Rattle.core_state.specs.Kind.{Kind, Asking, Step, learned, found_by, gained_by, log_after, view_after}
+use Rattle.core_state.specs.Kind.{Kind, Asking, Step, learned, found_by, gained_by, log_after}
 use Rattle.core_state.proofs.Prefixes.{IsPrefix-trans}
 use Rattle.core_state.proofs.Forming.{unspent_pass}
 use Rattle.pass_table.specs.Stepping.{step_by, Stepped}

@@ -5,3 +5,4 @@ pub mod Seating
 pub mod Knowing
 pub mod Ruling
 pub mod Trying
+pub mod Resting

@@ -12,10 +12,9 @@ use Rattle.core_state.proofs.Reading.{length-words}
 use Rattle.pass_table.specs.declared.pass.Pass.{Pass}
 use Rattle.pass_table.specs.declared.world.World.{World}
 use Rattle.pass_table.specs.Holding.{AreModes}
-use Rattle.pass_table.specs.Opened.{IsFresh, AreFresh}
+use Rattle.pass_table.specs.Opened.{IsFresh, AreFresh, AreAll}
 use Rattle.core_state.specs.declared.view.Role.TheVariants.{Pass as PassRole}
 use Rattle.core_state.specs.declared.view.Mode.{Mode}
-use Rattle.core_state.specs.declared.view.View.{View}
 use Rattle.core_state.specs.Log.{opening_word, words}
 use Rattle.core_state.specs.View.{blank_view}
 use Rattle.pass_table.specs.Standing.{IsRuled}
@@ -64,3 +63,9 @@ AreFresh-push world passes pass fresh last = λ number past below.
     ]
 
 pub ruleset open_rules = (AreFresh-push, length-append)
+
+-- the first two passes of a list of all
+pub first_two : (world : World) (a b : Pass) (list mid rest : List Pass) → AreAll world list → list ≡ a ∷ mid → mid ≡ b ∷ rest → IsFresh world 0 a × IsFresh world 1 b
+first_two world a b list mid rest all one two =
+    let fresh : AreFresh world (a ∷ b ∷ rest) = subst (AreFresh world) (one ∙ ap (λ (l : List Pass). a ∷ l) two) all.fresh in
+    (fresh 0 a (omega arith), fresh 1 a (omega arith))

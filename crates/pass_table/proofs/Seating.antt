@@ -1,8 +1,8 @@
 -- The table allows that seats are opened, cut and joined.
-use Rattle.std.proofs.Common.{◌≡◌, ◌≢◌, ℕ, suc, ◌+◌, ◌-◌, ◌<◌, arith, List, [], ◌∷◌, ◌++◌, set, refl, ap, sym, ◌∙◌, subst}
+use Rattle.std.proofs.Common.{◌≡◌, ℕ, suc, ◌+◌, ◌-◌, ◌<◌, arith, set, refl, ap, sym, ◌∙◌, subst}
 use lib.ListN.{get_elem?}
 use mathlib.Core.Option.{some}
-use Rattle.atomic_table.specs.Table.{State, Splits, Joins}
+use Rattle.atomic_table.specs.Table.{Splits, Joins}
 use Rattle.word_map.specs.declared.config.Config.{Config}
 use Rattle.word_map.specs.Layout.{word_count}
 use Rattle.core_state.specs.declared.view.Role.TheVariants.{Pass, Visitor}
@@ -10,9 +10,9 @@ use Rattle.core_state.specs.declared.view.View.{View}
 use Rattle.core_state.specs.View.{IsPass, blank_view}
 use Rattle.core_state.specs.Core.{Core}
 use Rattle.core_state.specs.Seats.{after_split, visitor_of, joined_view, spent_view}
-use Rattle.core_state.specs.Event.{Event, opens_pass, splits_visitor, joins_visitor}
+use Rattle.core_state.specs.Event.{opens_pass, splits_visitor, joins_visitor}
 use Rattle.core_state.proofs.Lookups.{set_else}
-use Rattle.pass_table.specs.Standing.{Stands, core_of, IsRuled}
+use Rattle.pass_table.specs.Standing.{core_of, IsRuled}
 use Rattle.pass_table.specs.Seating.{own_view, next_view}
 use Rattle.pass_table.proofs.Keeping.{Stands-event}
 

@@ -1,6 +1,6 @@
 -- What the steps of a try tell together.
 use Rattle.std.specs.Prelude.{Result, MatchResult}
-use Rattle.std.proofs.Common.{Ok, Err, ◌≡◌, ◌≢◌, ℕ, ◌+◌, ◌^◌, ◌<◌, List, [], ◌∷◌, ◌++◌, Bool, true, false, eqb, cond, None, append_assoc, refl, ap, sym, ◌∙◌, subst, arith}
+use Rattle.std.proofs.Common.{Ok, Err, ◌≡◌, ◌≢◌, ℕ, ◌+◌, ◌^◌, ◌<◌, List, ◌++◌, Bool, true, false, eqb, cond, None, append_assoc, refl, ap, sym, ◌∙◌, subst}
 use Rattle.std.proofs.lemmas.Bool.{eq-eqb, ne_eqb}
 use Rattle.word_map.specs.declared.name.Name.{Name}
 use Rattle.word_map.specs.declared.name.Name.TheVariants.{Lock}

@@ -4,7 +4,7 @@ use Rattle.core_state.specs.declared.view.Mode.{Mode}
 use Rattle.core_state.specs.declared.view.LockStep.{LockStep}
 use Rattle.core_state.specs.declared.view.Task.TheVariants.{Nothing}
 use Rattle.core_state.specs.declared.view.View.{View}
-use Rattle.core_state.specs.View.{mode_of, Holds}
+use Rattle.core_state.specs.View.{mode_of, Holds, HoldsNot}
 use Rattle.core_state.specs.Kind.{Kind}
 use Rattle.core_state.specs.Locking.{MayRelease, release}
 use Rattle.word_map.specs.declared.name.Name.{Name}
@@ -30,3 +30,8 @@ pub record MayLetGo (view : View) (lock : ℕ) : Type 0 where
 -- what a step on a lock tells where its summand follows from the pass
 abbrev pub LetGo : View → ℕ → ℕ → View → Type 0
 LetGo view lock found next = (summand : ℕ) × Stepped MayRelease release view (Lock lock) summand 0 found next
+
+-- the pass holds no lock, and nothing is half done
+pub record IsAtRest (view : View) : Type 0 where
+  pub free : (lock : ℕ) → HoldsNot view lock
+  pub done : view.call.task ≡ Nothing

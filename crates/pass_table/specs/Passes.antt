@@ -1,7 +1,5 @@
 -- What contracts say of a pass.
-use Rattle.std.specs.Prelude.{◌≡◌, ℕ}
-use Rattle.atomic_table.specs.Seated.{TableId}
-use Rattle.word_map.specs.declared.config.Config.{Config}
+use Rattle.std.specs.Prelude.{◌≡◌}
 use Rattle.core_state.specs.declared.view.View.{View}
 use Rattle.pass_table.specs.declared.pass.Pass.{Pass}
 use Rattle.pass_table.specs.declared.world.World.{World}

@@ -7,7 +7,6 @@ use Rattle.core_state.specs.declared.view.Role.{Role}
 use Rattle.core_state.specs.declared.view.Role.TheVariants.{Pass, Visitor, Spent}
 use Rattle.core_state.specs.declared.view.View.{View}
 use Rattle.core_state.specs.Log.{words}
-use Rattle.core_state.specs.View.{blank_view}
 use Rattle.core_state.specs.Core.{Core, IsViewAt}
 use Rattle.core_state.specs.Formed.{IsFormed}
 use Rattle.core_state.specs.Guards.{GuardsHold}

@@ -1,4 +1,4 @@
-use Rattle.std.proofs.Common.{◌≡◌, ◌+◌, ◌≤◌, length}
+use Rattle.std.proofs.Common.{◌≡◌, length}
 use Rattle.pass_table.specs.Opened.{AreFresh, IsLast}
 use Rattle.pass_table.proofs.open.open_passes.Given as goal
 

@@ -1,4 +1,4 @@
-use Rattle.std.proofs.Common.{◌+◌, ◌%◌, ◌^◌, ap, sym}
+use Rattle.std.proofs.Common.{ap, sym}
 use Rattle.core_state.specs.Operation.{result_of}
 use Rattle.pass_table.proofs.Allowing.{below-words, allows}
 use Rattle.pass_table.proofs.step.compare_exchange.Goals as goal

@@ -1,4 +1,4 @@
-use Rattle.std.proofs.Common.{ap, sym, None, replicate, subst, arith}
+use Rattle.std.proofs.Common.{ap, sym, subst, arith}
 use Rattle.core_state.specs.declared.view.View.{View}
 use Rattle.core_state.specs.View.{number_of}
 use Rattle.pass_table.specs.Holding.{AreModes}

@@ -1,5 +1,4 @@
 use Rattle.std.proofs.Common.{ap, ◌∙◌}
-use Rattle.core_state.specs.declared.view.View.{View}
 use Rattle.pass_table.proofs.Seating.{visits-allowed, joins-allowed, words-some}
 use Rattle.pass_table.proofs.pass.Pass.join.Goals as goal
 

@@ -1,4 +1,4 @@
-use Rattle.std.proofs.Common.{◌≡◌, ℕ, None, set, refl, sym, ◌∙◌, subst, arith}
+use Rattle.std.proofs.Common.{ℕ, None, set, refl, sym, ◌∙◌, subst, arith}
 use Rattle.word_map.specs.declared.name.Name.TheVariants.{Lock}
 use Rattle.core_state.specs.Locking.{release}
 use Rattle.pass_table.specs.Holding.{AreModes}

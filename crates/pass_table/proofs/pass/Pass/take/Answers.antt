@@ -1,4 +1,4 @@
-use Rattle.std.proofs.Common.{◌≡◌, ℕ, Some, set, sym, ◌∙◌, subst, arith}
+use Rattle.std.proofs.Common.{ℕ, Some, set, sym, ◌∙◌, subst, arith}
 use Rattle.word_map.specs.declared.name.Name.TheVariants.{Lock}
 use Rattle.core_state.specs.Locking.{take}
 use Rattle.pass_table.specs.Holding.{AreModes}

@@ -12,7 +12,7 @@ use Rattle.core_state.specs.declared.view.View.{View}
 use Rattle.core_state.specs.View.{IsPass, blank_view}
 use Rattle.core_state.specs.Core.{Core, IsViewAt}
 use Rattle.core_state.specs.Kind.{Kind, Step, Steps, found_by, learned, view_after, after_step}
-use Rattle.core_state.specs.Seats.{after_split}
+use Rattle.core_state.specs.Seats.{Opens, after_split}
 use Rattle.core_state.specs.Locking.{bit_of, take, MayRead, take_read, MayWrite, take_write, MayRelease, release}
 use Rattle.core_state.specs.Event.{Event, opens_pass, splits_visitor, joins_visitor, looks, loads_lock, takes_read, takes_write, releases, Run, begins, goes_on}
 use Rattle.core_state.specs.Formed.{IsFormed}
@@ -147,13 +147,13 @@ write-takes step asked = record {
   alone = λ e. asked.unheld;
 }
 
-Invariants-reads : (before after : Core) → Steps MayRead take_read before after → Invariants before → Invariants after
+pub Invariants-reads : (before after : Core) → Steps MayRead take_read before after → Invariants before → Invariants after
 Invariants-reads before after steps h =
     let step = steps.step in
     let asked = steps.allowed.asked in
     subst Invariants (sym steps.result) (Invariants-take Read before step asked.lock asked.number steps.allowed.at steps.allowed.pass (read-takes step asked) h)
 
-Invariants-writes : (before after : Core) → Steps MayWrite take_write before after → Invariants before → Invariants after
+pub Invariants-writes : (before after : Core) → Steps MayWrite take_write before after → Invariants before → Invariants after
 Invariants-writes before after steps h =
     let step = steps.step in
     let asked = steps.allowed.asked in
@@ -161,7 +161,7 @@ Invariants-writes before after steps h =
 
 -- ---- letting a lock go
 
-Invariants-releases : (before after : Core) → IsFormed before → Steps MayRelease release before after → Invariants before → Invariants after
+pub Invariants-releases : (before after : Core) → IsFormed before → Steps MayRelease release before after → Invariants before → Invariants after
 Invariants-releases before after formed steps h =
     let step = steps.step in
     let allowed = steps.allowed in
@@ -201,10 +201,13 @@ module _ (core : Core) (seat number further : ℕ) (at : IsViewAt core seat (bla
     readers = law-opened reader_scope (ReadersCountedIn h.nodes) (λ c n f. refl) (λ s after like. ReadersCounted-like s after like h.nodes) h.readers;
   }
 
+pub Invariants-opens : (before after : Core) → Opens before after → Invariants before → Invariants after
+Invariants-opens before after opens h = subst Invariants (sym opens.result) (Invariants-opened before opens.seat opens.number opens.further opens.at h)
+
 -- ---- all of them
 
 pub Invariants-event : (before after : Core) → Event before after → IsFormed before → Invariants before → Invariants after
-Invariants-event before after (opens_pass e) formed h = subst Invariants (sym e.result) (Invariants-opened before e.seat e.number e.further e.at h)
+Invariants-event before after (opens_pass e) formed h = Invariants-opens before after e h
 Invariants-event before after (splits_visitor e) formed h = Invariants-unseen before after (visits-unseen before after e) h
 Invariants-event before after (joins_visitor e) formed h = Invariants-unseen before after (joins-unseen before after e) h
 Invariants-event before after (looks e) formed h = Invariants-unseen before after (load-unseen _ _ before after look-plain e) h

@@ -1,5 +1,5 @@
 -- The walks lead on, and the readers are counted, also where the passes have views that are like what they were.
-use Rattle.std.proofs.Common.{◌≡◌, ◌≢◌, ◌⊎◌, ℕ, ◌+◌, ◌≤◌, List, true, length, sym, subst, inl, inr, arith}
+use Rattle.std.proofs.Common.{◌≡◌, ◌⊎◌, ℕ, ◌+◌, ◌≤◌, List, true, length, sym, subst, inl, inr, arith}
 use Rattle.std.proofs.lemmas.Bool.{false≢true}
 use Rattle.core_state.specs.declared.view.Task.{Task}
 use Rattle.core_state.specs.declared.view.Task.TheVariants.{Nothing, Moving, Removing}
@@ -8,12 +8,12 @@ use Rattle.core_state.specs.declared.view.Walk.{Walk}
 use Rattle.core_state.specs.declared.view.Rebuild.{Rebuild}
 use Rattle.core_state.specs.declared.view.View.{View}
 use Rattle.core_state.specs.Encoding.{Sides, bound_in}
-use Rattle.core_state.specs.Nodes.{Nodes, superseded}
+use Rattle.core_state.specs.Nodes.{Nodes}
 use Rattle.core_state.specs.Scope.{Sight}
 use Rattle.core_state.specs.Space.{HadSince, IsTarget, IsComing, IsInLayer, IsInHull}
 use Rattle.core_state.specs.Walking.{Query, Position, Follows, position_of}
 use Rattle.core_state.specs.WalksLead.{WalksLeadIn, WalkLeads}
-use Rattle.core_state.specs.ReadersCounted.{ReadersCountedIn, WalkStays, Reaches, HasSeenOff, ClimbsInTrees, IsTight}
+use Rattle.core_state.specs.ReadersCounted.{ReadersCountedIn, AvoidsSuperseded, WalkStays, HasSeenOff, ClimbsInTrees, IsTight}
 use Rattle.core_guard.proofs.Likeness.{AreLike, with_passes, busy-forth, each-like, has-forth, has-back}
 use Rattle.core_guard.proofs.UpdatesAlike.{update-like}
 use Rattle.core_guard.proofs.LocationsAlike.{call-like}
@@ -60,9 +60,6 @@ module _ (s : Sight) (after : List View) (like : AreLike s.passes after) where
     abbrev Stays : Walk → Type 0
     Stays walk = walk.is_on ≡ true → (query : Query) → Follows s.config query walk.loads → WalkStays nodes s.word walk.loads (position_of s.config query walk.loads)
 
-    abbrev Avoids : ℕ → Walk → Type 0
-    Avoids number walk = walk.is_on ≡ true → (query : Query) → Follows s.config query walk.loads → (a l : ℕ) → Reaches s.word (position_of s.config query walk.loads) a → nodes.home a ≢ superseded number l
-
     climbs-same : (task : Task) → ClimbsInTrees nodes s task → ClimbsInTrees nodes (with_passes s after) task
     climbs-same (Moving index target) h = h
     climbs-same (Removing index) h = h
@@ -87,8 +84,8 @@ module _ (s : Sight) (after : List View) (like : AreLike s.passes after) where
       stays = each-like s after like _ _ h.stays (λ number v w l stays. subst Stays (sym l.walk) stays) (λ number k on. absurd (false≢true on));
       seen_off = update-like s after like _ _ h.seen_off
           (λ number v w r l off.
-          each-like s after like (λ q other. HasSeenOff s r q → Avoids number other.walk) (λ q other. HasSeenOff s r q → Avoids number other.walk) off
-          (λ q a b k avoids seen. subst (Avoids number) (sym k.walk) (avoids seen)) (λ q k seen on. absurd (false≢true on)));
+          each-like s after like (λ q other. HasSeenOff s r q → AvoidsSuperseded nodes s number other.walk) (λ q other. HasSeenOff s r q → AvoidsSuperseded nodes s number other.walk) off
+          (λ q a b k avoids seen. subst (AvoidsSuperseded nodes s number) (sym k.walk) (avoids seen)) (λ q k seen on. absurd (false≢true on)));
       climbs = each-like s after like _ _ h.climbs
           (λ number v w l climbs. climbs-same w.call.task (call-like (λ c. ClimbsInTrees nodes s c.task) v.call w.call l.call tt climbs)) (λ number k. tt);
       space = λ n k l live layer below child. hull-map _ _ (bound_in s.word n k) (in-layer-forth l) (h.space n k l live layer below child);

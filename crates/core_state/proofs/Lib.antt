@@ -12,3 +12,4 @@ pub mod Queries
 pub mod Guarding
 pub mod Keeping
 pub mod LockBits
+pub mod Beginning

@@ -78,7 +78,7 @@ range_once n i j d less below =
     let first : i < n = omega arith in
     rw (get_or-range_with_len 0 n i d first, get_or-range_with_len 0 n j d second) (omega arith)
 
-range_contains : (n i : ℕ) → i < n → Contains (range_with_len 0 n) i
+pub range_contains : (n i : ℕ) → i < n → Contains (range_with_len 0 n) i
 range_contains n i below = (i, rw length-range_with_len below, get_or-range_with_len 0 n i i below ∙ zero-add i)
 
 range_below : (n i : ℕ) → Contains (range_with_len 0 n) i → i < n

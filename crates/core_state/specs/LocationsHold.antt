@@ -101,7 +101,8 @@ pub data IsWhere (nodes : Nodes) (s : Sight) (i layer n : ℕ) : Type 0 where
 
 -- a second location is the place that the update planned for the body, which it has placed and not promoted
 abbrev pub IsSecond : Sight → ℕ → Type 0
-IsSecond s i = (number : ℕ) × HasPass s number (λ view. HasUpdate view (λ r. Contains r.placed i × ¬ Contains r.promoted i × IsNoted r i (λ n. s.word (LocB i) ≡ n.place)))
+IsSecond s i = (number : ℕ)
+    × HasPass s number (λ view. HasUpdate view (λ r. Contains r.placed i × ¬ Contains r.promoted i × IsNoted r i (λ n. s.word (LocB i) ≡ n.place)))
 
 -- a body that an update noted has its place in the new tree of its layer: its entry stands there until it was found gone
 -- or taken out, and from then on nothing
@@ -123,7 +124,8 @@ GivesBox _ i box = ⊥
 
 -- once a box word is stored, the new box is enclosed at every location of the body
 abbrev pub IsWidened : Sight → View → Type 0
-IsWidened s view = (i n k : ℕ) (box : Sides) → GivesBox view.call.task i box → has_box_word view.call.stores ≡ true → IsLocation s i n k → Encloses s n k box
+IsWidened s view = (i n k : ℕ) (box : Sides) → GivesBox view.call.task i box → has_box_word view.call.stores ≡ true → IsLocation s i n k
+    → Encloses s n k box
 
 -- a bound that it widened is still as wide
 abbrev pub IsStillWide : Sight → View → Type 0
@@ -148,7 +150,9 @@ pub record LocationsHoldIn (nodes : Nodes) (s : Sight) : Type 0 where
   -- the entries of a tree that an update has made are at the places that it planned
   pub made_entries : (i n k number l : ℕ) → nodes.home n ≡ made number l → k < 4 → s.word (Child n k) ≡ body_child i →
       HasPass s number (λ view. HasUpdate view (λ r. IsNoted r i (λ noted. (noted.place ≡ place n k) × (noted.layer ≡ l))))
-  pub planned : EachUpdate s (λ number view r. (noted : Noted) → Contains r.noted noted → r.is_planned ≡ true → length r.swapped ≤ noted.layer → IsPlannedAt nodes s number view r noted)
+  -- and each body that it noted is planned at one of them, until the trees of its layer are exchanged
+  pub planned : EachUpdate s (λ number view r. (noted : Noted) → Contains r.noted noted → r.is_planned ≡ true → length r.swapped ≤ noted.layer
+      → IsPlannedAt nodes s number view r noted)
   -- a first location is in the tree that the phase says
   pub first : (i : ℕ) (r : Record) (n k : ℕ) → record_at (scene_in s) i ≡ Some r → r.phase ≡ In → k < 4 → s.word (LocA i) ≡ place n k → IsWhere nodes s i r.layer n
   pub second : (i : ℕ) → s.word (LocB i) ≢ 0 → IsSecond s i

@@ -5,6 +5,7 @@ use Rattle.word_map.specs.declared.name.Name.TheVariants.{Reader, Child, Bound, 
 use Rattle.core_state.specs.declared.item.Load.{Load}
 use Rattle.core_state.specs.declared.view.Task.{Task}
 use Rattle.core_state.specs.declared.view.Task.TheVariants.{Moving, Removing}
+use Rattle.core_state.specs.declared.view.Walk.{Walk}
 use Rattle.core_state.specs.declared.view.Rebuild.{Rebuild}
 use Rattle.core_state.specs.Core.{Core}
 use Rattle.core_state.specs.Scope.{Scope, Sight, sight, IsOnce, HasPass, EachPass}
@@ -69,6 +70,11 @@ pub record WalkStays (nodes : Nodes) (word : Name → ℕ) (loads : List Load) (
 
 -- ---- readers that an update has seen
 
+-- a walk that is under way reaches nothing that the update of this pass superseded
+abbrev pub AvoidsSuperseded : Nodes → Sight → ℕ → Walk → Type 0
+AvoidsSuperseded nodes s number walk = walk.is_on ≡ true → (query : Query) → Follows s.config query walk.loads
+    → (a l : ℕ) → Reaches s.word (position_of s.config query walk.loads) a → nodes.home a ≢ superseded number l
+
 -- the update loaded the reader word of a pass, and the pass did not walk then or has ended that walk since
 abbrev pub HasSeenOff : Sight → Rebuild → ℕ → Type 0
 HasSeenOff s r q = (value : ℕ) × Contains r.readers (record { name = Reader q; value = value }) × ((value % 2 ≡ 0) ⊎ (value ≢ s.word (Reader q)))
@@ -88,15 +94,15 @@ IsBelowBound s r n k index = IsNoted r index (λ noted. (a : ℕ) × (b : ℕ) �
 
 abbrev pub IsTight : Nodes → Sight → ℕ → Rebuild → Type 0
 IsTight nodes s number r = (n k l : ℕ) → nodes.home n ≡ made number l → k < 4 → s.word (Child n k) ≢ 0 →
-    IsInHull (λ q side. (index : ℕ) × IsBelowBound s r n k index × (((box : Sides) × HadSince s r.from index box × (box q ≡ side)) ⊎ IsComing s index q side)) (bound_in s.word n k)
+    IsInHull (λ q side. (index : ℕ) × IsBelowBound s r n k index × (((box : Sides) × HadSince s r.from index box × (box q ≡ side)) ⊎ IsComing s index q side))
+    (bound_in s.word n k)
 
 pub record ReadersCountedIn (nodes : Nodes) (s : Sight) : Type 0 where
   pub odd : (number : ℕ) → (s.word (Reader number) % 2 ≡ 1) ↔ HasPass s number (λ view. view.walk.is_on ≡ true)
   pub stays : EachPass s (λ number view. view.walk.is_on ≡ true → (query : Query) → Follows s.config query view.walk.loads
       → WalkStays nodes s.word view.walk.loads (position_of s.config query view.walk.loads))
   -- a walk that an update has seen off reaches nothing that this update superseded
-  pub seen_off : EachUpdate s (λ number view r. EachPass s (λ q other. HasSeenOff s r q → other.walk.is_on ≡ true → (query : Query) → Follows s.config query other.walk.loads
-      → (a l : ℕ) → Reaches s.word (position_of s.config query other.walk.loads) a → nodes.home a ≢ superseded number l))
+  pub seen_off : EachUpdate s (λ number view r. EachPass s (λ q other. HasSeenOff s r q → AvoidsSuperseded nodes s number other.walk))
   pub climbs : EachPass s (λ number view. ClimbsInTrees nodes s view.call.task)
   -- the bounds of published and superseded trees lie in the space of their layer, those of new trees in a smaller hull
   pub space : (n k l : ℕ) → IsLive (nodes.home n) → IsOfLayer l (nodes.home n) → k < 4 → s.word (Child n k) ≢ 0 → IsInSpace s l (bound_in s.word n k)

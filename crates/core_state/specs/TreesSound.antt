@@ -83,7 +83,8 @@ pub record TreesSoundIn (nodes : Nodes) (s : Sight) : Type 0 where
   -- the root that a main or slot word names is of that tree, and has no parent
   pub roots : (name : Name) (root : ℕ) → NamesRoot name (s.word name) root → (nodes.home root ≡ under name) × (s.word (Parent root) ≡ 0)
   -- what a pass stored in its own nodes stands there
-  pub stored : EachPass s (λ number view. (store : Store) → Contains view.written store → IfSome (node_in store.name) (λ n. IsOwnedBy number (nodes.home n) × IsAsStored s.word (nodes.home n) store.name store.value))
+  pub stored : EachPass s (λ number view. (store : Store) → Contains view.written store
+      → IfSome (node_in store.name) (λ n. IsOwnedBy number (nodes.home n) × IsAsStored s.word (nodes.home n) store.name store.value))
   -- of merged trees that are given back, the parts that are left are whole
   pub returning : EachUpdate s (λ number view r. IsReturning nodes s number r)
   pub none_lost : EachUpdate s (λ number view r. IsNoneLost s r)

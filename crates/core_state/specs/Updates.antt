@@ -1,6 +1,7 @@
 -- The update under way, if there is one, and what it has done so far.
 use Rattle.std.specs.Prelude.{◌≡◌, ◌⊎◌, ℕ, ◌-◌, ◌<◌, ◌≤◌, nat_lt, if◌then◌else◌, length, fold, Contains, Option, Some, None, slice_index_or, IfSome, IsSomeAnd}
 use Rattle.core_state.specs.declared.view.Rebuild.{Rebuild}
+use Rattle.core_state.specs.declared.view.Merged.{Merged}
 use Rattle.core_state.specs.declared.view.Noted.{Noted}
 use Rattle.core_state.specs.declared.view.Task.{Task}
 use Rattle.core_state.specs.declared.view.Task.TheVariants.{Placing}
@@ -28,9 +29,13 @@ arena_after layer arena (Some r) = elim (r.arena) [
 abbrev pub arena_of : Sight → ℕ → ℕ → ℕ
 arena_of s named layer = fold (λ arena view. arena_after layer arena view.rebuild) named s.passes
 
--- the merged trees whose slots are not cleared yet
+-- a tree that was found in a slot
+abbrev pub merged_tree : ℕ → ℕ → ℕ → Merged
+merged_tree l t root = record { layer = l; slot = t; root = root }
+
+-- it is one of those whose slots are not cleared yet
 abbrev pub IsStillMerged : Rebuild → ℕ → ℕ → ℕ → Type 0
-IsStillMerged r l t root = (k : ℕ) × (r.cleared ≤ k) × (k < length r.merged) × (slice_index_or r.merged k (record { layer = l; slot = t; root = root }) ≡ record { layer = l; slot = t; root = root })
+IsStillMerged r l t root = (k : ℕ) × (r.cleared ≤ k) × (k < length r.merged) × (slice_index_or r.merged k (merged_tree l t root) ≡ merged_tree l t root)
 
 -- a tree that the update is to replace, and that is still published
 abbrev pub IsOldTree : Rebuild → Home → Type 0

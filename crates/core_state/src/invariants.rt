@@ -1,16 +1,18 @@
 //! What is proved of the eight invariants and of locks, as the layers above use it. No call here does anything.
-ghost use Rattle.std.specs.Prelude.{◌≡◌, ◌≢◌, ◌↔◌, ◌+◌, ◌<◌, ℕ};
+ghost use Rattle.std.specs.Prelude.{◌≡◌, ◌≢◌, ◌↔◌, ◌+◌, ◌<◌, ◌≤◌, ℕ, length};
 ghost use Rattle.std.specs.Int.{bit_at};
 ghost use Rattle.fixed_box.specs.Touch.{Touch};
 ghost use Rattle.fixed_box.specs.declared.fix_box.FixBox.{FixBox};
 ghost use Rattle.fixed_box.specs.declared.shape.Shape.TheVariants.{Box};
+ghost use Rattle.scene_model.specs.History.{IsDue};
 ghost use Rattle.word_map.specs.declared.config.Config.{Config};
 ghost use Rattle.word_map.specs.declared.name.Name.{Name};
 ghost use Rattle.word_map.specs.declared.name.Name.TheVariants.{Lock};
 ghost use Rattle.word_map.specs.Limits.{IsConfig};
 ghost use Rattle.core_state.specs.declared.view.Mode.TheVariants.{Read, Write};
+ghost use Rattle.core_state.specs.declared.view.Walk.{Walk};
 ghost use Rattle.core_state.specs.declared.view.View.{View};
-ghost use Rattle.core_state.specs.Log.{word, IsPrefix};
+ghost use Rattle.core_state.specs.Log.{word, history, IsPrefix};
 ghost use Rattle.core_state.specs.View.{IsPass, Holds, HoldsNot};
 ghost use Rattle.core_state.specs.Core.{Core, word_of, IsViewAt, opening};
 ghost use Rattle.core_state.specs.Kind.{Kind, Step, Steps, after_step};
@@ -20,7 +22,8 @@ ghost use Rattle.core_state.specs.Locking.{MayLoadLock, load_lock};
 ghost use Rattle.core_state.specs.Event.{Event, Run};
 ghost use Rattle.core_state.specs.Formed.{IsFormed};
 ghost use Rattle.core_state.specs.Nodes.{Nodes};
-ghost use Rattle.core_state.specs.Scope.{Scope, IsSameTo};
+ghost use Rattle.core_state.specs.Space.{HadSince};
+ghost use Rattle.core_state.specs.Scope.{Scope, IsSameTo, sight, word_in};
 ghost use Rattle.core_state.specs.Frame.{IsOutside, ReadsNoLog};
 ghost use Rattle.core_state.specs.LocksAgree.{LocksAgree, IsHeldBy, lock_scope};
 ghost use Rattle.core_state.specs.BodiesAgree.{BodiesAgree, body_scope};
@@ -28,8 +31,8 @@ ghost use Rattle.core_state.specs.NodesInOnePlace.{NodesInOnePlace, node_scope};
 ghost use Rattle.core_state.specs.TreesSound.{TreesSound, tree_scope};
 ghost use Rattle.core_state.specs.LocationsHold.{LocationsHold, location_scope};
 ghost use Rattle.core_state.specs.BodiesCovered.{BodiesCovered, cover_scope};
-ghost use Rattle.core_state.specs.Walking.{Query};
-ghost use Rattle.core_state.specs.WalksLead.{WalksLead, walk_scope};
+ghost use Rattle.core_state.specs.Walking.{Query, start};
+ghost use Rattle.core_state.specs.WalksLead.{WalksLead, IsAhead, since_begun, walk_scope};
 ghost use Rattle.core_state.specs.ReadersCounted.{ReadersCounted, reader_scope};
 ghost use Rattle.core_state.specs.Invariants.{Invariants};
 ghost use Rattle.core_state.specs.Unseen.{IsUnseen};
@@ -93,6 +96,14 @@ pub fn owned_words_stand_still()
     ensures run { (c : Config) (last : Core) → Run (opening c) last → GuardsHold last }
     ensures still { (core : Core) (seat number : ℕ) (view : View) (name : Name) → GuardsHold core → IsViewAt core seat view → IsPass view number
         → IsPrefix view.known core.log → Owns core.config view name → word_of core name ≡ word core.config view.known name }
+{}
+
+/// Together they let a walk begin at any moment: each body that it has to find is then ahead of it, in a tree that some
+/// word names which it has not read.
+pub fn walks_begin_with_all_ahead()
+    ensures { (core : Core) (query : Query) (walk : Walk) (index generation : ℕ) → IsFormed core → Invariants core → walk.from ≤ length (history core.log)
+        → IsDue (Touch query.shape) query.mask core.config.bodies (since_begun (sight walk_scope core) walk) index generation
+        → IsAhead (word_in walk_scope core) (HadSince (sight walk_scope core) walk.from index) index query walk (start core.config query) }
 {}
 
 /// Each invariant fails in some core, so none of them is empty; and there are queries, so the one on walks speaks of

@@ -52,8 +52,7 @@ pub record WasBusy (view next : View) (lock : ℕ) (mode : Mode) (of word : ℕ)
   pub excludes : Excludes mode word
 
 -- lost: the word had changed between the load and the exchange, and the pass has just the locks that it had
-pub record WasLost (view next : View) (lock : ℕ) (mode : Mode) (of loaded found : ℕ) : Type 0 where
-  pub same : of ≡ lock
+pub record WasLost (view next : View) (lock : ℕ) (mode : Mode) (loaded found : ℕ) : Type 0 where
   pub left : Leaves view next view.locks
   pub had : HadWord view next (Lock lock) loaded
   pub had_found : HadWord view next (Lock lock) found
@@ -63,7 +62,7 @@ pub record WasLost (view next : View) (lock : ℕ) (mode : Mode) (of loaded foun
 abbrev pub Tried : View → View → ℕ → Mode → Take → Type 0
 Tried view next lock mode Taken = WasTaken view next lock mode
 Tried view next lock mode (Busy of word) = WasBusy view next lock mode of word
-Tried view next lock mode (Lost of loaded found) = WasLost view next lock mode of loaded found
+Tried view next lock mode (Lost loaded found) = WasLost view next lock mode loaded found
 
 -- an exchange of a lock's word: taken, or another word was found
 abbrev pub Exchanged : View → View → ℕ → Mode → ℕ → Result (Unit {0}) ℕ → Type 0

@@ -105,9 +105,8 @@ fn try_mode(world: &World, pass: &mut Pass, lock: u32, mode: Mode) -> Take
     match exchange(world, pass, lock, mode, loaded) {
         Ok(()) => Take::Taken,
         Err(found) => Take::Lost {
-            lock,
-            loaded,
-            found,
+            first: loaded,
+            second: found,
         },
     }
 }

@@ -13,21 +13,30 @@ use crate::seats::Open;
 use crate::world::World;
 use atomic_table::Table;
 use std::alloc::{AllocError, Global};
-use std::collections::VecDeque;
 use word_map::{Config, Map, check};
 
 /// The passes of a world that were not handed out yet, in the order of their numbers.
 #[derive(Drop)]
 pub struct PassList {
-    passes: VecDeque<Pass>,
+    passes: Vec<Pass>,
 }
 
 impl PassList {
+    /// The passes that were not handed out yet, in the order of their numbers.
+    pub fn items(&self) -> &[Pass]
+        ensures { result.now ≡ self.now.passes.items }
+    {
+        self.passes.as_slice()
+    }
+
     /// The pass with the lowest number that was not handed out, and `None` exactly where all were.
     pub fn next(&mut self) -> Option<Pass>
         ensures { MatchOption result ((self.old.passes.items ≡ []) × (self.new.passes.items ≡ [])) (λ pass. self.old.passes.items ≡ pass ∷ self.new.passes.items) }
     {
-        self.passes.pop_front()
+        if self.passes.is_empty() {
+            return None;
+        }
+        Some(self.passes.remove(0))
     }
 }
 
@@ -71,19 +80,19 @@ fn open_table(alloc: Global, map: Map) -> Result<(World, Seat), AllocError>
 
 /// Opens all passes, each from the one before it, which keeps its own number alone.
 #[tactic(auto, using(crate::proofs::Ruling::open_rules))]
-fn open_passes(alloc: Global, world: &World, seat: Seat) -> Result<VecDeque<Pass>, AllocError>
+fn open_passes(alloc: Global, world: &World, seat: Seat) -> Result<Vec<Pass>, AllocError>
     requires { IsLast world.now 0 seat }
     ensures { IfOk result (λ list. AreAll world.now list.items) }
 {
     let passes = world.config().passes;
-    let mut list = VecDeque::with_capacity(alloc, passes as usize)?;
+    let mut list = Vec::with_capacity(alloc, passes as usize)?;
     let mut last = seat;
     for number in 0..passes - 1 {
         let (pass, next) = open_next(world, last, number);
-        list.push_back(pass)?;
+        list.push(pass)?;
         last = next;
     }
-    list.push_back(Pass::fresh(world, last, passes - 1))?;
+    list.push(Pass::fresh(world, last, passes - 1))?;
     Ok(list)
 }
 

@@ -7,6 +7,6 @@ pub enum Take {
     Taken,
     /// The word of the lock shows a holder that excludes this one.
     Busy { lock: u32, word: u64 },
-    /// The word changed between the load and the exchange.
-    Lost { lock: u32, loaded: u64, found: u64 },
+    /// The word changed between the load, which found the first value, and the exchange, which found the second.
+    Lost { first: u64, second: u64 },
 }

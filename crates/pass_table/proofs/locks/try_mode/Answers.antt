@@ -1,4 +1,4 @@
-use Rattle.std.proofs.Common.{refl, sym, ◌∙◌}
+use Rattle.std.proofs.Common.{sym, ◌∙◌}
 use Rattle.std.proofs.lemmas.Bool.{false≢true}
 use Rattle.pass_table.specs.Passes.{view_of}
 use Rattle.pass_table.proofs.Trying.{Leaves-trans, HadWord-later, HadWord-earlier}
@@ -12,7 +12,6 @@ returns-in-Err-clause-tried c =
     let load = c.load_word-loaded.ensures in
     let lost = c.in-Err.ensures.exchanged in
     record {
-      same = refl;
       left = Leaves-trans (λ locks. locks) view mid next load.left lost.1;
       had = HadWord-later view mid next _ _ _ load.had lost.1;
       had_found = HadWord-earlier view mid next _ _ _ load.left lost.2;

@@ -4,5 +4,6 @@ pub mod Seating
 pub mod Holding
 pub mod Knowing
 pub mod Trying
+pub mod Turning
 pub mod Passes
 pub mod Opened

@@ -5,5 +5,6 @@ pub mod Holding
 pub mod Knowing
 pub mod Trying
 pub mod Turning
+pub mod TakeTurns
 pub mod Passes
 pub mod Opened

@@ -33,3 +33,9 @@ abbrev pub GoesOn : {T : Type 0} → Turn T → Type 0 → Type 0
 GoesOn (Done answer) ready = ⊤
 GoesOn More ready = ready
 GoesOn (Again lock word) ready = ready
+
+-- what the operation answers is so
+abbrev pub Answers : {T : Type 0} → Turn T → (T → Type 0) → Type 0
+Answers (Done answer) fact = fact answer
+Answers More fact = ⊤
+Answers (Again lock word) fact = ⊤

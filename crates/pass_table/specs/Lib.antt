@@ -4,5 +4,7 @@ pub mod Seating
 pub mod Holding
 pub mod Knowing
 pub mod Trying
+pub mod Turning
+pub mod TakeTurns
 pub mod Passes
 pub mod Opened

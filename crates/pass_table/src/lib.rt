@@ -17,20 +17,27 @@ mod looking;
 mod open;
 mod opened;
 mod opening;
+mod operation;
 mod pass;
 mod rule;
 mod seats;
 mod step;
 mod stepping;
+mod take_op;
+mod take_turns;
 mod taking;
+mod turn;
 mod typed;
 mod world;
 
 pub use locks::{release, take_read, take_write, try_take};
 pub use open::{PassList, open_world};
 pub use opened::OpenFault;
+pub use operation::Operation;
 pub use pass::Pass;
+pub use take_op::TakeOp;
 pub use taking::Take;
+pub use turn::Turn;
 pub use typed::{step_5, step_6, step_7, step_8};
 pub use world::World;
 

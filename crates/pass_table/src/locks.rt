@@ -29,7 +29,7 @@ pub fn release(world: &World, pass: &mut Pass, lock: u32)
 }
 
 /// Whether the word of a lock shows a holder that excludes one who holds so: a writer excludes all, a reader writers.
-fn excludes(mode: Mode, word: u64) -> bool
+pub(crate) fn excludes(mode: Mode, word: u64) -> bool
     ensures { (result ≡ true) ↔ Excludes mode word }
 {
     match mode {
@@ -39,7 +39,7 @@ fn excludes(mode: Mode, word: u64) -> bool
 }
 
 /// The load of a try.
-fn load_word(world: &World, pass: &mut Pass, lock: u32) -> u64
+pub(crate) fn load_word(world: &World, pass: &mut Pass, lock: u32) -> u64
     requires of { IsOf world.now pass.old }
     requires named { IsName world.now.map (Lock lock) }
     ensures of { IsOf world.now pass.new }
@@ -76,7 +76,13 @@ fn exchange_to_write(world: &World, pass: &mut Pass, lock: u32, word: u64) -> Re
 }
 
 /// The exchange of a try, where the word loaded shows nobody that excludes this one.
-fn exchange(world: &World, pass: &mut Pass, lock: u32, mode: Mode, word: u64) -> Result<(), u64>
+pub(crate) fn exchange(
+    world: &World,
+    pass: &mut Pass,
+    lock: u32,
+    mode: Mode,
+    word: u64,
+) -> Result<(), u64>
     requires of { IsOf world.now pass.old }
     requires named { IsName world.now.map (Lock lock) }
     requires free { HoldsNot (view_of pass.old) lock }

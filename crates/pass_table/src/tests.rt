@@ -3,7 +3,11 @@ ghost use Rattle.pass_table.specs.Opened.{IsFresh, AreAll};
 ghost use Rattle.pass_table.specs.Holding.{IsAtRest};
 ghost use Rattle.pass_table.specs.Passes.{view_of, IsOf};
 
-use crate::{OpenFault, Pass, PassList, Take, World, open_world, release, take_write, try_take};
+use crate::{
+    OpenFault, Operation, Pass, PassList, Take, TakeOp, Turn, World, open_world, release,
+    take_write, try_take,
+};
+use core_state::Mode;
 use std::sync::Wait;
 use std::test::Fail;
 use std::thread::join;
@@ -131,5 +135,24 @@ fn a_pass_that_meets_another_goes_on(rt: HostRuntime) -> Result<(), Fail> {
     first.meet(&world, &mut second);
     first.look(&world);
     assert!(rt; first.is_idle() && !second.is_idle());
+    Ok(())
+}
+
+#[test]
+fn a_lock_is_taken_in_two_turns(rt: HostRuntime) -> Result<(), Fail> {
+    let Ok((world, mut list)) = open_world(rt.alloc(), sizes(4, 2)) else {
+        panic!(rt; "no world")
+    };
+    let Some((mut first, _second)) = two(&world, &mut list) else {
+        panic!(rt; "too few passes")
+    };
+    let mut taking = TakeOp::new(&world, &mut first, 0, Mode::Read);
+    let Turn::More = taking.turn(&world, &mut first) else {
+        panic!(rt; "the load was the last turn")
+    };
+    let Turn::Done(()) = taking.turn(&world, &mut first) else {
+        panic!(rt; "the lock was not taken")
+    };
+    assert!(rt; !first.is_idle());
     Ok(())
 }

@@ -1,0 +1,51 @@
+-- What a pass knows after a step.
+use Rattle.std.proofs.Common.{◌≡◌, ℕ, List, ◌++◌, None, append_assoc, ap, sym, ◌∙◌}
+use Rattle.word_map.specs.declared.name.Name.{Name}
+use Rattle.core_state.specs.declared.item.Item.{Item}
+use Rattle.core_state.specs.declared.view.View.{View}
+use Rattle.core_state.specs.Log.{IsPrefix}
+use Rattle.core_state.specs.Seats.{joined_view}
+use Rattle.core_state.specs.Kind.{Kind, Asking, Step, learned, found_by, gained_by, log_after}
+use Rattle.core_state.proofs.Prefixes.{IsPrefix-trans}
+use Rattle.core_state.proofs.Forming.{unspent_pass}
+use Rattle.pass_table.specs.Stepping.{step_by, Stepped}
+use Rattle.pass_table.specs.Knowing.{KnowsMore, MeetsWith}
+
+-- the kind leaves the view as it was, but for what is known
+abbrev pub IsPlain : Kind → Type 0
+IsPlain kind = (view : View) (name : Name) (found first second : ℕ) → kind.leaves view name found first second ≡ view
+
+module _ (asks : Asking) (kind : Kind) (view next : View) (name : Name) (first second found : ℕ) (stepped : Stepped asks kind view name first second found next) where
+  abbrev made : Step
+  made = step_by stepped.seat view stepped.number name first second
+
+  -- what is known goes on from what was known
+  pub known-more : IsPrefix view.known next.known
+  known-more =
+      let gained = gained_by kind stepped.before made in (
+        stepped.since ++ gained,
+        ap (λ (v : View). v.known) stepped.leaves ∙ (ap (λ (l : List Item). l ++ gained) stepped.learns ∙ append_assoc view.known stepped.since gained),
+      )
+
+  pub knows-more : IsPlain kind → KnowsMore view next
+  knows-more plain =
+      let after = log_after kind stepped.before made in
+      let left : next ≡ record view { known = after; joined = None } =
+      stepped.leaves ∙
+      ap (λ (v : View). record v { config = view.config; role = view.role; known = after; joined = None }) (plain (learned stepped.before made) name (found_by stepped.before made) first second)
+      in
+      let known : next.known ≡ after = ap (λ (v : View). v.known) stepped.leaves in
+      record { known = known-more; rest = left ∙ ap (λ (l : List Item). record view { known = l; joined = None }) (sym known) }
+
+-- a look after two met tells that what it knows goes on from what either knew
+pub meets-with : (asks : Asking) (kind : Kind) (view other next : View) (name : Name) (first second found : ℕ) → IsPlain kind
+    → Stepped asks kind (joined_view view other) name first second found next → MeetsWith view other next
+meets-with asks kind view other next name first second found plain stepped =
+    let joined = joined_view view other in
+    let more = knows-more asks kind joined next name first second found stepped plain in
+    let sound = stepped.stands.formed.views stepped.seat joined stepped.allowed.at (unspent_pass joined.role stepped.number stepped.allowed.pass) in
+    record {
+      own = IsPrefix-trans view.known joined.known next.known sound.joined.0 more.known;
+      others = IsPrefix-trans other.known joined.known next.known sound.joined.1 more.known;
+      rest = more.rest;
+    }

@@ -1,0 +1,20 @@
+use Rattle.std.proofs.Common.{sym, ◌∙◌}
+use Rattle.std.proofs.lemmas.Bool.{false≢true}
+use Rattle.pass_table.specs.Passes.{view_of}
+use Rattle.pass_table.proofs.Trying.{Leaves-trans, HadWord-later, HadWord-earlier}
+use Rattle.pass_table.proofs.locks.try_mode.Goals as goal
+
+pub returns-in-Err-clause-tried : goal.returns-in-Err-clause-tried
+returns-in-Err-clause-tried c =
+    let view = view_of c.args.pass.now in
+    let mid = view_of c.load_word-loaded.new.pass in
+    let next = view_of c.exchange.new.pass in
+    let load = c.load_word-loaded.ensures in
+    let lost = c.in-Err.ensures.exchanged in
+    record {
+      left = Leaves-trans (λ locks. locks) view mid next load.left lost.1;
+      had = HadWord-later view mid next _ _ _ load.had lost.1;
+      had_found = HadWord-earlier view mid next _ _ _ load.left lost.2;
+      free = λ excluded. false≢true (sym c.if-excludes.false ∙ c.excludes.ensures.1 excluded);
+      changed = lost.0;
+    }

@@ -1,0 +1,10 @@
+pub mod Standing
+pub mod Stepping
+pub mod Seating
+pub mod Holding
+pub mod Knowing
+pub mod Trying
+pub mod Turning
+pub mod TakeTurns
+pub mod Passes
+pub mod Opened

@@ -1,0 +1,76 @@
+-- What trying to take a lock tells.
+use Rattle.std.specs.Prelude.{◌≡◌, ◌≢◌, ℕ, ◌^◌, ◌≤◌, List, [], ◌∷◌, ◌++◌, Bool, true, false, None, Result, MatchResult}
+use Rattle.word_map.specs.declared.name.Name.{Name}
+use Rattle.word_map.specs.declared.name.Name.TheVariants.{Lock}
+use Rattle.core_state.specs.declared.item.Item.{Item}
+use Rattle.core_state.specs.declared.view.Mode.{Mode}
+use Rattle.core_state.specs.declared.view.Mode.TheVariants.{Read, Write}
+use Rattle.core_state.specs.declared.view.LockStep.{LockStep}
+use Rattle.core_state.specs.declared.view.LockStep.TheVariants.{Taken as TakenStep}
+use Rattle.core_state.specs.declared.view.View.{View}
+use Rattle.core_state.specs.Log.{word, IsPrefix}
+use Rattle.pass_table.specs.declared.taking.Take.{Take}
+use Rattle.pass_table.specs.declared.taking.Take.TheVariants.{Taken, Busy, Lost}
+
+abbrev pub mode_if : Bool → Mode
+mode_if true = Write
+mode_if false = Read
+
+-- the word shows a holder that excludes one who holds so: a writer's bit, or any
+abbrev pub Excludes : Mode → ℕ → Type 0
+Excludes Read word = 2 ^ 32 ≤ word
+Excludes Write word = word ≢ 0
+
+-- the view after: what is known goes on from what was known, the locks are these, and all else is as it was
+pub record Leaves (view next : View) (locks : List LockStep) : Type 0 where
+  pub known : IsPrefix view.known next.known
+  pub rest : next ≡ record view { known = next.known; joined = None; locks = locks }
+
+-- the word had this value after a first part of the log that is no shorter than what was known, and no longer than
+-- what is known
+pub record HadWord (view next : View) (name : Name) (value : ℕ) : Type 0 where
+  pub since : List Item
+  pub later : List Item
+  pub parts : next.known ≡ (view.known ++ since) ++ later
+  pub had : word view.config (view.known ++ since) name ≡ value
+
+abbrev pub with_taken : View → ℕ → Mode → List LockStep
+with_taken view lock mode = view.locks ++ TakenStep lock mode ∷ []
+
+-- taken: the pass holds it, where the word loaded excluded nobody
+pub record WasTaken (view next : View) (lock : ℕ) (mode : Mode) : Type 0 where
+  pub left : Leaves view next (with_taken view lock mode)
+  pub word : ℕ
+  pub had : HadWord view next (Lock lock) word
+  pub free : ¬ Excludes mode word
+
+-- busy: the word loaded shows a holder that excludes this one, and the pass has just the locks that it had
+pub record WasBusy (view next : View) (lock : ℕ) (mode : Mode) (of word : ℕ) : Type 0 where
+  pub same : of ≡ lock
+  pub left : Leaves view next view.locks
+  pub had : HadWord view next (Lock lock) word
+  pub excludes : Excludes mode word
+
+-- lost: the word had changed between the load and the exchange, and the pass has just the locks that it had
+pub record WasLost (view next : View) (lock : ℕ) (mode : Mode) (loaded found : ℕ) : Type 0 where
+  pub left : Leaves view next view.locks
+  pub had : HadWord view next (Lock lock) loaded
+  pub had_found : HadWord view next (Lock lock) found
+  pub free : ¬ Excludes mode loaded
+  pub changed : loaded ≢ found
+
+abbrev pub Tried : View → View → ℕ → Mode → Take → Type 0
+Tried view next lock mode Taken = WasTaken view next lock mode
+Tried view next lock mode (Busy of word) = WasBusy view next lock mode of word
+Tried view next lock mode (Lost loaded found) = WasLost view next lock mode loaded found
+
+-- an exchange of a lock's word: taken, or another word was found
+abbrev pub Exchanged : View → View → ℕ → Mode → ℕ → Result (Unit {0}) ℕ → Type 0
+Exchanged view next lock mode word result =
+    MatchResult result (λ _. Leaves view next (with_taken view lock mode))
+    (λ found. (word ≢ found) × Leaves view next view.locks × HadWord view next (Lock lock) found)
+
+-- some tries later: what is known goes on from what was known, and the locks and all else are as they were
+pub record Waited (view next : View) : Type 0 where
+  pub known : IsPrefix view.known next.known
+  pub rest : next ≡ record view { known = next.known; joined = next.joined }

@@ -1,0 +1,58 @@
+//! Passes over one table: the callers of a shared world, and the single steps by which they act.
+//!
+//! A world has one table of words, and each of its callers a pass. The table has one rule: its words are those that a
+//! log leaves, and with the views of all passes this log is a core that meets the invariants. So the rule says what the
+//! core's laws say, of running threads. Each typed call is one event of the core, of the kind whose number it has, and
+//! its contract says what the pass then knows: what it knew, what others stored since, and its own store.
+//!
+//! It stands on the core, on the proofs that the kinds of step keep the invariants, and on the kit's `atomic_table`,
+//! whose steps are proved once for all rules. The layers above act on a world through these calls alone; what they use
+//! is that a step finds the word as the log then has it, and that what a pass has for itself was stored by no other.
+#![tactic(auto)]
+
+mod calls;
+mod kinds;
+mod locks;
+mod looking;
+mod open;
+mod opened;
+mod opening;
+mod operation;
+mod pass;
+mod rule;
+mod seats;
+mod step;
+mod stepping;
+mod take_op;
+mod take_turns;
+mod taking;
+mod turn;
+mod typed;
+mod world;
+
+pub use locks::{release, take_read, take_write, try_take};
+pub use open::{PassList, open_world};
+pub use opened::OpenFault;
+pub use operation::Operation;
+pub use pass::Pass;
+pub use take_op::TakeOp;
+pub use taking::Take;
+pub use turn::Turn;
+pub use typed::{step_5, step_6, step_7, step_8};
+pub use world::World;
+
+#[cfg(test)]
+mod tests;
+
+/// A world may be shared between threads.
+fn is_shared<T: Sync>() {}
+
+/// A pass may go to another thread.
+fn is_sent<T: Send>() {}
+
+/// Both are shown here, so that no crate above has to.
+fn worlds_and_passes_cross_threads() {
+    is_shared::<World>();
+    is_sent::<World>();
+    is_sent::<Pass>();
+}

@@ -1,0 +1,56 @@
+//! Looking at the log, and meeting.
+ghost use Rattle.word_map.specs.declared.name.Name.TheVariants.{Update};
+ghost use Rattle.std.specs.Prelude.{◌≡◌, ℕ};
+ghost use Rattle.core_state.specs.Seats.{joined_view};
+ghost use Rattle.core_state.specs.Looking.{MayLook, look};
+ghost use Rattle.pass_table.specs.Stepping.{Stepped};
+ghost use Rattle.pass_table.specs.Knowing.{KnowsMore, MeetsWith};
+ghost use Rattle.pass_table.specs.Passes.{view_of, IsOf};
+
+use crate::kinds::Look;
+use crate::pass::Pass;
+use crate::seats::{Meet, Visit};
+use crate::world::World;
+use word_map::Name;
+
+impl Pass {
+    /// One load, after which the pass knows the whole log as it is at that load.
+    pub fn look(&mut self, world: &World)
+        requires of { IsOf world.now self.old }
+        ensures of { IsOf world.now self.new }
+        ensures step { (found : ℕ) × Stepped MayLook look (view_of self.old) Update 0 0 found (view_of self.new) }
+        ensures more { KnowsMore (view_of self.old) (view_of self.new) }
+    {
+        self.load::<Look>(world, Name::Update);
+    }
+
+    /// Meets another pass of the world, which may be that of another thread: afterwards what the pass knows begins
+    /// with all that it knew and with all that the other knew. The other stays as it is.
+    ///
+    /// Three steps: a visitor leaves the other's seat, joins the own one, and the pass looks.
+    pub fn meet(&mut self, world: &World, other: &mut Pass)
+        requires of { IsOf world.now self.old }
+        requires other_of { IsOf world.now other.old }
+        ensures of { IsOf world.now self.new }
+        ensures other_of { IsOf world.now other.new }
+        ensures other_view { view_of other.new ≡ view_of other.old }
+        ensures meets { MeetsWith (view_of self.old) (view_of other.old) (view_of self.new) }
+    {
+        self.join(world, other);
+        self.load::<Look>(world, Name::Update);
+    }
+
+    /// The two steps of a meeting that change seats.
+    fn join(&mut self, world: &World, other: &mut Pass)
+        requires of { IsOf world.now self.old }
+        requires other_of { IsOf world.now other.old }
+        ensures of { IsOf world.now self.new }
+        ensures other_of { IsOf world.now other.new }
+        ensures other_view { view_of other.new ≡ view_of other.old }
+        ensures joined { view_of self.new ≡ joined_view (view_of self.old) (view_of other.old) }
+    {
+        let words = &world.table.shared;
+        let visitor = words.split_seat::<Visit>(&mut other.seat);
+        words.join_seat::<Meet>(&mut self.seat, visitor);
+    }
+}

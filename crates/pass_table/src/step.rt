@@ -1,0 +1,78 @@
+//! Single steps: one function for each atomic operation, for all kinds.
+ghost use Rattle.std.specs.Prelude.{◌≡◌};
+ghost use Rattle.word_map.specs.Layout.{name_of};
+ghost use Rattle.core_state.specs.Operation.{load, fetch_add, compare_exchange};
+ghost use Rattle.pass_table.specs.Stepping.{MayStep, Stepped};
+
+use crate::rule::{Seat, Words};
+use atomic_table::Play;
+use core_state::View;
+use std::marker::PhantomData;
+
+/// A kind of step, for proofs alone.
+pub(crate) trait Kind {
+    ghost use Rattle.core_state.specs.Core.{Core};
+    ghost use Rattle.core_state.specs.Event.{Event};
+    ghost use Rattle.core_state.specs.Kind as core;
+
+    /// What it asks of the view of the pass, the word and the operands.
+    ghost asks: { core.Asking };
+
+    /// Its operation, the entry that it makes, and the view that it leaves.
+    ghost kind: { core.Kind };
+
+    /// Each of its steps is an event of the core.
+    ghost event: { (before after : Core) → core.Steps asks kind before after → Event before after };
+}
+
+/// What a step of a kind tells.
+pub(crate) struct Told<K> {
+    kind: PhantomData<K>,
+}
+
+impl<K: Kind> Play<(), View> for Told<K> {
+    ghost use Rattle.pass_table.specs.Stepping.{told};
+
+    ghost then = { told K.asks K.kind };
+}
+
+/// A load of the word at a place: exactly one step of the kind, whose operation has to be a load.
+pub(crate) fn load<K: Kind>(table: &Words, seat: &mut Seat, place: usize) -> u64
+    requires own { seat.old.table_id ≡ table.now.table_id }
+    requires loads { K.kind.operation ≡ load }
+    requires may { MayStep K.asks table.now.key table.now.table_id seat.old.me place 0 0 }
+    ensures seat { (seat.new.table_id ≡ seat.old.table_id) × (seat.new.me.1 ≡ seat.old.me.1) }
+    ensures step { Stepped K.asks K.kind seat.old.me.0 (name_of table.now.key place) 0 0 result seat.new.me.0 }
+{
+    table.load::<Told<K>>(seat, place)
+}
+
+/// A fetch-add at a place: exactly one step of the kind, whose operation has to be a fetch-add. It answers the word
+/// that it found.
+pub(crate) fn fetch_add<K: Kind>(table: &Words, seat: &mut Seat, place: usize, summand: u64) -> u64
+    requires own { seat.old.table_id ≡ table.now.table_id }
+    requires adds { K.kind.operation ≡ fetch_add }
+    requires may { MayStep K.asks table.now.key table.now.table_id seat.old.me place summand 0 }
+    ensures seat { (seat.new.table_id ≡ seat.old.table_id) × (seat.new.me.1 ≡ seat.old.me.1) }
+    ensures step { Stepped K.asks K.kind seat.old.me.0 (name_of table.now.key place) summand 0 result seat.new.me.0 }
+{
+    table.fetch_add::<Told<K>>(seat, place, summand)
+}
+
+/// A compare and exchange at a place: exactly one step of the kind, whose operation has to be one. It answers the word
+/// that it found.
+pub(crate) fn compare_exchange<K: Kind>(
+    table: &Words,
+    seat: &mut Seat,
+    place: usize,
+    expected: u64,
+    new: u64,
+) -> u64
+    requires own { seat.old.table_id ≡ table.now.table_id }
+    requires exchanges { K.kind.operation ≡ compare_exchange }
+    requires may { MayStep K.asks table.now.key table.now.table_id seat.old.me place expected new }
+    ensures seat { (seat.new.table_id ≡ seat.old.table_id) × (seat.new.me.1 ≡ seat.old.me.1) }
+    ensures step { Stepped K.asks K.kind seat.old.me.0 (name_of table.now.key place) expected new result seat.new.me.0 }
+{
+    table.compare_exchange::<Told<K>>(seat, place, expected, new)
+}

@@ -1,0 +1,158 @@
+ghost use Rattle.std.specs.Prelude.{◌≡◌, ℕ, IfSome};
+ghost use Rattle.pass_table.specs.Opened.{IsFresh, AreAll};
+ghost use Rattle.pass_table.specs.Holding.{IsAtRest};
+ghost use Rattle.pass_table.specs.Passes.{view_of, IsOf};
+
+use crate::{
+    OpenFault, Operation, Pass, PassList, Take, TakeOp, Turn, World, open_world, release,
+    take_write, try_take,
+};
+use core_state::Mode;
+use std::sync::Wait;
+use std::test::Fail;
+use std::thread::join;
+use word_map::{Config, Field};
+
+fn sizes(bodies: u32, stripes: u32) -> Config
+    ensures { (result.bodies ≡ bodies) × (result.stripes ≡ stripes) × (result.passes ≡ 2) }
+{
+    Config {
+        bodies,
+        stripes,
+        layers: 1,
+        slots: 1,
+        nodes: 4,
+        passes: 2,
+    }
+}
+
+/// The first two passes.
+fn two(world: &World, list: &mut PassList) -> Option<(Pass, Pass)>
+    requires { AreAll world.now list.old.passes.items }
+    ensures { IfSome result (λ passes. IsFresh world.now 0 passes.0 × IsFresh world.now 1 passes.1) }
+{
+    let first = list.next()?;
+    let second = list.next()?;
+    Some((first, second))
+}
+
+#[test]
+fn other_sizes_are_refused(rt: HostRuntime) -> Result<(), Fail> {
+    let stripes = open_world(rt.alloc(), sizes(4, 3));
+    let Err(OpenFault::BadConfig { field }) = stripes else {
+        panic!(rt; "three stripes were taken")
+    };
+    assert!(rt; field == Field::Stripes);
+    let bodies = open_world(rt.alloc(), sizes(0, 2));
+    let Err(OpenFault::BadConfig { field }) = bodies else {
+        panic!(rt; "no bodies were taken")
+    };
+    assert!(rt; field == Field::Bodies);
+    Ok(())
+}
+
+#[test]
+fn a_world_opens_with_its_passes(rt: HostRuntime) -> Result<(), Fail> {
+    let Ok((world, mut list)) = open_world(rt.alloc(), sizes(4, 2)) else {
+        panic!(rt; "no world")
+    };
+    assert!(rt; world.config() == sizes(4, 2));
+    let Some((first, second)) = two(&world, &mut list) else {
+        panic!(rt; "too few passes")
+    };
+    assert!(rt; first.number() == 0 && second.number() == 1 && list.next().is_none());
+    assert!(rt; first.is_idle());
+    Ok(())
+}
+
+#[test]
+fn a_writer_excludes_a_reader(rt: HostRuntime) -> Result<(), Fail> {
+    let Ok((world, mut list)) = open_world(rt.alloc(), sizes(4, 2)) else {
+        panic!(rt; "no world")
+    };
+    let Some((mut first, mut second)) = two(&world, &mut list) else {
+        panic!(rt; "too few passes")
+    };
+    take_write(&rt, &world, &mut second, 0);
+    let busy = Take::Busy {
+        lock: 0,
+        word: 8_589_934_592,
+    };
+    assert!(rt; try_take(&world, &mut first, 0, false) == busy);
+    assert!(rt; !second.is_idle());
+    Ok(())
+}
+
+/// Takes lock 0 to write and lets it go.
+fn round<R: Wait>(rt: &R, world: &World, pass: &mut Pass)
+    requires of { IsOf world.now pass.old }
+    requires rest { IsAtRest (view_of pass.old) }
+    ensures of { IsOf world.now pass.new }
+    ensures rest { IsAtRest (view_of pass.new) }
+{
+    take_write(rt, world, pass, 0);
+    release(world, pass, 0);
+}
+
+/// The same, 1,000 times. Answers the number of the pass.
+fn rounds<R: Wait>(rt: &R, world: &World, pass: Pass) -> u32
+    requires of { IsOf world.now pass }
+    requires rest { IsAtRest (view_of pass) }
+{
+    let mut pass = pass;
+    for _ in 0..1000 {
+        round(rt, world, &mut pass);
+    }
+    pass.number()
+}
+
+#[test]
+fn two_threads_take_one_lock(rt: HostRuntime) -> Result<(), Fail> {
+    let Ok((world, mut list)) = open_world(rt.alloc(), sizes(4, 2)) else {
+        panic!(rt; "no world")
+    };
+    let Some((first, second)) = two(&world, &mut list) else {
+        panic!(rt; "too few passes")
+    };
+    let ended = join(
+        &rt,
+        || rounds(&rt, &world, first),
+        || rounds(&rt, &world, second),
+    );
+    assert!(rt; ended == (0, 1));
+    Ok(())
+}
+
+#[test]
+fn a_pass_that_meets_another_goes_on(rt: HostRuntime) -> Result<(), Fail> {
+    let Ok((world, mut list)) = open_world(rt.alloc(), sizes(4, 2)) else {
+        panic!(rt; "no world")
+    };
+    let Some((mut first, mut second)) = two(&world, &mut list) else {
+        panic!(rt; "too few passes")
+    };
+    take_write(&rt, &world, &mut second, 1);
+    first.meet(&world, &mut second);
+    first.look(&world);
+    assert!(rt; first.is_idle() && !second.is_idle());
+    Ok(())
+}
+
+#[test]
+fn a_lock_is_taken_in_two_turns(rt: HostRuntime) -> Result<(), Fail> {
+    let Ok((world, mut list)) = open_world(rt.alloc(), sizes(4, 2)) else {
+        panic!(rt; "no world")
+    };
+    let Some((mut first, _second)) = two(&world, &mut list) else {
+        panic!(rt; "too few passes")
+    };
+    let mut taking = TakeOp::new(&world, &mut first, 0, Mode::Read);
+    let Turn::More = taking.turn(&world, &mut first) else {
+        panic!(rt; "the load was the last turn")
+    };
+    let Turn::Done(()) = taking.turn(&world, &mut first) else {
+        panic!(rt; "the lock was not taken")
+    };
+    assert!(rt; !first.is_idle());
+    Ok(())
+}

@@ -31,14 +31,14 @@ pub(crate) struct Bare {
 }
 
 impl Bare {
-    /// Both words are 0. `None` is want of memory.
-    fn open(alloc: Global) -> Option<Bare> {
-        let (table, seat) = Table::of_words(alloc, &[0, 0], &()).ok()?;
+    /// The first word is 0, the second this. `None` is want of memory.
+    fn open(alloc: Global, second: u64) -> Option<Bare> {
+        let (table, seat) = Table::of_words(alloc, &[0, second], &()).ok()?;
         Some(Bare { table, seat })
     }
 }
 
-/// A load.
+/// A load of a word that is 0 or has the bit.
 #[derive(Drop)]
 pub(crate) struct BareLoad {
     bare: Bare,
@@ -48,7 +48,7 @@ impl BareLoad {
     /// `None` is want of memory.
     pub(crate) fn open(alloc: Global) -> Option<BareLoad> {
         Some(BareLoad {
-            bare: Bare::open(alloc)?,
+            bare: Bare::open(alloc, BIT)?,
         })
     }
 }
@@ -71,7 +71,7 @@ impl BarePair {
     /// `None` is want of memory.
     pub(crate) fn open(alloc: Global) -> Option<BarePair> {
         Some(BarePair {
-            bare: Bare::open(alloc)?,
+            bare: Bare::open(alloc, 0)?,
         })
     }
 }

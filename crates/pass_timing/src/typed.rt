@@ -6,7 +6,7 @@ ghost use Rattle.pass_table.specs.Opened.{IsFresh};
 ghost use Rattle.pass_table.specs.Passes.{view_of, IsOf};
 
 use crate::work::Work;
-use pass_table::{Pass, World, open_world, step_5, step_7, step_8};
+use pass_table::{Pass, Take, World, open_world, step_5, step_7, step_8, try_take};
 use std::alloc::Global;
 use word_map::{Config, Name};
 
@@ -31,7 +31,7 @@ fn open(alloc: Global) -> Option<(World, Pass)>
     Some((world, pass))
 }
 
-/// A load of a lock word.
+/// A load of a lock word, of a lock that is free or under which the pass writes.
 #[derive(Drop)]
 pub(crate) struct TypedLoad {
     world: World,
@@ -42,7 +42,10 @@ pub(crate) struct TypedLoad {
 impl TypedLoad {
     /// `None` is want of memory.
     pub(crate) fn open(alloc: Global) -> Option<TypedLoad> {
-        let (world, pass) = open(alloc)?;
+        let (world, mut pass) = open(alloc)?;
+        if try_take(&world, &mut pass, 1, true) != Take::Taken {
+            return None;
+        }
         Some(TypedLoad { world, pass })
     }
 }

@@ -28,6 +28,7 @@ pub(crate) trait StillKind: Kind {
 
 impl Pass {
     /// A load of a word, of a kind that leaves the locks of the pass as they are.
+    #[inline(always)]
     pub(crate) fn load<K: StillKind>(&mut self, world: &World, name: Name) -> u64
         requires of { IsOf world.now self.old }
         requires named { IsName world.now.map name }
@@ -41,6 +42,7 @@ impl Pass {
     }
 
     /// A compare and exchange of a lock's word, which takes the lock where it finds the word expected.
+    #[inline(always)]
     pub(crate) fn take<K: Kind>(
         &mut self,
         world: &World,
@@ -73,6 +75,7 @@ impl Pass {
     }
 
     /// A fetch-add of a lock's word that takes the own bit away, and so lets the lock go. It answers the word found.
+    #[inline(always)]
     pub(crate) fn let_go(&mut self, world: &World, lock: u32) -> u64
         requires of { IsOf world.now self.old }
         requires named { IsName world.now.map (Lock lock) }

@@ -38,6 +38,7 @@ fn lock_of(name: Name) -> u32
 }
 
 /// Kind 5, load a lock word.
+#[inline(always)]
 pub fn step_5(world: &World, pass: &mut Pass, name: Name) -> u64
     requires of { IsOf world.now pass.old }
     requires named { IsName world.now.map name }
@@ -50,6 +51,7 @@ pub fn step_5(world: &World, pass: &mut Pass, name: Name) -> u64
 
 /// Kind 6, take a lock to read: `new` is `old` and the own reader's bit. The error is the word that was found where it
 /// was another than `old`; then nothing was stored.
+#[inline(always)]
 pub fn step_6(world: &World, pass: &mut Pass, name: Name, old: u64, new: u64) -> Result<(), u64>
     requires of { IsOf world.now pass.old }
     requires named { IsName world.now.map name }
@@ -61,6 +63,7 @@ pub fn step_6(world: &World, pass: &mut Pass, name: Name, old: u64, new: u64) ->
 }
 
 /// Kind 7, take a lock to write: `old` is 0 and `new` the own writer's bit. The error is as that of `step_6`.
+#[inline(always)]
 pub fn step_7(world: &World, pass: &mut Pass, name: Name, old: u64, new: u64) -> Result<(), u64>
     requires of { IsOf world.now pass.old }
     requires named { IsName world.now.map name }
@@ -72,6 +75,7 @@ pub fn step_7(world: &World, pass: &mut Pass, name: Name, old: u64, new: u64) ->
 }
 
 /// Kind 8, release a lock. What is added to its word follows from how the pass holds it. It answers the word found.
+#[inline(always)]
 pub fn step_8(world: &World, pass: &mut Pass, name: Name) -> u64
     requires of { IsOf world.now pass.old }
     requires named { IsName world.now.map name }

@@ -1,0 +1,109 @@
+//! Steps of a pass on the lock words of a world.
+ghost use Rattle.std.specs.Prelude.{◌≡◌, ◌<◌, IfSome};
+ghost use Rattle.core_state.specs.View.{IsPass};
+ghost use Rattle.pass_table.specs.Holding.{IsAtRest};
+ghost use Rattle.pass_table.specs.Opened.{IsFresh};
+ghost use Rattle.pass_table.specs.Passes.{view_of, IsOf};
+
+use crate::work::Work;
+use pass_table::{Pass, Take, World, open_world, step_5, step_7, step_8, try_take};
+use std::alloc::Global;
+use word_map::{Config, Name};
+
+const SIZES: Config = Config {
+    bodies: 4,
+    stripes: 2,
+    layers: 1,
+    slots: 1,
+    nodes: 4,
+    passes: 2,
+};
+
+/// A world and its first pass. `None` is want of memory.
+#[tactic(auto, using(crate::proofs::Pairs::first_fresh))]
+fn open(alloc: Global) -> Option<(World, Pass)>
+    ensures { IfSome result (λ opened. IsFresh opened.0 0 opened.1) }
+{
+    let Ok((world, mut list)) = open_world(alloc, SIZES) else {
+        return None;
+    };
+    let pass = list.next()?;
+    Some((world, pass))
+}
+
+/// A load of a lock word, of a lock that is free or under which the pass writes.
+#[derive(Drop)]
+pub(crate) struct TypedLoad {
+    world: World,
+    pass: Pass,
+    ghost of: { IsOf world pass },
+}
+
+impl TypedLoad {
+    /// `None` is want of memory.
+    pub(crate) fn open(alloc: Global) -> Option<TypedLoad> {
+        let (world, mut pass) = open(alloc)?;
+        if try_take(&world, &mut pass, 1, true) != Take::Taken {
+            return None;
+        }
+        Some(TypedLoad { world, pass })
+    }
+}
+
+impl Work for TypedLoad {
+    fn round(&mut self, lock: u32) -> u64 {
+        step_5(&self.world, &mut self.pass, Name::Lock(lock))
+    }
+}
+
+/// Taking a lock to write, and where it was free letting it go.
+#[derive(Drop)]
+pub(crate) struct TypedPair {
+    world: World,
+    pass: Pass,
+    number: u32,
+    ghost of: { IsOf world pass },
+    ghost rest: { IsAtRest (view_of pass) },
+    ghost few: { number < 32 },
+    ghost numbered: { IsPass (view_of pass) number },
+}
+
+impl TypedPair {
+    /// `None` is want of memory.
+    pub(crate) fn open(alloc: Global) -> Option<TypedPair> {
+        let (world, pass) = open(alloc)?;
+        let number = pass.number();
+        if number >= 32 {
+            return None;
+        }
+        Some(TypedPair {
+            world,
+            pass,
+            number,
+        })
+    }
+}
+
+/// Takes a lock to write that the pass does not hold, and lets it go. Answers the word found last.
+fn pair(world: &World, pass: &mut Pass, number: u32, lock: u32) -> u64
+    requires of { IsOf world.now pass.old }
+    requires rest { IsAtRest (view_of pass.old) }
+    requires few { number < 32 }
+    requires numbered { IsPass (view_of pass.old) number }
+    requires lock { lock < 2 }
+    ensures of { IsOf world.now pass.new }
+    ensures rest { IsAtRest (view_of pass.new) }
+    ensures numbered { IsPass (view_of pass.new) number }
+{
+    let bit = 1u64 << (32 + number);
+    match step_7(world, pass, Name::Lock(lock), 0, bit) {
+        Ok(()) => step_8(world, pass, Name::Lock(lock)),
+        Err(found) => found,
+    }
+}
+
+impl Work for TypedPair {
+    fn round(&mut self, lock: u32) -> u64 {
+        pair(&self.world, &mut self.pass, self.number, lock)
+    }
+}

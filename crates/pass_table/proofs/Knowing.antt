@@ -1,15 +1,18 @@
 -- What a pass knows after a step.
-use Rattle.std.proofs.Common.{◌≡◌, ℕ, List, ◌++◌, None, append_assoc, ap, sym, ◌∙◌}
+use Rattle.std.proofs.Common.{◌≡◌, ℕ, List, ◌++◌, None, append_assoc, ap, sym, ◌∙◌, refl}
+use Rattle.std.proofs.lemmas.List.{append-nil}
 use Rattle.word_map.specs.declared.name.Name.{Name}
+use Rattle.word_map.specs.declared.name.Name.TheVariants.{Update}
 use Rattle.core_state.specs.declared.item.Item.{Item}
 use Rattle.core_state.specs.declared.view.View.{View}
 use Rattle.core_state.specs.Log.{IsPrefix}
+use Rattle.core_state.specs.Looking.{MayLook, look}
 use Rattle.core_state.specs.Seats.{joined_view}
 use Rattle.core_state.specs.Kind.{Kind, Asking, Step, learned, found_by, gained_by, log_after}
 use Rattle.core_state.proofs.Prefixes.{IsPrefix-trans}
 use Rattle.core_state.proofs.Forming.{unspent_pass}
 use Rattle.pass_table.specs.Stepping.{step_by, Stepped}
-use Rattle.pass_table.specs.Knowing.{KnowsMore, MeetsWith}
+use Rattle.pass_table.specs.Knowing.{KnowsMore, Looked, MeetsWith}
 
 -- the kind leaves the view as it was, but for what is known
 abbrev pub IsPlain : Kind → Type 0
@@ -37,15 +40,24 @@ module _ (asks : Asking) (kind : Kind) (view next : View) (name : Name) (first s
       let known : next.known ≡ after = ap (λ (v : View). v.known) stepped.leaves in
       record { known = known-more; rest = left ∙ ap (λ (l : List Item). record view { known = l; joined = None }) (sym known) }
 
+-- what the step of a look tells
+pub looked : (view next : View) (found : ℕ) → Stepped MayLook look view Update 0 0 found next → Looked view next
+looked view next found stepped = record {
+  found = found;
+  step = stepped;
+  whole = ap (λ (v : View). v.known) stepped.leaves ∙ append-nil stepped.before.log;
+  more = knows-more MayLook look view next Update 0 0 found stepped (λ v n f a b. refl);
+}
+
 -- a look after two met tells that what it knows goes on from what either knew
-pub meets-with : (asks : Asking) (kind : Kind) (view other next : View) (name : Name) (first second found : ℕ) → IsPlain kind
-    → Stepped asks kind (joined_view view other) name first second found next → MeetsWith view other next
-meets-with asks kind view other next name first second found plain stepped =
+pub meets-with : (view other next : View) → Looked (joined_view view other) next → MeetsWith view other next
+meets-with view other next look_made =
     let joined = joined_view view other in
-    let more = knows-more asks kind joined next name first second found stepped plain in
-    let sound = stepped.stands.formed.views stepped.seat joined stepped.allowed.at (unspent_pass joined.role stepped.number stepped.allowed.pass) in
+    let step = look_made.step in
+    let sound = step.stands.formed.views step.seat joined step.allowed.at (unspent_pass joined.role step.number step.allowed.pass) in
     record {
-      own = IsPrefix-trans view.known joined.known next.known sound.joined.0 more.known;
-      others = IsPrefix-trans other.known joined.known next.known sound.joined.1 more.known;
-      rest = more.rest;
+      own = IsPrefix-trans view.known joined.known next.known sound.joined.0 look_made.more.known;
+      others = IsPrefix-trans other.known joined.known next.known sound.joined.1 look_made.more.known;
+      rest = look_made.more.rest;
+      looked = look_made;
     }

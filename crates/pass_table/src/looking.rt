@@ -1,10 +1,7 @@
 //! Looking at the log, and meeting.
-ghost use Rattle.word_map.specs.declared.name.Name.TheVariants.{Update};
-ghost use Rattle.std.specs.Prelude.{◌≡◌, ℕ};
+ghost use Rattle.std.specs.Prelude.{◌≡◌};
 ghost use Rattle.core_state.specs.Seats.{joined_view};
-ghost use Rattle.core_state.specs.Looking.{MayLook, look};
-ghost use Rattle.pass_table.specs.Stepping.{Stepped};
-ghost use Rattle.pass_table.specs.Knowing.{KnowsMore, MeetsWith};
+ghost use Rattle.pass_table.specs.Knowing.{Looked, MeetsWith};
 ghost use Rattle.pass_table.specs.Passes.{view_of, IsOf};
 
 use crate::kinds::Look;
@@ -18,8 +15,7 @@ impl Pass {
     pub fn look(&mut self, world: &World)
         requires of { IsOf world.now self.old }
         ensures of { IsOf world.now self.new }
-        ensures step { (found : ℕ) × Stepped MayLook look (view_of self.old) Update 0 0 found (view_of self.new) }
-        ensures more { KnowsMore (view_of self.old) (view_of self.new) }
+        ensures looked { Looked (view_of self.old) (view_of self.new) }
     {
         self.load::<Look>(world, Name::Update);
     }
@@ -37,7 +33,7 @@ impl Pass {
         ensures meets { MeetsWith (view_of self.old) (view_of other.old) (view_of self.new) }
     {
         self.join(world, other);
-        self.load::<Look>(world, Name::Update);
+        self.look(world);
     }
 
     /// The two steps of a meeting that change seats.

@@ -1,5 +1,5 @@
 -- The bodies agree also where the passes have views that are like what they were.
-use Rattle.std.proofs.Common.{◌≡◌, ◌≢◌, ℕ, List, [], true, refl, ap, sym, subst, inl, inr, arith}
+use Rattle.std.proofs.Common.{◌≡◌, ◌≢◌, ℕ, List, [], true, refl, ap, sym, subst, arith}
 use Rattle.std.specs.Prelude.{⊤, Contains, AllPairs, flat_map}
 use Rattle.word_map.specs.Names.{index_lock}
 use Rattle.core_state.specs.declared.view.Mode.TheVariants.{Write}
@@ -13,7 +13,7 @@ use Rattle.core_state.specs.View.{Holds}
 use Rattle.core_state.specs.Scope.{Sight}
 use Rattle.core_state.specs.Bodies.{MovesBody, IsBetweenBoxes, HasWholeBox, has_box_word, IsForSlot, AreOtherSlots, all_batches, all_marked}
 use Rattle.core_state.specs.BodiesAgree.{BodiesAgreeIn, ListsFree, ChangesList, IsUnderStripe, IsHeldFor}
-use Rattle.core_guard.proofs.Likeness.{IsLike, AreLike, with_passes, busy-forth, each-like, each-back, has-forth, has-back, flat-like}
+use Rattle.core_guard.proofs.Likeness.{same_call, idle_calls, IsLike, AreLike, with_passes, busy-forth, each-like, each-back, has-forth, has-back, flat-like}
 
 -- ---- what no task says
 
@@ -50,12 +50,12 @@ stripe-kept s after v w _ locks h = tt
 
 -- ---- the law
 
-module _ (s : Sight) (after : List View) (like : AreLike s.passes after) where
+module _ {idle : Task → Type 0} (quiet : (t : Task) → idle t → t ≡ Nothing) (s : Sight) (after : List View) (like : AreLike idle s.passes after) where
   whole-back : (i : ℕ) → HasWholeBox (with_passes s after) i → HasWholeBox s i
   whole-back i whole number h =
       whole number
       (has-forth s after like number (λ v. IsBetweenBoxes v i) (λ w. IsBetweenBoxes w i) h
-      (λ v w l between. busy-forth (λ c. MovesBody c.task i × (has_box_word c.stores ≡ true)) v.call w.call (moves_none i) l.call between))
+      (λ v w l between. busy-forth (λ c. MovesBody c.task i × (has_box_word c.stores ≡ true)) v.call w.call (λ c calm. moves_none i c (quiet c.task calm)) l.call between))
 
   batches-same : all_batches (with_passes s after) ≡ all_batches s
   batches-same = flat-like (λ v. v.batches) s.passes after (λ v w l. l.batches) (λ k. refl) like
@@ -63,18 +63,18 @@ module _ (s : Sight) (after : List View) (like : AreLike s.passes after) where
   marked-same : all_marked (with_passes s after) ≡ all_marked s
   marked-same = ap (λ (l : List Batch). flat_map (λ (b : Batch). b.marked) l) batches-same
 
-  lists-like : (number : ℕ) (v w : View) (chain : List ℕ) → IsLike v w → ListsFree s v v.call.task chain → ListsFree (with_passes s after) w w.call.task chain
+  lists-like : (number : ℕ) (v w : View) (chain : List ℕ) → IsLike idle v w → ListsFree s v v.call.task chain → ListsFree (with_passes s after) w w.call.task chain
   lists-like number v w chain l h =
       elim (l.call) [
-        | inl e ↦ lists-kept s after v w w.call.task chain (λ busy lock holds. l.locks busy lock Write holds) (subst (λ (c : Call). ListsFree s v c.task chain) (sym e) h)
-        | inr t ↦ subst (λ (c : Call). ListsFree (with_passes s after) w c.task chain) (sym t.1) tt
+        | same_call e ↦ lists-kept s after v w w.call.task chain (λ busy lock holds. l.locks (λ calm. busy (quiet w.call.task calm)) lock Write holds) (subst (λ (c : Call). ListsFree s v c.task chain) (sym e) h)
+        | idle_calls calm later loads stores ↦ subst (λ (k : Task). ListsFree (with_passes s after) w k chain) (sym (quiet w.call.task later)) tt
       ]
 
-  stripe-like : (number : ℕ) (v w : View) → IsLike v w → IsUnderStripe s v v.call.task → IsUnderStripe (with_passes s after) w w.call.task
+  stripe-like : (number : ℕ) (v w : View) → IsLike idle v w → IsUnderStripe s v v.call.task → IsUnderStripe (with_passes s after) w w.call.task
   stripe-like number v w l h =
       elim (l.call) [
-        | inl e ↦ stripe-kept s after v w w.call.task (λ busy lock holds. l.locks busy lock Write holds) (subst (λ (c : Call). IsUnderStripe s v c.task) (sym e) h)
-        | inr t ↦ subst (λ (c : Call). IsUnderStripe (with_passes s after) w c.task) (sym t.1) tt
+        | same_call e ↦ stripe-kept s after v w w.call.task (λ busy lock holds. l.locks (λ calm. busy (quiet w.call.task calm)) lock Write holds) (subst (λ (c : Call). IsUnderStripe s v c.task) (sym e) h)
+        | idle_calls calm later loads stores ↦ subst (λ (k : Task). IsUnderStripe (with_passes s after) w k) (sym (quiet w.call.task later)) tt
       ]
 
   abbrev HoldsSlot : ℕ → ℕ → View → Type 0
@@ -92,14 +92,14 @@ module _ (s : Sight) (after : List View) (like : AreLike s.passes after) where
     state = h.state;
     live = λ i r e.
         let words = h.live i r e in
-        record { layer = words.layer; user = words.user; bounds = λ whole. words.bounds (whole-back i whole); phase = words.phase; slot = words.slot };
+        record { layer = words.layer; user = words.user; user_fits = words.user_fits; bounds = λ whole. words.bounds (whole-back i whole); phase = words.phase; slot = words.slot };
     dead = h.dead;
     chain = h.chain;
     linked = h.linked;
     listed = each-like s after like _ _ h.listed (λ number v w l lists. lists-like number v w h.chain l lists) (λ number k. tt);
-    settled = λ quiet.
-        h.settled (each-back s after like (λ number view. ¬ ChangesList view.call.task) (λ number view. ¬ ChangesList view.call.task) quiet
-        (λ number v w l none changes. none (busy-forth (λ c. ChangesList c.task) v.call w.call changes_none l.call changes)));
+    settled = λ settled.
+        h.settled (each-back s after like (λ number view. ¬ ChangesList view.call.task) (λ number view. ¬ ChangesList view.call.task) settled
+        (λ number v w l none changes. none (busy-forth (λ c. ChangesList c.task) v.call w.call (λ c calm. changes_none c (quiet c.task calm)) l.call changes)));
     stripes = each-like s after like _ _ h.stripes (λ number v w l stripe. stripe-like number v w l stripe) (λ number k. tt);
     reserved = λ l t number below. (
       λ e. has-forth s after like number (HoldsSlot l t) (HoldsSlot l t) ((h.reserved l t number below).0 e)

@@ -1,5 +1,5 @@
 -- What a step on a lock, and the opening of a pass, leave of the sights of all laws but that of locks.
-use Rattle.std.proofs.Common.{◌≡◌, ℕ, zero, suc, List, [], ◌∷◌, ◌++◌, Bool, true, false, cond, eqb, Option, Some, None, set, refl, ap, sym, ◌∙◌, subst, inl, inr}
+use Rattle.std.proofs.Common.{◌≡◌, ℕ, zero, suc, List, [], ◌∷◌, ◌++◌, Bool, true, false, cond, eqb, Option, Some, None, set, refl, ap, sym, ◌∙◌, subst}
 use Rattle.std.specs.Prelude.{IsTrue, filter_map, option_map}
 use Rattle.std.specs.List.{AllZip, cons_option}
 use Rattle.std.proofs.lemmas.Bool.{eqb-true}
@@ -15,6 +15,7 @@ use Rattle.core_state.specs.declared.view.Role.TheVariants.{Pass}
 use Rattle.core_state.specs.declared.view.Mode.{Mode}
 use Rattle.core_state.specs.declared.view.LockStep.{LockStep}
 use Rattle.core_state.specs.declared.view.LockStep.TheVariants.{Taken}
+use Rattle.core_state.specs.declared.view.Task.{Task}
 use Rattle.core_state.specs.declared.view.Task.TheVariants.{Nothing}
 use Rattle.core_state.specs.declared.view.View.{View}
 use Rattle.core_state.specs.Log.{history}
@@ -24,7 +25,7 @@ use Rattle.core_state.specs.Kind.{Kind, Step, learned, found_by, view_after}
 use Rattle.core_state.specs.Locking.{with_lock_step, taken_if, released}
 use Rattle.core_state.specs.Scope.{Scope, sight, part_of, bare_view}
 use Rattle.core_state.proofs.Frames.{filter_map-set, same_cond}
-use Rattle.core_guard.proofs.Likeness.{IsLike, IsLike-refl, AreLike, same_many, one_more, with_passes}
+use Rattle.core_guard.proofs.Likeness.{IsNothing, same_call, idle_calls, IsLike, IsLike-refl, AreLike, same_many, one_more, with_passes}
 
 -- ---- the stepping view
 
@@ -36,7 +37,7 @@ mode-taken steps taken lock mode held none holds = fold-append (mode_after lock)
     go true e = absurd (none-some held (sym none ∙ (ap (mode_of steps) (eqb-true taken lock e) ∙ holds)))
     go false e = rw e holds
 
-taken-like : (view : View) (lock : ℕ) (mode : Mode) (test : Bool) → HoldsNot view lock → IsLike view (cond test (with_lock_step view (Taken lock mode)) view)
+taken-like : (view : View) (lock : ℕ) (mode : Mode) (test : Bool) → HoldsNot view lock → IsLike IsNothing view (cond test (with_lock_step view (Taken lock mode)) view)
 taken-like view lock mode true free = record {
   number = refl;
   batches = refl;
@@ -44,20 +45,20 @@ taken-like view lock mode true free = record {
   written = refl;
   rebuild = refl;
   walk = refl;
-  call = inl refl;
+  call = same_call refl;
   locks = λ busy other held holds. mode-taken view.locks lock other mode held free holds;
 }
 taken-like view lock mode false free = IsLike-refl view
 
 -- a view from which a lock was taken, whether it was or not
-pub taken_if-like : (view : View) (name : Name) (lock : ℕ) (mode : Mode) (found expected : ℕ) → name ≡ Lock lock → HoldsNot view lock → IsLike view (taken_if view name mode found expected)
+pub taken_if-like : (view : View) (name : Name) (lock : ℕ) (mode : Mode) (found expected : ℕ) → name ≡ Lock lock → HoldsNot view lock → IsLike IsNothing view (taken_if view name mode found expected)
 taken_if-like view name lock mode found expected names free =
-    subst (λ (n : Name). IsLike view (taken_if view n mode found expected)) (sym names) (taken-like view lock mode (eqb found expected) free)
+    subst (λ (n : Name). IsLike IsNothing view (taken_if view n mode found expected)) (sym names) (taken-like view lock mode (eqb found expected) free)
 
 -- a view that let a lock go
-pub released-like : (view : View) (name : Name) (lock : ℕ) → name ≡ Lock lock → view.call.task ≡ Nothing → IsLike view (released view name)
+pub released-like : (view : View) (name : Name) (lock : ℕ) → name ≡ Lock lock → view.call.task ≡ Nothing → IsLike IsNothing view (released view name)
 released-like view name lock names done =
-    subst (λ (n : Name). IsLike view (released view n)) (sym names)
+    subst (λ (n : Name). IsLike IsNothing view (released view n)) (sym names)
     (record {
       number = refl;
       batches = refl;
@@ -65,13 +66,13 @@ released-like view name lock names done =
       written = refl;
       rebuild = refl;
       walk = refl;
-      call = inr (done, refl);
-      locks = λ busy lock mode holds. absurd (busy refl);
+      call = idle_calls (subst IsNothing (sym done) tt) tt refl refl;
+      locks = λ busy lock mode holds. absurd (busy tt);
     })
 
 -- what is known, and with whom, is no matter
-pub after-like : (kind : Kind) (core : Core) (step : Step) → IsLike (learned core step) (kind.leaves (learned core step) step.name (found_by core step) step.first step.second)
-    → IsLike step.view (view_after kind core step)
+pub after-like : {idle : Task → Type 0} (kind : Kind) (core : Core) (step : Step) → IsLike idle (learned core step) (kind.leaves (learned core step) step.name (found_by core step) step.first step.second)
+    → IsLike idle step.view (view_after kind core step)
 after-like kind core step l = record {
   number = refl;
   batches = l.batches;
@@ -86,46 +87,46 @@ after-like kind core step l = record {
 -- ---- the passes that a law sees
 
 -- a law reads of like views what is like
-abbrev pub ReadsLike : Scope → Type 0
-ReadsLike scope = (number : ℕ) (v w : View) → IsLike v w → IsLike (scope.part (bare_view number) v) (scope.part (bare_view number) w)
+abbrev pub ReadsLike : (Task → Type 0) → Scope → Type 0
+ReadsLike idle scope = (number : ℕ) (v w : View) → IsLike idle v w → IsLike idle (scope.part (bare_view number) v) (scope.part (bare_view number) w)
 
 -- and of a pass that has done nothing nothing
 abbrev pub ReadsBlank : Scope → Type 0
 ReadsBlank scope = (c : Config) (number further : ℕ) → scope.part (bare_view number) (blank_view c (Pass number further)) ≡ bare_view number
 
-zip-same : (xs : List View) → AllZip IsLike xs xs
-zip-same [] = tt
-zip-same (x ∷ xs) = (IsLike-refl x, zip-same xs)
+zip-same : (idle : Task → Type 0) (xs : List View) → AllZip (IsLike idle) xs xs
+zip-same idle [] = tt
+zip-same idle (x ∷ xs) = (IsLike-refl x, zip-same idle xs)
 
-zip-cons : (o p : Option View) (xs ys : List View) → ((v w : View) → o ≡ Some v → p ≡ Some w → IsLike v w) → ((v : View) → o ≡ Some v → (w : View) × (p ≡ Some w)) → (o ≡ None → p ≡ None)
-    → AllZip IsLike xs ys → AllZip IsLike (cons_option o xs) (cons_option p ys)
-zip-cons None None xs ys like kept none h = h
-zip-cons None (Some w) xs ys like kept none h = absurd (none-some w (sym (none refl)))
-zip-cons (Some v) None xs ys like kept none h = let t = kept v refl in absurd (none-some t.0 t.1)
-zip-cons (Some v) (Some w) xs ys like kept none h = (like v w refl refl, h)
+zip-cons : (idle : Task → Type 0) (o p : Option View) (xs ys : List View) → ((v w : View) → o ≡ Some v → p ≡ Some w → IsLike idle v w) → ((v : View) → o ≡ Some v → (w : View) × (p ≡ Some w)) → (o ≡ None → p ≡ None)
+    → AllZip (IsLike idle) xs ys → AllZip (IsLike idle) (cons_option o xs) (cons_option p ys)
+zip-cons idle None None xs ys like kept none h = h
+zip-cons idle None (Some w) xs ys like kept none h = absurd (none-some w (sym (none refl)))
+zip-cons idle (Some v) None xs ys like kept none h = let t = kept v refl in absurd (none-some t.0 t.1)
+zip-cons idle (Some v) (Some w) xs ys like kept none h = (like v w refl refl, h)
 
-zip-set : (f : View → Option View) (xs : List View) (i : ℕ) (v w a b : View) → get_elem? xs i ≡ some v → f v ≡ Some a → f w ≡ Some b → IsLike a b → AllZip IsLike (filter_map f xs) (filter_map f (set xs i w))
-zip-set f [] i v w a b at old new like = absurd (some-ne-none v (sym at))
-zip-set f (z ∷ xs) zero v w a b at old new like =
+zip-set : (idle : Task → Type 0) (f : View → Option View) (xs : List View) (i : ℕ) (v w a b : View) → get_elem? xs i ≡ some v → f v ≡ Some a → f w ≡ Some b → IsLike idle a b → AllZip (IsLike idle) (filter_map f xs) (filter_map f (set xs i w))
+zip-set idle f [] i v w a b at old new like = absurd (some-ne-none v (sym at))
+zip-set idle f (z ∷ xs) zero v w a b at old new like =
     let first : f z ≡ Some a = ap f (some-injective z v at) ∙ old in
-    rw (first, new) (like, zip-same (filter_map f xs))
-zip-set f (z ∷ xs) (suc i) v w a b at old new like =
-    let rest = zip-set f xs i v w a b at old new like in
-    zip-cons (f z) (f z) (filter_map f xs) (filter_map f (set xs i w))
-    (λ p q e k. subst (λ (u : View). IsLike p u) (same_Some p q (sym e ∙ k)) (IsLike-refl p)) (λ p e. (p, e)) (λ e. e) rest
+    rw (first, new) (like, zip-same idle (filter_map f xs))
+zip-set idle f (z ∷ xs) (suc i) v w a b at old new like =
+    let rest = zip-set idle f xs i v w a b at old new like in
+    zip-cons idle (f z) (f z) (filter_map f xs) (filter_map f (set xs i w))
+    (λ p q e k. subst (λ (u : View). IsLike idle p u) (same_Some p q (sym e ∙ k)) (IsLike-refl p)) (λ p e. (p, e)) (λ e. e) rest
 
 -- a seat whose view is like what it was
-pub passes-set : (scope : Scope) (core : Core) (seat number : ℕ) (view w : View) → ReadsLike scope → IsViewAt core seat view → IsPass view number → IsLike view w
-    → AreLike (sight scope core).passes (filter_map (part_of scope) (set core.views seat w))
-passes-set scope core seat number view w reads at pass like =
+pub passes-set : {idle : Task → Type 0} (scope : Scope) (core : Core) (seat number : ℕ) (view w : View) → ReadsLike idle scope → IsViewAt core seat view → IsPass view number → IsLike idle view w
+    → AreLike idle (sight scope core).passes (filter_map (part_of scope) (set core.views seat w))
+passes-set {idle = idle} scope core seat number view w reads at pass like =
     same_many
-    (zip-set (part_of scope) core.views seat view w (scope.part (bare_view number) view) (scope.part (bare_view number) w) at
+    (zip-set idle (part_of scope) core.views seat view w (scope.part (bare_view number) view) (scope.part (bare_view number) w) at
     (ap (option_map (λ n. scope.part (bare_view n) view)) pass) (ap (option_map (λ n. scope.part (bare_view n) w)) (like.number ∙ pass)) (reads number view w like))
 
 -- a pass more that has done nothing
-pub passes-opened : (scope : Scope) (core : Core) (seat number further : ℕ) → ReadsBlank scope → IsViewAt core seat (blank_view core.config (Pass number (suc further)))
-    → AreLike (sight scope core).passes (filter_map (part_of scope) (set core.views seat (blank_view core.config (Pass number 0)) ++ blank_view core.config (Pass (suc number) further) ∷ []))
-passes-opened scope core seat number further reads at =
+pub passes-opened : {idle : Task → Type 0} (scope : Scope) (core : Core) (seat number further : ℕ) → ReadsBlank scope → IsViewAt core seat (blank_view core.config (Pass number (suc further)))
+    → AreLike idle (sight scope core).passes (filter_map (part_of scope) (set core.views seat (blank_view core.config (Pass number 0)) ++ blank_view core.config (Pass (suc number) further) ∷ []))
+passes-opened {idle = idle} scope core seat number further reads at =
     let c = core.config in
     let old = blank_view c (Pass number (suc further)) in
     let left = blank_view c (Pass number 0) in
@@ -133,7 +134,7 @@ passes-opened scope core seat number further reads at =
     let same : filter_map (part_of scope) (set core.views seat left) ≡ filter_map (part_of scope) core.views =
     filter_map-set (part_of scope) core.views seat old left at (ap Some (reads c number 0 ∙ sym (reads c number (suc further))))
     in
-    one_more (filter_map (part_of scope) core.views) (suc number) (zip-same (filter_map (part_of scope) core.views))
+    one_more (filter_map (part_of scope) core.views) (suc number) (zip-same idle (filter_map (part_of scope) core.views))
     (filter_map-append (part_of scope) (set core.views seat left) (right ∷ []) ∙
     (λ i. same i ++ reads c (suc number) further i ∷ []))
 

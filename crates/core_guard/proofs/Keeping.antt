@@ -1,8 +1,7 @@
 -- The first kinds of step keep all invariants.
-use Rattle.std.proofs.Common.{◌≡◌, ℕ, suc, pow-add, ◌+◌, ◌*◌, ◌^◌, ◌≤◌, List, false, None, set, refl, ap, sym, ◌∙◌, subst, inl, arith}
+use Rattle.std.proofs.Common.{◌≡◌, ℕ, suc, pow-add, ◌+◌, ◌*◌, ◌^◌, ◌≤◌, List, false, None, set, refl, ap, sym, ◌∙◌, subst, arith}
 use Rattle.std.specs.Prelude.{filter_map}
 use Rattle.std.proofs.lemmas.Bool.{false≢true}
-use Rattle.std.proofs.lemmas.Option.{none-some}
 use Rattle.std.proofs.lemmas.Nat.{pow_pos}
 use Rattle.word_map.specs.declared.name.Name.TheVariants.{Lock}
 use Rattle.core_state.specs.declared.view.Role.TheVariants.{Pass}
@@ -14,7 +13,6 @@ use Rattle.core_state.specs.Core.{Core, IsViewAt}
 use Rattle.core_state.specs.Kind.{Kind, Step, Steps, found_by, learned, view_after, after_step}
 use Rattle.core_state.specs.Seats.{Opens, after_split}
 use Rattle.core_state.specs.Locking.{bit_of, take, MayRead, take_read, MayWrite, take_write, MayRelease, release}
-use Rattle.core_state.specs.Event.{Event, opens_pass, splits_visitor, joins_visitor, looks, loads_lock, takes_read, takes_write, releases, Run, begins, goes_on}
 use Rattle.core_state.specs.Formed.{IsFormed}
 use Rattle.core_state.specs.Scope.{Scope, Sight, sight, part_of}
 use Rattle.core_state.specs.LocksAgree.{LocksAgree}
@@ -27,11 +25,10 @@ use Rattle.core_state.specs.WalksLead.{WalksLeadIn, walk_scope}
 use Rattle.core_state.specs.ReadersCounted.{ReadersCountedIn, reader_scope}
 use Rattle.core_state.specs.Invariants.{Invariants}
 use Rattle.core_state.proofs.Fitting.{word-fits}
-use Rattle.core_state.proofs.Forming.{IsFormed-run}
 use Rattle.core_state.proofs.Frames.{step-history}
-use Rattle.core_state.proofs.Keeping.{Invariants-unseen, visits-unseen, joins-unseen, load-unseen, look-plain, load_lock-plain}
 use Rattle.core_state.proofs.Steps.{word-step-other}
-use Rattle.core_guard.proofs.Likeness.{IsLike, AreLike, with_passes}
+use Rattle.core_guard.proofs.Likeness.{IsNothing, nothing-is, nothing-indexes, nothing-lists, IsLike, AreLike, with_passes}
+use Rattle.core_guard.proofs.Reading.{body-like, node-like, tree-like, location-like, cover-like, walk-like, reader-like}
 use Rattle.core_guard.proofs.BodiesAlike.{BodiesAgree-like}
 use Rattle.core_guard.proofs.NodesAlike.{NodesInOnePlace-like}
 use Rattle.core_guard.proofs.TreesAlike.{TreesSound-like}
@@ -40,29 +37,6 @@ use Rattle.core_guard.proofs.CoverAlike.{BodiesCovered-like}
 use Rattle.core_guard.proofs.WalksAlike.{WalksLead-like, ReadersCounted-like}
 use Rattle.core_guard.proofs.Changing.{ReadsLike, ReadsBlank, taken_if-like, released-like, after-like, passes-set, passes-opened, sight-passes}
 use Rattle.core_guard.proofs.LockWords.{Agrees-from, Agrees-to, Takes, Agrees-take, Agrees-release, Agrees-opened}
-
--- ---- what the scopes read
-
-body-like : ReadsLike body_scope
-body-like number v w l = record { number = refl; batches = l.batches; loose = refl; written = refl; rebuild = refl; walk = refl; call = l.call; locks = l.locks }
-
-node-like : ReadsLike node_scope
-node-like number v w l = record { number = refl; batches = l.batches; loose = l.loose; written = refl; rebuild = l.rebuild; walk = refl; call = l.call; locks = l.locks }
-
-tree-like : ReadsLike tree_scope
-tree-like number v w l = record { number = refl; batches = l.batches; loose = refl; written = l.written; rebuild = l.rebuild; walk = refl; call = inl refl; locks = λ busy lock mode holds. absurd (busy refl) }
-
-location-like : ReadsLike location_scope
-location-like number v w l = record { number = refl; batches = l.batches; loose = refl; written = refl; rebuild = l.rebuild; walk = refl; call = l.call; locks = λ busy lock mode holds. absurd (none-some mode holds) }
-
-cover-like : ReadsLike cover_scope
-cover-like number v w l = record { number = refl; batches = refl; loose = refl; written = refl; rebuild = l.rebuild; walk = refl; call = l.call; locks = λ busy lock mode holds. absurd (none-some mode holds) }
-
-walk-like : ReadsLike walk_scope
-walk-like number v w l = record { number = refl; batches = refl; loose = refl; written = refl; rebuild = refl; walk = l.walk; call = inl refl; locks = λ busy lock mode holds. absurd (busy refl) }
-
-reader-like : ReadsLike reader_scope
-reader-like number v w l = record { number = refl; batches = refl; loose = refl; written = refl; rebuild = l.rebuild; walk = l.walk; call = l.call; locks = λ busy lock mode holds. absurd (none-some mode holds) }
 
 -- ---- a step on a lock
 
@@ -73,11 +47,11 @@ pub record LeavesAlike (kind : Kind) (core : Core) (step : Step) : Type 0 where
   pub lock : ℕ
   pub names : step.name ≡ Lock lock
   pub entry : (value : ℕ) → kind.entry step.view step.name value ≡ None
-  pub like : IsLike step.view (view_after kind core step)
+  pub like : IsLike IsNothing step.view (view_after kind core step)
 
 module _ (kind : Kind) (core : Core) (step : Step) (leaves : LeavesAlike kind core step) where
-  law-step : (scope : Scope) (Law : Sight → Type 0) → ReadsLike scope → ((lock : ℕ) → scope.names (Lock lock) ≡ false)
-      → ((s : Sight) (after : List View) → AreLike s.passes after → Law s → Law (with_passes s after)) → Law (sight scope core) → Law (sight scope (after_step kind core step))
+  law-step : (scope : Scope) (Law : Sight → Type 0) → ReadsLike IsNothing scope → ((lock : ℕ) → scope.names (Lock lock) ≡ false)
+      → ((s : Sight) (after : List View) → AreLike IsNothing s.passes after → Law s → Law (with_passes s after)) → Law (sight scope core) → Law (sight scope (after_step kind core step))
   law-step scope Law reads hidden alike h =
       subst Law
       (sight-passes scope core (after_step kind core step) refl
@@ -90,13 +64,13 @@ module _ (kind : Kind) (core : Core) (step : Step) (leaves : LeavesAlike kind co
   Invariants-step locks h = record {
     nodes = h.nodes;
     locks = locks;
-    bodies = law-step body_scope BodiesAgreeIn body-like (λ lock. refl) BodiesAgree-like h.bodies;
-    places = law-step node_scope (NodesInOnePlaceIn h.nodes) node-like (λ lock. refl) (NodesInOnePlace-like h.nodes) h.places;
+    bodies = law-step body_scope BodiesAgreeIn body-like (λ lock. refl) (BodiesAgree-like nothing-is) h.bodies;
+    places = law-step node_scope (NodesInOnePlaceIn h.nodes) node-like (λ lock. refl) (NodesInOnePlace-like nothing-indexes h.nodes) h.places;
     trees = law-step tree_scope (TreesSoundIn h.nodes) tree-like (λ lock. refl) (TreesSound-like h.nodes) h.trees;
-    locations = law-step location_scope (LocationsHoldIn h.nodes) location-like (λ lock. refl) (LocationsHold-like h.nodes) h.locations;
-    cover = law-step cover_scope (BodiesCoveredIn h.nodes) cover-like (λ lock. refl) (BodiesCovered-like h.nodes) h.cover;
+    locations = law-step location_scope (LocationsHoldIn h.nodes) location-like (λ lock. refl) (LocationsHold-like nothing-lists h.nodes) h.locations;
+    cover = law-step cover_scope (BodiesCoveredIn h.nodes) cover-like (λ lock. refl) (BodiesCovered-like nothing-lists h.nodes) h.cover;
     walks = law-step walk_scope WalksLeadIn walk-like (λ lock. refl) WalksLead-like h.walks;
-    readers = law-step reader_scope (ReadersCountedIn h.nodes) reader-like (λ lock. refl) (λ s after like. ReadersCounted-like s after like h.nodes) h.readers;
+    readers = law-step reader_scope (ReadersCountedIn h.nodes) reader-like (λ lock. refl) (λ s after like. ReadersCounted-like nothing-lists s after like h.nodes) h.readers;
   }
 
 -- ---- taking a lock
@@ -184,7 +158,7 @@ module _ (core : Core) (seat number further : ℕ) (at : IsViewAt core seat (bla
   abbrev opened : Core
   opened = after_split core seat (blank_view core.config (Pass number 0)) (blank_view core.config (Pass (suc number) further))
 
-  law-opened : (scope : Scope) (Law : Sight → Type 0) → ReadsBlank scope → ((s : Sight) (after : List View) → AreLike s.passes after → Law s → Law (with_passes s after)) → Law (sight scope core) → Law (sight scope opened)
+  law-opened : (scope : Scope) (Law : Sight → Type 0) → ReadsBlank scope → ((s : Sight) (after : List View) → AreLike IsNothing s.passes after → Law s → Law (with_passes s after)) → Law (sight scope core) → Law (sight scope opened)
   law-opened scope Law reads alike h =
       alike (sight scope core) (filter_map (part_of scope) opened.views) (passes-opened scope core seat number further reads at) h
 
@@ -192,31 +166,14 @@ module _ (core : Core) (seat number further : ℕ) (at : IsViewAt core seat (bla
   Invariants-opened h = record {
     nodes = h.nodes;
     locks = Agrees-to opened (Agrees-opened core seat number further at (Agrees-from core h.locks));
-    bodies = law-opened body_scope BodiesAgreeIn (λ c n f. refl) BodiesAgree-like h.bodies;
-    places = law-opened node_scope (NodesInOnePlaceIn h.nodes) (λ c n f. refl) (NodesInOnePlace-like h.nodes) h.places;
+    bodies = law-opened body_scope BodiesAgreeIn (λ c n f. refl) (BodiesAgree-like nothing-is) h.bodies;
+    places = law-opened node_scope (NodesInOnePlaceIn h.nodes) (λ c n f. refl) (NodesInOnePlace-like nothing-indexes h.nodes) h.places;
     trees = law-opened tree_scope (TreesSoundIn h.nodes) (λ c n f. refl) (TreesSound-like h.nodes) h.trees;
-    locations = law-opened location_scope (LocationsHoldIn h.nodes) (λ c n f. refl) (LocationsHold-like h.nodes) h.locations;
-    cover = law-opened cover_scope (BodiesCoveredIn h.nodes) (λ c n f. refl) (BodiesCovered-like h.nodes) h.cover;
+    locations = law-opened location_scope (LocationsHoldIn h.nodes) (λ c n f. refl) (LocationsHold-like nothing-lists h.nodes) h.locations;
+    cover = law-opened cover_scope (BodiesCoveredIn h.nodes) (λ c n f. refl) (BodiesCovered-like nothing-lists h.nodes) h.cover;
     walks = law-opened walk_scope WalksLeadIn (λ c n f. refl) WalksLead-like h.walks;
-    readers = law-opened reader_scope (ReadersCountedIn h.nodes) (λ c n f. refl) (λ s after like. ReadersCounted-like s after like h.nodes) h.readers;
+    readers = law-opened reader_scope (ReadersCountedIn h.nodes) (λ c n f. refl) (λ s after like. ReadersCounted-like nothing-lists s after like h.nodes) h.readers;
   }
 
 pub Invariants-opens : (before after : Core) → Opens before after → Invariants before → Invariants after
 Invariants-opens before after opens h = subst Invariants (sym opens.result) (Invariants-opened before opens.seat opens.number opens.further opens.at h)
-
--- ---- all of them
-
-pub Invariants-event : (before after : Core) → Event before after → IsFormed before → Invariants before → Invariants after
-Invariants-event before after (opens_pass e) formed h = Invariants-opens before after e h
-Invariants-event before after (splits_visitor e) formed h = Invariants-unseen before after (visits-unseen before after e) h
-Invariants-event before after (joins_visitor e) formed h = Invariants-unseen before after (joins-unseen before after e) h
-Invariants-event before after (looks e) formed h = Invariants-unseen before after (load-unseen _ _ before after look-plain e) h
-Invariants-event before after (loads_lock e) formed h = Invariants-unseen before after (load-unseen _ _ before after load_lock-plain e) h
-Invariants-event before after (takes_read e) formed h = Invariants-reads before after e h
-Invariants-event before after (takes_write e) formed h = Invariants-writes before after e h
-Invariants-event before after (releases e) formed h = Invariants-releases before after formed e h
-
-pub Invariants-run : (first last : Core) → Run first last → IsFormed first → Invariants first → Invariants last
-Invariants-run first last begins formed h = h
-Invariants-run first last (goes_on {last = middle} run event) formed h =
-    Invariants-event middle last event (IsFormed-run first middle run formed) (Invariants-run first middle run formed h)

@@ -1,11 +1,11 @@
 -- Each node is in one place also where the passes have views that are like what they were.
-use Rattle.std.proofs.Common.{◌≡◌, ◌≢◌, ℕ, List, [], Option, refl, ap, sym, ◌∙◌, subst, arith}
-use Rattle.std.specs.Prelude.{⊤, Contains, IsSome, IsNone}
+use Rattle.std.proofs.Common.{◌≡◌, ℕ, List, [], Option, length, refl, ap, sym, subst, arith}
+use Rattle.std.specs.Prelude.{Contains, IsSome, IsNone}
 use Rattle.std.proofs.lemmas.Bool.{false≢true}
 use Rattle.word_map.specs.Names.{pool_lock}
 use Rattle.core_state.specs.declared.view.Mode.TheVariants.{Write}
 use Rattle.core_state.specs.declared.view.Task.{Task}
-use Rattle.core_state.specs.declared.view.Task.TheVariants.{Nothing, Pooling}
+use Rattle.core_state.specs.declared.view.Task.TheVariants.{Nothing, Creating, Destroying, Pooling, Moving, Removing, Placing}
 use Rattle.core_state.specs.declared.view.Call.{Call}
 use Rattle.core_state.specs.declared.view.Batch.{Batch}
 use Rattle.core_state.specs.declared.view.Rebuild.{Rebuild}
@@ -14,16 +14,30 @@ use Rattle.core_state.specs.Scope.{Sight, IsOnce}
 use Rattle.core_state.specs.Nodes.{Nodes, nodes_of}
 use Rattle.core_state.specs.Encoding.{IsInArena}
 use Rattle.core_state.specs.Updates.{arena_after, arena_of}
-use Rattle.core_state.specs.NodesInOnePlace.{NodesInOnePlaceIn}
-use Rattle.core_guard.proofs.Likeness.{AreLike, with_passes, busy-forth, busy-back, each-like, each-back, has-forth, has-back, flat-like, fold-like}
+use Rattle.core_state.specs.View.{Holds}
+use Rattle.core_state.specs.NodesInOnePlace.{NodesInOnePlaceIn, IsPooling, PoolsUnder}
+use Rattle.core_guard.proofs.Likeness.{IsIndexing, IsLike, same_call, idle_calls, AreLike, with_passes, busy-forth, each-like, each-back, has-forth, has-back, flat-like, fold-like}
 use Rattle.core_guard.proofs.UpdatesAlike.{nodes_of-like, update-like, update-back}
 
-abbrev IsPooling : Task → Type 0
-IsPooling Pooling = ⊤
-IsPooling _ = ⊥
+pooling_none : (t : Task) → IsIndexing t → ¬ IsPooling t
+pooling_none (Pooling taken given) idle pooling = idle
+pooling_none Nothing idle pooling = pooling
+pooling_none (Creating index) idle pooling = pooling
+pooling_none (Destroying index) idle pooling = pooling
+pooling_none (Moving index target) idle pooling = pooling
+pooling_none (Removing index) idle pooling = pooling
+pooling_none (Placing index) idle pooling = pooling
 
-pooling_none : (c : Call) → c.task ≡ Nothing → ¬ (c.task ≡ Pooling)
-pooling_none c none e = subst IsPooling (sym e ∙ none) tt
+-- a task that does not change the pool needs nothing of it
+unpooled : (s : Sight) (view : View) (t : Task) (many : ℕ) → ¬ IsPooling t → PoolsUnder s view t many
+unpooled s view (Pooling taken given) many none = absurd (none tt)
+unpooled s view _ many none = tt
+
+-- who keeps its lock changes it as before
+pool-kept : (s : Sight) (after : List View) (v w : View) (t : Task) (many : ℕ) → (IsPooling t → Holds v (pool_lock s.config) Write → Holds w (pool_lock s.config) Write) → PoolsUnder s v t many
+    → PoolsUnder (with_passes s after) w t many
+pool-kept s after v w (Pooling taken given) many locks h = (locks tt h.0, h.1)
+pool-kept s after v w _ many locks h = tt
 
 pub nothing_in : {X : Type 0} (x : X) → Contains [] x → ⊥
 nothing_in x h = let below = h.1 in absurd (omega arith)
@@ -31,11 +45,24 @@ nothing_in x h = let below = h.1 in absurd (omega arith)
 pub once_none : IsOnce []
 once_none i j d less below = absurd (omega arith)
 
-module _ (nodes : Nodes) (s : Sight) (after : List View) (like : AreLike s.passes after) where
+-- tasks that are idle do not change the pool
+module _ {idle : Task → Type 0} (quiet : (t : Task) → idle t → IsIndexing t) (nodes : Nodes) (s : Sight) (after : List View) (like : AreLike idle s.passes after) where
+  none : (c : Call) → idle c.task → ¬ IsPooling c.task
+  none c calm = pooling_none c.task (quiet c.task calm)
+
   arena-same : (layer named : ℕ) → arena_of (with_passes s after) named layer ≡ arena_of s named layer
   arena-same layer named =
       fold-like (λ arena view. arena_after layer arena view.rebuild) named s.passes after
       (λ n v w l. ap (λ (o : Option Rebuild). arena_after layer n o) l.rebuild) (λ n k. refl) like
+
+  pool-like : (v w : View) (many : ℕ) → IsLike idle v w → PoolsUnder s v v.call.task many → PoolsUnder (with_passes s after) w w.call.task many
+  pool-like v w many l h =
+      elim (l.call) [
+        | same_call e ↦
+            pool-kept s after v w w.call.task many (λ pooling holds. l.locks (λ calm. none w.call calm pooling) (pool_lock s.config) Write holds)
+            (subst (λ (c : Call). PoolsUnder s v c.task many) (sym e) h)
+        | idle_calls calm later loads stores ↦ unpooled (with_passes s after) w w.call.task many (none w.call later)
+      ]
 
   pub NodesInOnePlace-like : NodesInOnePlaceIn nodes s → NodesInOnePlaceIn nodes (with_passes s after)
   NodesInOnePlace-like h = record {
@@ -47,13 +74,9 @@ module _ (nodes : Nodes) (s : Sight) (after : List View) (like : AreLike s.passe
     free_nodes = h.free_nodes;
     batch_nodes = h.batch_nodes;
     count = λ quiet.
-        h.count (each-back s after like (λ number view. view.call.task ≢ Pooling) (λ number view. view.call.task ≢ Pooling) quiet
-        (λ number v w l none pooling. none (busy-forth (λ c. c.task ≡ Pooling) v.call w.call pooling_none l.call pooling)));
-    pool = each-like s after like _ _ h.pool
-        (λ number v w l holds pooling.
-        let busy : w.call.task ≢ Nothing = λ none. pooling_none w.call none pooling in
-        l.locks busy (pool_lock s.config) Write (holds (busy-back (λ c. c.task ≡ Pooling) v.call w.call pooling_none l.call pooling)))
-        (λ number k pooling. absurd (subst IsPooling (sym pooling) tt));
+        h.count (each-back s after like (λ number view. ¬ IsPooling view.call.task) (λ number view. ¬ IsPooling view.call.task) quiet
+        (λ number v w l still pooling. still (busy-forth (λ c. IsPooling c.task) v.call w.call none l.call pooling)));
+    pool = each-like s after like _ _ h.pool (λ number v w l pool. pool-like v w (length h.chain) l pool) (λ number k. tt);
     owned = λ n number. (
       λ own. has-forth s after like number (λ v. Contains (nodes_of v) n) (λ w. Contains (nodes_of w) n) ((h.owned n number).0 own)
           (λ v w l has. subst (λ (x : List ℕ). Contains x n) (sym (nodes_of-like v w l)) has),

@@ -2,6 +2,7 @@
 use Rattle.std.proofs.Common.{◌≡◌, ℕ, suc, List, subst}
 use Rattle.std.specs.Prelude.{Contains, slice_index}
 use Rattle.core_state.specs.declared.item.Store.{Store}
+use Rattle.core_state.specs.declared.view.Task.{Task}
 use Rattle.core_state.specs.declared.view.View.{View}
 use Rattle.core_state.specs.Scope.{Sight}
 use Rattle.core_state.specs.Nodes.{Nodes, Home, free, spare, owned, made, under, superseded}
@@ -10,7 +11,7 @@ use Rattle.core_guard.proofs.Likeness.{AreLike, with_passes, each-like}
 use Rattle.core_guard.proofs.UpdatesAlike.{update-like, has_pass_update-forth}
 use Rattle.core_guard.proofs.NodesAlike.{nothing_in}
 
-module _ (nodes : Nodes) (s : Sight) (after : List View) (like : AreLike s.passes after) where
+module _ {idle : Task → Type 0} (nodes : Nodes) (s : Sight) (after : List View) (like : AreLike idle s.passes after) where
   root-like : (home : Home) (root : ℕ) → IsRootOf s home root → IsRootOf (with_passes s after) home root
   root-like (under name) root h = h
   root-like (made number l) root h = has_pass_update-forth s after like number (λ r. slice_index r.roots l ≡ suc root) (λ r. slice_index r.roots l ≡ suc root) (λ r e. e) h

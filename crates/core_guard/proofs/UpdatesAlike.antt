@@ -3,13 +3,14 @@ use Rattle.std.proofs.Common.{◌≡◌, ℕ, List, ◌++◌, Option, Some, None
 use Rattle.std.specs.Prelude.{flat_map, IfSome, IsSomeAnd}
 use Rattle.core_state.specs.declared.view.Batch.{Batch}
 use Rattle.core_state.specs.declared.view.Rebuild.{Rebuild}
+use Rattle.core_state.specs.declared.view.Task.{Task}
 use Rattle.core_state.specs.declared.view.View.{View}
 use Rattle.core_state.specs.Scope.{Sight, HasPass}
 use Rattle.core_state.specs.Nodes.{nodes_of, nodes_in}
 use Rattle.core_state.specs.Updates.{EachUpdate, HasUpdate}
 use Rattle.core_guard.proofs.Likeness.{IsLike, AreLike, with_passes, each-like, each-back, has-forth, has-back}
 
-if_some_map : {X : Type 0} (o : Option X) (P Q : X → Type 0) → ((x : X) → P x → Q x) → IfSome o P → IfSome o Q
+pub if_some_map : {X : Type 0} (o : Option X) (P Q : X → Type 0) → ((x : X) → P x → Q x) → IfSome o P → IfSome o Q
 if_some_map None P Q f h = h
 if_some_map (Some x) P Q f h = f x h
 
@@ -18,24 +19,24 @@ some_and_map None P Q f h = h
 some_and_map (Some x) P Q f h = f x h
 
 -- what holds of an update holds of it in a like view
-pub has_update-forth : (v w : View) (P Q : Rebuild → Type 0) → IsLike v w → ((r : Rebuild) → P r → Q r) → HasUpdate v P → HasUpdate w Q
+pub has_update-forth : {idle : Task → Type 0} (v w : View) (P Q : Rebuild → Type 0) → IsLike idle v w → ((r : Rebuild) → P r → Q r) → HasUpdate v P → HasUpdate w Q
 has_update-forth v w P Q l f h = subst (λ (o : Option Rebuild). IsSomeAnd o Q) (sym l.rebuild) (some_and_map v.rebuild P Q f h)
 
-pub has_update-back : (v w : View) (P Q : Rebuild → Type 0) → IsLike v w → ((r : Rebuild) → Q r → P r) → HasUpdate w Q → HasUpdate v P
+pub has_update-back : {idle : Task → Type 0} (v w : View) (P Q : Rebuild → Type 0) → IsLike idle v w → ((r : Rebuild) → Q r → P r) → HasUpdate w Q → HasUpdate v P
 has_update-back v w P Q l f h = subst (λ (o : Option Rebuild). IsSomeAnd o P) l.rebuild (some_and_map w.rebuild Q P f h)
 
-pub nodes_of-like : (v w : View) → IsLike v w → nodes_of w ≡ nodes_of v
+pub nodes_of-like : {idle : Task → Type 0} (v w : View) → IsLike idle v w → nodes_of w ≡ nodes_of v
 nodes_of-like v w l = λ i. flat_map (λ (b : Batch). b.nodes) (l.batches i) ++ (l.loose i ++ nodes_in (l.rebuild i))
 
-module _ (s : Sight) (after : List View) (like : AreLike s.passes after) where
-  pub update-like : (P Q : ℕ → View → Rebuild → Type 0) → EachUpdate s P → ((number : ℕ) (v w : View) (r : Rebuild) → IsLike v w → P number v r → Q number w r)
+module _ {idle : Task → Type 0} (s : Sight) (after : List View) (like : AreLike idle s.passes after) where
+  pub update-like : (P Q : ℕ → View → Rebuild → Type 0) → EachUpdate s P → ((number : ℕ) (v w : View) (r : Rebuild) → IsLike idle v w → P number v r → Q number w r)
       → EachUpdate (with_passes s after) Q
   update-like P Q h step =
       each-like s after like (λ number v. IfSome v.rebuild (P number v)) (λ number w. IfSome w.rebuild (Q number w)) h
       (λ number v w l has. subst (λ (o : Option Rebuild). IfSome o (Q number w)) (sym l.rebuild) (if_some_map v.rebuild (P number v) (Q number w) (λ r p. step number v w r l p) has))
       (λ number k. tt)
 
-  pub update-back : (P Q : ℕ → View → Rebuild → Type 0) → EachUpdate (with_passes s after) Q → ((number : ℕ) (v w : View) (r : Rebuild) → IsLike v w → Q number w r → P number v r)
+  pub update-back : (P Q : ℕ → View → Rebuild → Type 0) → EachUpdate (with_passes s after) Q → ((number : ℕ) (v w : View) (r : Rebuild) → IsLike idle v w → Q number w r → P number v r)
       → EachUpdate s P
   update-back P Q h step =
       each-back s after like (λ number v. IfSome v.rebuild (P number v)) (λ number w. IfSome w.rebuild (Q number w)) h

@@ -2,8 +2,7 @@
 use Rattle.std.proofs.Common.{◌≡◌, ◌⊎◌, ℕ, ◌+◌, ◌≤◌, List, true, length, sym, subst, inl, inr, arith}
 use Rattle.std.proofs.lemmas.Bool.{false≢true}
 use Rattle.core_state.specs.declared.view.Task.{Task}
-use Rattle.core_state.specs.declared.view.Task.TheVariants.{Nothing, Moving, Removing}
-use Rattle.core_state.specs.declared.view.Call.{Call}
+use Rattle.core_state.specs.declared.view.Task.TheVariants.{Nothing, Creating, Destroying, Pooling, Moving, Removing, Placing}
 use Rattle.core_state.specs.declared.view.Walk.{Walk}
 use Rattle.core_state.specs.declared.view.Rebuild.{Rebuild}
 use Rattle.core_state.specs.declared.view.View.{View}
@@ -14,11 +13,16 @@ use Rattle.core_state.specs.Space.{HadSince, IsTarget, IsComing, IsInLayer, IsIn
 use Rattle.core_state.specs.Walking.{Query, Position, Follows, position_of}
 use Rattle.core_state.specs.WalksLead.{WalksLeadIn, WalkLeads}
 use Rattle.core_state.specs.ReadersCounted.{ReadersCountedIn, AvoidsSuperseded, WalkStays, HasSeenOff, ClimbsInTrees, IsTight}
-use Rattle.core_guard.proofs.Likeness.{AreLike, with_passes, busy-forth, each-like, has-forth, has-back}
+use Rattle.core_guard.proofs.Likeness.{IsListing, AreLike, with_passes, busy-forth, call-like, each-like, has-forth, has-back}
 use Rattle.core_guard.proofs.UpdatesAlike.{update-like}
-use Rattle.core_guard.proofs.LocationsAlike.{call-like}
 
-module _ (s : Sight) (after : List View) (like : AreLike s.passes after) where
+-- a box lies in a hull also where more counts
+pub hull-map : (Counts More : ℕ → ℕ → Type 0) (b : Sides) → ((q side : ℕ) → Counts q side → More q side) → IsInHull Counts b → IsInHull More b
+hull-map Counts More b more h q below =
+    let t = h q below in
+    ((t.0.0, more q t.0.0 t.0.1, t.0.2), (t.1.0, more (3 + q) t.1.0 t.1.1, t.1.2))
+
+module _ {idle : Task → Type 0} (s : Sight) (after : List View) (like : AreLike idle s.passes after) where
   -- what is said of the walk of a view
   abbrev Leads : Walk → Type 0
   Leads walk = walk.is_on ≡ true → (query : Query) → Follows s.config query walk.loads → WalkLeads s walk query (position_of s.config query walk.loads)
@@ -36,25 +40,32 @@ module _ (s : Sight) (after : List View) (like : AreLike s.passes after) where
     begun = each-like s after like _ _ h.begun (λ number v w l begun. subst (λ (walk : Walk). walk.from ≤ length s.history) (sym l.walk) begun) (λ number k. omega arith);
   }
 
-  -- a side that counts
-  target_none : (index q side : ℕ) (c : Call) → c.task ≡ Nothing → ¬ IsTarget c.task index q side
-  target_none index q side c none h = subst (λ (t : Task). IsTarget t index q side) none h
+target_none : (index q side : ℕ) (t : Task) → IsListing t → ¬ IsTarget t index q side
+target_none index q side (Moving i target) listing h = listing
+target_none index q side Nothing listing h = h
+target_none index q side (Creating i) listing h = h
+target_none index q side (Destroying i) listing h = h
+target_none index q side (Pooling taken given) listing h = h
+target_none index q side (Removing i) listing h = h
+target_none index q side (Placing i) listing h = h
 
+climbs_none : (nodes : Nodes) (s : Sight) (t : Task) → IsListing t → ClimbsInTrees nodes s t
+climbs_none nodes s (Moving index target) listing = absurd listing
+climbs_none nodes s (Removing index) listing = absurd listing
+climbs_none nodes s _ listing = tt
+
+module _ {idle : Task → Type 0} (quiet : (t : Task) → idle t → IsListing t) (s : Sight) (after : List View) (like : AreLike idle s.passes after) where
+  -- a side that counts
   coming-forth : (index q side : ℕ) → IsComing s index q side → IsComing (with_passes s after) index q side
   coming-forth index q side h = (
     h.0,
     has-forth s after like h.0 (λ v. IsTarget v.call.task index q side) (λ w. IsTarget w.call.task index q side) h.1
-        (λ v w l target. busy-forth (λ c. IsTarget c.task index q side) v.call w.call (target_none index q side) l.call target),
+        (λ v w l target. busy-forth (λ c. IsTarget c.task index q side) v.call w.call (λ c calm. target_none index q side c.task (quiet c.task calm)) l.call target),
   )
 
   in-layer-forth : (layer q side : ℕ) → IsInLayer s layer q side → IsInLayer (with_passes s after) layer q side
   in-layer-forth layer q side (inl had) = inl had
   in-layer-forth layer q side (inr t) = inr (t.0, coming-forth t.0 q side t.1, t.2)
-
-  hull-map : (Counts More : ℕ → ℕ → Type 0) (b : Sides) → ((q side : ℕ) → Counts q side → More q side) → IsInHull Counts b → IsInHull More b
-  hull-map Counts More b more h q below =
-      let t = h q below in
-      ((t.0.0, more q t.0.0 t.0.1, t.0.2), (t.1.0, more (3 + q) t.1.0 t.1.1, t.1.2))
 
   module _ (nodes : Nodes) where
     abbrev Stays : Walk → Type 0
@@ -87,7 +98,7 @@ module _ (s : Sight) (after : List View) (like : AreLike s.passes after) where
           each-like s after like (λ q other. HasSeenOff s r q → AvoidsSuperseded nodes s number other.walk) (λ q other. HasSeenOff s r q → AvoidsSuperseded nodes s number other.walk) off
           (λ q a b k avoids seen. subst (AvoidsSuperseded nodes s number) (sym k.walk) (avoids seen)) (λ q k seen on. absurd (false≢true on)));
       climbs = each-like s after like _ _ h.climbs
-          (λ number v w l climbs. climbs-same w.call.task (call-like (λ c. ClimbsInTrees nodes s c.task) v.call w.call l.call tt climbs)) (λ number k. tt);
+          (λ number v w l climbs. climbs-same w.call.task (call-like (λ c. ClimbsInTrees nodes s c.task) v.call w.call l.call (λ c calm loads stores. climbs_none nodes s c.task (quiet c.task calm)) climbs)) (λ number k. tt);
       space = λ n k l live layer below child. hull-map _ _ (bound_in s.word n k) (in-layer-forth l) (h.space n k l live layer below child);
       tight = update-like s after like _ _ h.tight (λ number v w r l tight planned. tight-like number r (tight planned));
     }

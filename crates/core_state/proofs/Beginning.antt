@@ -91,11 +91,11 @@ contains_filter p (y ∷ xs) x h passes =
           ]
     ]
 
-contains_flat : (f : ℕ → List Name) (xs : List ℕ) (x : ℕ) (name : Name) → Contains xs x → Contains (f x) name → Contains (flat_map f xs) name
+pub contains_flat : {X Y : Type 0} (f : X → List Y) (xs : List X) (x : X) (name : Y) → Contains xs x → Contains (f x) name → Contains (flat_map f xs) name
 contains_flat f [] x name h among = absurd (none_in x h)
-contains_flat f (y ∷ xs) x name h among =
+contains_flat {X = X} f (y ∷ xs) x name h among =
     elim (cases_cons y xs x h) [
-      | inl e ↦ Contains-append_left (f y) (flat_map f xs) name (subst (λ (z : ℕ). Contains (f z) name) (sym e) among)
+      | inl e ↦ Contains-append_left (f y) (flat_map f xs) name (subst (λ (z : X). Contains (f z) name) (sym e) among)
       | inr rest ↦ Contains-append_right (f y) (flat_map f xs) name (contains_flat f xs x name rest among)
     ]
 

@@ -17,7 +17,7 @@ use Rattle.core_state.specs.Core.{Core, IsViewAt, opening}
 use Rattle.core_state.specs.Operation.{stores}
 use Rattle.core_state.specs.Kind.{Kind, Asking, Step, IsAllowed, Steps, found_by, left_by, item_of, gained_by, log_after, view_after, after_step}
 use Rattle.core_state.specs.Seats.{Opens, Visits, Joins, after_split, visitor_of, joined_view, spent_view}
-use Rattle.core_state.specs.Event.{Event, opens_pass, splits_visitor, joins_visitor, looks, loads_lock, takes_read, takes_write, releases, Run, begins, goes_on}
+use Rattle.core_state.specs.Event.{Event, opens_pass, splits_visitor, joins_visitor, looks, loads_lock, takes_read, takes_write, releases, loads_list, stores_link, stores_head, stores_field, creates, destroys, loads_body, sets_user, Run, begins, goes_on}
 use Rattle.core_state.specs.Formed.{IsSoundItem, HasNumbers, AreApart, IsSoundView, IsFormed}
 use Rattle.std.proofs.lemmas.Option.{same_Some, none-some}
 use Rattle.core_state.proofs.Lookups.{at_set, at_push}
@@ -305,6 +305,14 @@ IsFormed-event before after (loads_lock e) formed = IsFormed-steps _ _ before af
 IsFormed-event before after (takes_read e) formed = IsFormed-steps _ _ before after e formed
 IsFormed-event before after (takes_write e) formed = IsFormed-steps _ _ before after e formed
 IsFormed-event before after (releases e) formed = IsFormed-steps _ _ before after e formed
+IsFormed-event before after (loads_list e) formed = IsFormed-steps _ _ before after e formed
+IsFormed-event before after (stores_link e) formed = IsFormed-steps _ _ before after e formed
+IsFormed-event before after (stores_head e) formed = IsFormed-steps _ _ before after e formed
+IsFormed-event before after (stores_field e) formed = IsFormed-steps _ _ before after e formed
+IsFormed-event before after (creates e) formed = IsFormed-steps _ _ before after e formed
+IsFormed-event before after (destroys e) formed = IsFormed-steps _ _ before after e formed
+IsFormed-event before after (loads_body e) formed = IsFormed-steps _ _ before after e formed
+IsFormed-event before after (sets_user e) formed = IsFormed-steps _ _ before after e formed
 
 -- the only seat of the opening
 opening-only : (c : Config) (seat : ℕ) (view : View) → IsViewAt (opening c) seat view → (seat ≡ 0) × (blank_view c (Pass 0 (c.passes - 1)) ≡ view)

@@ -1,9 +1,9 @@
 -- Who writes under a lock is alone, and so what the lock guards stands still for others.
 use Rattle.std.proofs.Common.{◌≡◌, ◌≢◌, ◌⊎◌, ℕ, zero, suc, ◌+◌, ◌<◌, ◌≤◌, List, [], ◌∷◌, ◌++◌, false, Option, Some, None, length, take, drop, set, refl, append_assoc, ap, sym, ◌∙◌, subst, inl, inr, arith}
-use Rattle.std.specs.Prelude.{⊤, IsSomeAnd, filter_map, sum_by, Contains, slice_index_or}
+use Rattle.std.specs.Prelude.{⊤, IfSome, IsSomeAnd, filter_map, sum_by, Contains, slice_index_or}
 use Rattle.std.specs.List.{cons_option}
 use Rattle.std.proofs.lemmas.Option.{none-some, same_Some}
-use Rattle.std.proofs.lemmas.Bool.{false≢true, cases_lt, lt-ltb, le-ltb}
+use Rattle.std.proofs.lemmas.Bool.{false≢true}
 use Rattle.std.proofs.lemmas.List.{append-nil, length-append, set-get_or, set_split}
 use Rattle.std.proofs.lemmas.Nat.{pow_pos}
 use Rattle.std.proofs.lemmas.List.Sums.{sum_by-cons}
@@ -12,7 +12,8 @@ use mathlib.Core.Option.{some, some-injective, some-ne-none}
 use lib.ListN.{get_elem?}
 use Rattle.word_map.specs.declared.config.Config.{Config}
 use Rattle.word_map.specs.declared.name.Name.{Name}
-use Rattle.word_map.specs.declared.name.Name.TheVariants.{Lock}
+use Rattle.word_map.specs.Names.{stripe_of}
+use Rattle.word_map.specs.declared.name.Name.TheVariants.{Lock, State}
 use Rattle.core_state.specs.declared.item.Item.{Item}
 use Rattle.core_state.specs.declared.view.Mode.{Mode}
 use Rattle.core_state.specs.declared.view.Mode.TheVariants.{Read, Write}
@@ -21,21 +22,22 @@ use Rattle.core_state.specs.declared.view.Task.TheVariants.{Nothing}
 use Rattle.core_state.specs.declared.view.Rebuild.{Rebuild}
 use Rattle.core_state.specs.declared.view.Role.{Role}
 use Rattle.core_state.specs.declared.view.Role.TheVariants.{Pass}
+use Rattle.core_state.specs.declared.view.Joined.{Joined}
 use Rattle.core_state.specs.declared.view.View.{View}
+use Rattle.core_state.specs.Formed.{IsSoundView, IsFormed}
 use Rattle.core_state.specs.Log.{word, NoneStores, IsPrefix}
-use Rattle.core_state.proofs.Reading.{word-none}
-use Rattle.core_state.specs.View.{number_of, mode_of, IsPass, Holds, HoldsNot, blank_view}
+use Rattle.core_state.proofs.Reading.{word-none, word-other}
+use Rattle.core_state.specs.View.{known_alone, own_known, number_of, mode_of, IsPass, Holds, HoldsNot, blank_view}
 use Rattle.core_state.specs.Core.{Core, word_of, IsViewAt, opening}
 use Rattle.core_state.specs.Locking.{bit_of}
 use Rattle.core_state.specs.Operation.{stores}
 use Rattle.core_state.specs.Kind.{Kind, Asking, Step, Steps, found_by, item_of, left_by, log_after, view_after, after_step}
-use Rattle.core_state.specs.Seats.{Opens, Visits, Joins, after_split, visitor_of, longer, joined_view, spent_view}
-use Rattle.core_state.specs.Event.{Event, opens_pass, splits_visitor, joins_visitor, looks, loads_lock, takes_read, takes_write, releases, Run, begins, goes_on}
+use Rattle.core_state.specs.Seats.{Opens, Visits, Joins, after_split, visitor_of, joined_view, spent_view}
 use Rattle.core_state.specs.Guards.{Owns, by_lock, by_creation, by_batch, by_mark, by_node, by_update, IsUpdateWord, IsQuiet, GuardsHold, KeepsGuards, IsBodyWord}
 use Rattle.core_state.specs.Scope.{sight, part_of, bare_view}
 use Rattle.core_state.specs.LocksAgree.{LocksAgree, lock_scope, bit_in}
 use Rattle.core_state.proofs.Lookups.{at_set}
-use Rattle.core_state.proofs.Forming.{is_left, is_right, is_other, at_split, AfterJoin, is_spent, is_joined, is_old, at_join}
+use Rattle.core_state.proofs.Forming.{unspent_pass, is_left, is_right, is_other, at_split, AfterJoin, is_spent, is_joined, is_old, at_join}
 use Rattle.core_state.proofs.Steps.{gains, nothing, its_item}
 
 -- ---- sums over what is kept of a list
@@ -149,7 +151,7 @@ pub GuardsHold-step : (kind : Kind) (core : Core) (step : Step) → IsViewAt cor
 GuardsHold-step kind core step at keeps guards seat number view first rest item at_view pass split later =
     elim (at_set core.views step.seat seat (view_after kind core step) view at_view) [
       | inl t ↦
-          let all : length (log_after kind core step) ≤ length first = subst (λ (v : View). length v.known ≤ length first) (sym t.1) later in
+          let all : length (log_after kind core step) ≤ length first = subst (λ (v : View). length (own_known v) ≤ length first) (sym t.1) later in
           let lengths : length (log_after kind core step) ≡ length (first ++ item ∷ rest) = ap length split in
           absurd (omega (arith, length-append first (item ∷ rest)))
       | inr t ↦ elim (gains kind core step) [
@@ -211,13 +213,13 @@ blank-quiet c role first item = record {
   location = λ i mode holds. absurd (none-some mode holds);
 }
 
-GuardsHold-load : (asks : Asking) (kind : Kind) (before after : Core) → ((found first : ℕ) → stores kind.operation found first ≡ false) → Steps asks kind before after → GuardsHold before → GuardsHold after
+pub GuardsHold-load : (asks : Asking) (kind : Kind) (before after : Core) → ((found first : ℕ) → stores kind.operation found first ≡ false) → Steps asks kind before after → GuardsHold before → GuardsHold after
 GuardsHold-load asks kind before after loads steps guards =
     let step = steps.step in
     subst GuardsHold (sym steps.result)
     (GuardsHold-step kind before step steps.allowed.at (λ stored. absurd (false≢true (sym (loads (found_by before step) step.first) ∙ stored))) guards)
 
-GuardsHold-lock : (asks : Asking) (kind : Kind) (before after : Core) → ((view : View) (name : Name) (first second : ℕ) → asks view name first second → (lock : ℕ) × (name ≡ Lock lock))
+pub GuardsHold-lock : (asks : Asking) (kind : Kind) (before after : Core) → ((view : View) (name : Name) (first second : ℕ) → asks view name first second → (lock : ℕ) × (name ≡ Lock lock))
     → Steps asks kind before after → GuardsHold before → GuardsHold after
 GuardsHold-lock asks kind before after names steps guards =
     let step = steps.step in
@@ -228,7 +230,7 @@ GuardsHold-lock asks kind before after names steps guards =
 
 -- what holds of both halves of a view that is cut, and of all others
 GuardsHold-split : (core : Core) (cut : ℕ) (left right : View)
-    → ((number : ℕ) (first rest : List Item) (item : Item) → IsPass left number → core.log ≡ first ++ item ∷ rest → length left.known ≤ length first → IsQuiet core.config left first item)
+    → ((number : ℕ) (first rest : List Item) (item : Item) → IsPass left number → core.log ≡ first ++ item ∷ rest → length (own_known left) ≤ length first → IsQuiet core.config left first item)
     → ((number : ℕ) (first : List Item) (item : Item) → IsPass right number → IsQuiet core.config right first item)
     → GuardsHold core → GuardsHold (after_split core cut left right)
 GuardsHold-split core cut left right quiet_left quiet_right guards seat number view first rest item at pass split later =
@@ -239,9 +241,9 @@ GuardsHold-split core cut left right quiet_left quiet_right guards seat number v
     ]
   where
     Quiet : View → Type 0
-    Quiet v = IsPass v number → length v.known ≤ length first → IsQuiet core.config v first item
+    Quiet v = IsPass v number → length (own_known v) ≤ length first → IsQuiet core.config v first item
 
-GuardsHold-opens : (before after : Core) → Opens before after → GuardsHold before → GuardsHold after
+pub GuardsHold-opens : (before after : Core) → Opens before after → GuardsHold before → GuardsHold after
 GuardsHold-opens before after opens guards =
     let c = before.config in
     subst GuardsHold (sym opens.result)
@@ -249,20 +251,20 @@ GuardsHold-opens before after opens guards =
     (λ number first rest item pass split later. blank-quiet c (Pass opens.number 0) first item)
     (λ number first item pass. blank-quiet c (Pass (suc opens.number) opens.further) first item) guards)
 
-GuardsHold-visits : (before after : Core) → Visits before after → GuardsHold before → GuardsHold after
+pub GuardsHold-visits : (before after : Core) → Visits before after → GuardsHold before → GuardsHold after
 GuardsHold-visits before after visits guards =
     subst GuardsHold (sym visits.result)
     (GuardsHold-split before visits.seat visits.view (visitor_of visits.view)
     (λ number first rest item pass split later. guards visits.seat number visits.view first rest item visits.at pass split later)
     (λ number first item pass. absurd (none-some number pass)) guards)
 
--- two that meet know at least what the own pass knew
-longer-own : (a b : List Item) → length a ≤ length (longer a b)
-longer-own a b =
-    elim (cases_lt (length a) (length b)) [
-      | inl less ↦ let test = lt-ltb _ _ less in rw test (omega arith)
-      | inr more ↦ let test = le-ltb _ _ more in rw test (omega arith)
-    ]
+-- what a pass knew by itself is a first part of what it knows
+known_less : (o : Option Joined) (known : List Item) → IfSome o (λ j. IsPrefix j.own known × IsPrefix j.other known) → length (known_alone o known) ≤ length known
+known_less None known h = omega arith
+known_less (Some j) known h = let lengths = ap length h.0.1 in omega (arith, length-append j.own h.0.0)
+
+pub own-less : (view : View) → IfSome view.joined (λ j. IsPrefix j.own view.known × IsPrefix j.other view.known) → length (own_known view) ≤ length view.known
+own-less view h = known_less view.joined view.known h
 
 -- the pass has for itself what it had
 joined-owned : (c : Config) (view visitor : View) (name : Name) → Owns c (joined_view view visitor) name → Owns c view name
@@ -273,49 +275,47 @@ joined-owned c view visitor name (by_mark batch m among marked h) = by_mark batc
 joined-owned c view visitor name (by_node n among e) = by_node n among e
 joined-owned c view visitor name (by_update h) = by_update h
 
+-- and what it had it has
+owned-joined : (c : Config) (view visitor : View) (name : Name) → Owns c view name → Owns c (joined_view view visitor) name
+owned-joined c view visitor name (by_lock lock mode holds e) = by_lock lock mode holds e
+owned-joined c view visitor name (by_creation i e h) = by_creation i e h
+owned-joined c view visitor name (by_batch batch among e) = by_batch batch among e
+owned-joined c view visitor name (by_mark batch m among marked h) = by_mark batch m among marked h
+owned-joined c view visitor name (by_node n among e) = by_node n among e
+owned-joined c view visitor name (by_update h) = by_update h
+
+pub joined-unquiet : (c : Config) (view visitor : View) (first : List Item) (item : Item) → IsQuiet c (joined_view view visitor) first item → IsQuiet c view first item
+joined-unquiet c view visitor first item quiet = record { others = λ owns. quiet.others (owned-joined c view visitor item.name owns); body = quiet.body; location = quiet.location }
+
 joined-quiet : (c : Config) (view visitor : View) (first : List Item) (item : Item) → IsQuiet c view first item → IsQuiet c (joined_view view visitor) first item
 joined-quiet c view visitor first item quiet = record { others = λ owns. quiet.others (joined-owned c view visitor item.name owns); body = quiet.body; location = quiet.location }
 
-module _ (before after : Core) (joins : Joins before after) (guards : GuardsHold before) where
+module _ (before after : Core) (joins : Joins before after) (formed : IsFormed before) (guards : GuardsHold before) where
   join_quiet : (seat number : ℕ) (view : View) (first rest : List Item) (item : Item) → AfterJoin before joins.seat joins.other (joined_view joins.view joins.visitor) seat view
-      → IsPass view number → before.log ≡ first ++ item ∷ rest → length view.known ≤ length first → IsQuiet before.config view first item
+      → IsPass view number → before.log ≡ first ++ item ∷ rest → length (own_known view) ≤ length first → IsQuiet before.config view first item
   join_quiet seat number view first rest item (is_spent e) pass split later =
       absurd (none-some number (ap (λ (v : View). number_of v) e ∙ pass))
   join_quiet seat number view first rest item (is_joined p e) pass split later =
       let joined = joined_view joins.view joins.visitor in
-      let known : length joined.known ≤ length first = subst (λ (v : View). length v.known ≤ length first) (sym e) later in
-      let own = longer-own joins.view.known joins.visitor.known in
+      let sound = formed.views joins.seat joins.view joins.at (unspent_pass joins.view.role joins.number joins.pass) in
+      let known : length joins.view.known ≤ length first = subst (λ (v : View). length (own_known v) ≤ length first) (sym e) later in
       subst (λ (v : View). IsQuiet before.config v first item) e
       (joined-quiet before.config joins.view joins.visitor first item
-      (guards joins.seat joins.number joins.view first rest item joins.at joins.pass split (omega arith)))
+      (guards joins.seat joins.number joins.view first rest item joins.at joins.pass split (omega (arith, own-less joins.view sound.joined))))
   join_quiet seat number view first rest item (is_old e) pass split later = guards seat number view first rest item e pass split later
 
-GuardsHold-joins : (before after : Core) → Joins before after → GuardsHold before → GuardsHold after
-GuardsHold-joins before after joins guards =
+pub GuardsHold-joins : (before after : Core) → Joins before after → IsFormed before → GuardsHold before → GuardsHold after
+GuardsHold-joins before after joins formed guards =
     let joined = joined_view joins.view joins.visitor in
     let proof : GuardsHold (record before { views = set (set before.views joins.seat joined) joins.other spent_view }) =
     λ seat number view first rest item at pass split later.
-    join_quiet before after joins guards seat number view first rest item (at_join before joins.seat joins.other joined seat view at) pass split later
+    join_quiet before after joins formed guards seat number view first rest item (at_join before joins.seat joins.other joined seat view at) pass split later
     in
     subst GuardsHold (sym joins.result) proof
-
-pub GuardsHold-event : (before after : Core) → Event before after → GuardsHold before → GuardsHold after
-GuardsHold-event before after (opens_pass e) guards = GuardsHold-opens before after e guards
-GuardsHold-event before after (splits_visitor e) guards = GuardsHold-visits before after e guards
-GuardsHold-event before after (joins_visitor e) guards = GuardsHold-joins before after e guards
-GuardsHold-event before after (looks e) guards = GuardsHold-load _ _ before after (λ found first. refl) e guards
-GuardsHold-event before after (loads_lock e) guards = GuardsHold-load _ _ before after (λ found first. refl) e guards
-GuardsHold-event before after (takes_read e) guards = GuardsHold-lock _ _ before after (λ view name first second asked. (asked.lock, asked.names)) e guards
-GuardsHold-event before after (takes_write e) guards = GuardsHold-lock _ _ before after (λ view name first second asked. (asked.lock, asked.names)) e guards
-GuardsHold-event before after (releases e) guards = GuardsHold-lock _ _ before after (λ view name first second asked. (asked.lock, asked.names)) e guards
 
 pub GuardsHold-opening : (c : Config) → GuardsHold (opening c)
 GuardsHold-opening c seat number view [] rest item at pass split later = let lengths = ap length split in absurd (omega arith)
 GuardsHold-opening c seat number view (f ∷ first) rest item at pass split later = let lengths = ap length split in absurd (omega arith)
-
-pub GuardsHold-run : (c : Config) (last : Core) → Run (opening c) last → GuardsHold last
-GuardsHold-run c last begins = GuardsHold-opening c
-GuardsHold-run c last (goes_on {last = middle} run event) = GuardsHold-event middle last event (GuardsHold-run c middle run)
 
 -- ---- what a caller under a lock needs
 
@@ -324,17 +324,49 @@ cut_at : {X : Type 0} (xs : List X) (k : ℕ) (d : X) → k < length xs → xs �
 cut_at xs k d below = sym (set-get_or xs k d) ∙ set_split xs k (slice_index_or xs k d) below
 
 -- a word that a pass has for itself is what it was at the pass's last step
-pub owned-still : (core : Core) (seat number : ℕ) (view : View) (name : Name) → GuardsHold core → IsViewAt core seat view → IsPass view number
-    → IsPrefix view.known core.log → Owns core.config view name → word_of core name ≡ word core.config view.known name
-owned-still core seat number view name guards at pass known owns =
-    let since = known.0 in
-    let none : NoneStores since name = λ k d below names.
-    let item = slice_index_or since k d in
-    let first = view.known ++ take k since in
-    let split : core.log ≡ first ++ item ∷ drop (suc k) since =
-    known.1 ∙ (ap (λ (l : List Item). view.known ++ l) (cut_at since k d below) ∙ sym (append_assoc view.known (take k since) (item ∷ drop (suc k) since)))
-    in
-    let quiet = guards seat number view first (drop (suc k) since) item at pass split (omega (arith, length-append view.known (take k since))) in
-    quiet.others (subst (Owns core.config view) (sym names) owns)
-    in
-    ap (λ (l : List Item). word core.config l name) known.1 ∙ word-none core.config view.known since name none
+module _ (core : Core) (seat number : ℕ) (view : View) (formed : IsFormed core) (guards : GuardsHold core) (at : IsViewAt core seat view) (pass : IsPass view number) where
+  abbrev sound : IsSoundView core.config core.log view
+  sound = formed.views seat view at (unspent_pass view.role number pass)
+
+  -- what came since the pass's last step
+  since_quiet : (early later : List Item) (item : Item) → sound.known.0 ≡ early ++ item ∷ later → IsQuiet core.config view (view.known ++ early) item
+  since_quiet early later item parts =
+      guards seat number view (view.known ++ early) later item at pass
+      (sound.known.1 ∙ (ap (λ (l : List Item). view.known ++ l) parts ∙ sym (append_assoc view.known early (item ∷ later))))
+      (omega (arith, length-append view.known early, own-less view sound.joined))
+
+  pub owned-still : (name : Name) → Owns core.config view name → word_of core name ≡ word core.config view.known name
+  owned-still name owns =
+      let since = sound.known.0 in
+      let none : NoneStores since name = λ k d below names.
+      let item = slice_index_or since k d in
+      let quiet = since_quiet (take k since) (drop (suc k) since) item (cut_at since k d below) in
+      quiet.others (subst (Owns core.config view) (sym names) owns)
+      in
+      ap (λ (l : List Item). word core.config l name) sound.known.1 ∙ word-none core.config view.known since name none
+
+-- what others store while a pass holds the stripe of a live body: none of the words that a creation stores
+module _ (c : Config) (view : View) (i : ℕ) (mode : Mode) (holds : Holds view (stripe_of c i) mode) where
+  pub live-since : (known since : List Item) → ((early later : List Item) (item : Item) → since ≡ early ++ item ∷ later → IsQuiet c view (known ++ early) item)
+      → 256 ≤ word c known (State i) → (name : Name) → IsBodyWord i name → word c (known ++ since) name ≡ word c known name
+  live-since known [] quiet live name of_body = ap (λ (l : List Item). word c l name) (append-nil known)
+  live-since known (item ∷ since) quiet live name of_body =
+      let first : IsQuiet c view known item = subst (λ (l : List Item). IsQuiet c view l item) (append-nil known) (quiet [] since item refl) in
+      let apart : (n : Name) → IsBodyWord i n → item.name ≢ n = λ n own same.
+      let dead = first.body i mode holds (subst (IsBodyWord i) (sym same) own) in
+      absurd (omega arith)
+      in
+      let later : (early rest : List Item) (next : Item) → since ≡ early ++ next ∷ rest → IsQuiet c view ((known ++ item ∷ []) ++ early) next = λ early rest next parts.
+      subst (λ (l : List Item). IsQuiet c view l next) (sym (append_assoc known (item ∷ []) early)) (quiet (item ∷ early) rest next (ap (λ (l : List Item). item ∷ l) parts))
+      in
+      let state = word-other c known item (State i) (apart (State i) refl) in
+      ap (λ (l : List Item). word c l name) (sym (append_assoc known (item ∷ []) since))
+      ∙ (live-since (known ++ item ∷ []) since later (omega arith) name of_body ∙ word-other c known item name (apart name of_body))
+
+-- so the words of a live body stand still for who holds its stripe, in either mode
+pub live-still : (core : Core) (seat number : ℕ) (view : View) (i : ℕ) (mode : Mode) (name : Name) → IsFormed core → GuardsHold core → IsViewAt core seat view → IsPass view number
+    → Holds view (stripe_of core.config i) mode → 256 ≤ word core.config view.known (State i) → IsBodyWord i name → word_of core name ≡ word core.config view.known name
+live-still core seat number view i mode name formed guards at pass holds live of_body =
+    let known = (formed.views seat view at (unspent_pass view.role number pass)).known in
+    ap (λ (l : List Item). word core.config l name) known.1
+    ∙ live-since core.config view i mode holds view.known known.0 (since_quiet core seat number view formed guards at pass) live name of_body

@@ -7,6 +7,8 @@ use Rattle.core_state.specs.Kind.{Kind, Asking, Steps, found_by, learned, log_af
 use Rattle.core_state.specs.Seats.{Visits, Joins}
 use Rattle.core_state.specs.Looking.{look}
 use Rattle.core_state.specs.Locking.{load_lock}
+use Rattle.core_state.specs.Lists.{load_list}
+use Rattle.core_state.specs.Lives.{load_body}
 use Rattle.core_state.specs.Scope.{Scope, IsSameTo, bare_view}
 use Rattle.core_state.specs.Frame.{IsOutside, ReadsNoLog}
 use Rattle.core_state.specs.LocksAgree.{LocksAgreeIn, lock_scope}
@@ -89,3 +91,9 @@ look-plain = record { loads = λ found first. refl; entry = λ view name value. 
 
 pub load_lock-plain : IsPlainLoad load_lock
 load_lock-plain = record { loads = λ found first. refl; entry = λ view name value. refl; leaves = λ view name found first second. refl }
+
+pub load_list-plain : IsPlainLoad load_list
+load_list-plain = record { loads = λ found first. refl; entry = λ view name value. refl; leaves = λ view name found first second. refl }
+
+pub load_body-plain : IsPlainLoad load_body
+load_body-plain = record { loads = λ found first. refl; entry = λ view name value. refl; leaves = λ view name found first second. refl }

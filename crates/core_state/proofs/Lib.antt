@@ -13,3 +13,4 @@ pub mod Guarding
 pub mod Keeping
 pub mod LockBits
 pub mod Beginning
+pub mod Boxes

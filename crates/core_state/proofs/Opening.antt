@@ -168,7 +168,7 @@ NodesInOnePlace-opening c sizes =
       );
       batch_nodes = λ n freed. elim (idle c.nodes n) [ is_free b e ↦ b | is_spare above e ↦ absurd (subst IsFree (sym freed ∙ e) tt) ];
       count = λ quiet. sym (length-range_with_len 0 c.nodes);
-      pool = each_bare s _ refl (λ number pooling. absurd (grind arith));
+      pool = each_bare s _ refl (λ number. tt);
       owned = λ n number. (
         λ own. absurd (idle_not c.nodes n (IsOwnedBy number) (λ h. h) (λ h. h) own),
         λ h. absurd (no_bare s number _ refl (none_in n) h),

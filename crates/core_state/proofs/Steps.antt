@@ -13,7 +13,7 @@ use Rattle.core_state.specs.Core.{Core, word_of, IsViewAt}
 use Rattle.core_state.specs.Operation.{Operation, load, store, exchange, compare_exchange, fetch_add, fetch_min, fetch_max, stores, result_of}
 use Rattle.core_state.specs.Kind.{Kind, Asking, Step, Steps, found_by, left_by, item_of, gained_by, log_after, view_after, after_step}
 use Rattle.core_state.specs.Seats.{Joins, after_split, joined_view, spent_view}
-use Rattle.core_state.specs.Event.{Event, opens_pass, splits_visitor, joins_visitor, looks, loads_lock, takes_read, takes_write, releases, Run, begins, goes_on, ChangesOne}
+use Rattle.core_state.specs.Event.{Event, opens_pass, splits_visitor, joins_visitor, looks, loads_lock, takes_read, takes_write, releases, loads_list, stores_link, stores_head, stores_field, creates, destroys, loads_body, sets_user, Run, begins, goes_on, ChangesOne}
 use Rattle.core_state.proofs.Lookups.{at_bound, at_one, at_longer, set_here, set_else}
 use Rattle.core_state.proofs.Prefixes.{IsPrefix-refl, IsPrefix-trans}
 use Rattle.core_state.proofs.Reading.{word-stored, word-other, words-push, words-named}
@@ -107,6 +107,14 @@ event-prefix before after (loads_lock e) = steps-prefix _ _ before after e
 event-prefix before after (takes_read e) = steps-prefix _ _ before after e
 event-prefix before after (takes_write e) = steps-prefix _ _ before after e
 event-prefix before after (releases e) = steps-prefix _ _ before after e
+event-prefix before after (loads_list e) = steps-prefix _ _ before after e
+event-prefix before after (stores_link e) = steps-prefix _ _ before after e
+event-prefix before after (stores_head e) = steps-prefix _ _ before after e
+event-prefix before after (stores_field e) = steps-prefix _ _ before after e
+event-prefix before after (creates e) = steps-prefix _ _ before after e
+event-prefix before after (destroys e) = steps-prefix _ _ before after e
+event-prefix before after (loads_body e) = steps-prefix _ _ before after e
+event-prefix before after (sets_user e) = steps-prefix _ _ before after e
 
 pub run-prefix : (first last : Core) → Run first last → IsPrefix first.log last.log
 run-prefix first last begins = IsPrefix-refl first.log
@@ -148,3 +156,11 @@ event-one before after (loads_lock e) = steps-one _ _ before after e
 event-one before after (takes_read e) = steps-one _ _ before after e
 event-one before after (takes_write e) = steps-one _ _ before after e
 event-one before after (releases e) = steps-one _ _ before after e
+event-one before after (loads_list e) = steps-one _ _ before after e
+event-one before after (stores_link e) = steps-one _ _ before after e
+event-one before after (stores_head e) = steps-one _ _ before after e
+event-one before after (stores_field e) = steps-one _ _ before after e
+event-one before after (creates e) = steps-one _ _ before after e
+event-one before after (destroys e) = steps-one _ _ before after e
+event-one before after (loads_body e) = steps-one _ _ before after e
+event-one before after (sets_user e) = steps-one _ _ before after e

@@ -1,5 +1,5 @@
 -- The bodies agree: state, phase, layer, user and box words say what the history says, and the free indexes are linked.
-use Rattle.std.specs.Prelude.{◌≡◌, ◌≢◌, ◌↔◌, ℕ, suc, ◌+◌, ◌-◌, ◌<◌, Bool, true, false, List, ◌∷◌, Contains, AllPairs, Some, ⊤, slice_index, IsNone}
+use Rattle.std.specs.Prelude.{◌≡◌, ◌≢◌, ◌↔◌, ℕ, suc, ◌+◌, ◌-◌, ◌^◌, ◌<◌, Bool, true, false, List, ◌∷◌, Contains, AllPairs, Some, ⊤, slice_index, IsNone}
 use Rattle.fixed_box.specs.FixBox.{words_of}
 use Rattle.scene_model.specs.declared.body_view.Phase.TheVariants.{Held}
 use Rattle.scene_model.specs.Scene.{Record, place_at, record_at}
@@ -43,6 +43,7 @@ body_scope = record {
 pub record HasWordsOf (s : Sight) (i : ℕ) (r : Record) : Type 0 where
   pub layer : s.word (Layer i) ≡ r.layer
   pub user : s.word (User i) ≡ r.user
+  pub user_fits : r.user < 2 ^ 32
   pub bounds : HasWholeBox s i → (k : ℕ) → k < 6 → s.word (BoxWord i k) ≡ slice_index (words_of r.bounds) k
   -- a phase that names a slot never stands with an empty one
   pub phase : phase_by (s.word (Phase i)) (s.word (Slot r.layer (s.word (Phase i) - 2))) ≡ Some r.phase

@@ -62,6 +62,8 @@ pub record NotesHold (nodes : Nodes) (s : Sight) (view : View) (r : Rebuild) : T
   pub all_noted : (i : ℕ) → IsOpen s view r i → IsInOldTree nodes s r i → IsNoted r i (λ n. IsAsNoted s n)
   pub still_there : (n : Noted) → Contains r.noted n → IsOpen s view r n.index → LooksAsNoted s n → IsInOldTree nodes s r n.index × IsAsNoted s n
   pub unplaced : (n : Noted) → Contains r.noted n → ¬ Contains r.placed n.index → LooksAsNoted s n → s.word (LocB n.index) ≡ 0
+  -- each body was noted at a place
+  pub located : (n : Noted) → Contains r.noted n → n.location ≢ 0
   -- one that was placed and stands in such a tree has its place in the new one
   pub placed : (i : ℕ) → Contains r.placed i → IsInOldTree nodes s r i → IsNoted r i (λ n. s.word (LocB i) ≡ n.place)
   -- and one that was given up stands in none

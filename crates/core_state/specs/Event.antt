@@ -7,6 +7,8 @@ use Rattle.core_state.specs.Kind.{Steps}
 use Rattle.core_state.specs.Seats.{Opens, Visits, Joins}
 use Rattle.core_state.specs.Looking.{MayLook, look}
 use Rattle.core_state.specs.Locking.{MayLoadLock, load_lock, MayRead, take_read, MayWrite, take_write, MayRelease, release}
+use Rattle.core_state.specs.Lists.{MayLoadList, load_list, MayStoreLink, store_link, MayStoreHead, store_head}
+use Rattle.core_state.specs.Lives.{MayStoreField, store_field, MayCreate, create, MayDestroy, destroy, MayLoadBody, load_body, MaySetUser, set_user}
 
 -- one event leads from the one core to the other; docs/steps.md has the kinds by number
 pub data Event (before after : Core) : Type 0 where
@@ -18,6 +20,14 @@ pub data Event (before after : Core) : Type 0 where
   takes_read : Steps MayRead take_read before after → Event before after
   takes_write : Steps MayWrite take_write before after → Event before after
   releases : Steps MayRelease release before after → Event before after
+  loads_list : Steps MayLoadList load_list before after → Event before after
+  stores_link : Steps MayStoreLink store_link before after → Event before after
+  stores_head : Steps MayStoreHead store_head before after → Event before after
+  stores_field : Steps MayStoreField store_field before after → Event before after
+  creates : Steps MayCreate create before after → Event before after
+  destroys : Steps MayDestroy destroy before after → Event before after
+  loads_body : Steps MayLoadBody load_body before after → Event before after
+  sets_user : Steps MaySetUser set_user before after → Event before after
 
 -- events one after the other
 pub data Run (first : Core) : Core → Type 0 where

@@ -1,7 +1,7 @@
 -- Which lock guards which word, what else a pass has for itself, and what others may have stored meanwhile.
-use Rattle.std.specs.Prelude.{◌≡◌, ◌≢◌, true, ℕ, ◌≤◌, if◌then◌else◌, List, [], ◌∷◌, ◌++◌, length, flat_map, Contains, Option, Some, None, IsNone, ⊤}
+use Rattle.std.specs.Prelude.{◌≡◌, ◌≢◌, true, ℕ, ◌<◌, ◌≤◌, if◌then◌else◌, List, [], ◌∷◌, ◌++◌, length, flat_map, Contains, Option, Some, None, ⊤}
 use Rattle.scene_model.specs.declared.body_view.Phase.TheVariants.{Held}
-use Rattle.scene_model.specs.Scene.{Scene, record_at}
+use Rattle.scene_model.specs.Scene.{Scene}
 use Rattle.scene_model.specs.Step.{HasBody}
 use Rattle.scene_model.specs.History.{scene_after}
 use Rattle.word_map.specs.declared.config.Config.{Config}
@@ -15,8 +15,8 @@ use Rattle.core_state.specs.declared.view.Marked.{Marked}
 use Rattle.core_state.specs.declared.view.Batch.{Batch}
 use Rattle.core_state.specs.declared.view.Rebuild.{Rebuild}
 use Rattle.core_state.specs.declared.view.View.{View}
-use Rattle.core_state.specs.Log.{history}
-use Rattle.core_state.specs.View.{IsPass, Holds}
+use Rattle.core_state.specs.Log.{word, history}
+use Rattle.core_state.specs.View.{IsPass, Holds, own_known}
 use Rattle.core_state.specs.Operation.{stores}
 use Rattle.core_state.specs.Core.{Core, IsViewAt}
 use Rattle.core_state.specs.Nodes.{node_in}
@@ -87,15 +87,15 @@ scene_at c first = scene_after c.bodies (history first)
 pub record IsQuiet (c : Config) (view : View) (first : List Item) (item : Item) : Type 0 where
   -- it stores no word that this pass has for itself
   pub others : ¬ Owns c view item.name
-  -- under the stripe of an index it stores words of the body only while none is live there
-  pub body : (i : ℕ) (mode : Mode) → Holds view (stripe_of c i) mode → IsBodyWord i item.name → IsNone (record_at (scene_at c first) i)
+  -- under the stripe of an index it stores words of the body only while the state word says that none is live there
+  pub body : (i : ℕ) (mode : Mode) → Holds view (stripe_of c i) mode → IsBodyWord i item.name → word c first (State i) < 256
   -- and its first location only while a batch holds the body
   pub location : (i : ℕ) (mode : Mode) → Holds view (stripe_of c i) mode → item.name ≡ LocA i → HasBody (scene_at c first) i (λ r. r.phase ≡ Held)
 
--- so it has been since the last step of each pass
+-- so it has been since the last step of each pass of its own
 abbrev pub GuardsHold : Core → Type 0
 GuardsHold core = (seat number : ℕ) (view : View) (first rest : List Item) (item : Item) → IsViewAt core seat view → IsPass view number
-    → core.log ≡ first ++ item ∷ rest → length view.known ≤ length first → IsQuiet core.config view first item
+    → core.log ≡ first ++ item ∷ rest → length (own_known view) ≤ length first → IsQuiet core.config view first item
 
 -- what a kind of step owes for this: where it stores a value, it is so for every other pass
 abbrev pub KeepsGuards : Kind → Core → Step → Type 0

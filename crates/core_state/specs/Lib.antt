@@ -7,9 +7,12 @@ pub mod Kind
 pub mod Seats
 pub mod Looking
 pub mod Locking
+pub mod Encoding
+pub mod Boxes
+pub mod Lists
+pub mod Lives
 pub mod Event
 pub mod Formed
-pub mod Encoding
 pub mod Nodes
 pub mod Scope
 pub mod Frame

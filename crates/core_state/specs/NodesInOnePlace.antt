@@ -1,10 +1,12 @@
 -- Each node is in one place: free, owned by one pass, in a published tree, superseded, or spare.
-use Rattle.std.specs.Prelude.{◌≡◌, ◌≢◌, ◌↔◌, ℕ, suc, ◌-◌, ◌<◌, ◌≤◌, Bool, true, false, if◌then◌else◌, List, length, Contains, IsSome, IfSome, IsNone}
+use Rattle.std.specs.Prelude.{◌≡◌, ◌≢◌, ◌↔◌, ℕ, suc, ◌+◌, ◌-◌, ◌<◌, ◌≤◌, Bool, true, false, if◌then◌else◌, List, length, Contains, IsSome, IfSome, IsNone, ⊤}
 use Rattle.word_map.specs.declared.name.Name.{Name}
 use Rattle.word_map.specs.declared.name.Name.TheVariants.{PoolHead, PoolNext, PoolFree, Main, Slot, Update, Arena}
 use Rattle.word_map.specs.Names.{node_count, pool_lock}
 use Rattle.core_state.specs.declared.view.Mode.TheVariants.{Write}
+use Rattle.core_state.specs.declared.view.Task.{Task}
 use Rattle.core_state.specs.declared.view.Task.TheVariants.{Pooling}
+use Rattle.core_state.specs.declared.view.View.{View}
 use Rattle.core_state.specs.declared.view.Rebuild.{Rebuild}
 use Rattle.core_state.specs.declared.view.Batch.{Batch}
 use Rattle.core_state.specs.View.{Holds}
@@ -39,6 +41,16 @@ IsArenaUnread s = EachUpdate s (λ number view r. IsNone r.arena)
 abbrev pub NamesArena : Sight → Rebuild → Type 0
 NamesArena s r = IfSome r.arena (λ old. (old < 2) × (s.word Arena ≡ (if r.is_switched then 1 - old else old)))
 
+-- the pass is changing the pool
+abbrev pub IsPooling : Task → Type 0
+IsPooling (Pooling taken given) = ⊤
+IsPooling _ = ⊥
+
+-- it does so under the pool's lock, and the count differs from the number of free nodes by what it took and gave
+abbrev pub PoolsUnder : Sight → View → Task → ℕ → Type 0
+PoolsUnder s view (Pooling taken given) many = Holds view (pool_lock s.config) Write × (s.word PoolFree + given ≡ many + taken)
+PoolsUnder s view _ many = ⊤
+
 pub record NodesInOnePlaceIn (nodes : Nodes) (s : Sight) : Type 0 where
   -- a node has one home; only nodes of the world are in use, and only those of arenas are spare
   pub in_use : (n : ℕ) → node_count s.config ≤ n → nodes.home n ≡ spare
@@ -49,9 +61,9 @@ pub record NodesInOnePlaceIn (nodes : Nodes) (s : Sight) : Type 0 where
   pub once : IsOnce chain
   pub free_nodes : (n : ℕ) → Contains chain n ↔ (nodes.home n ≡ free)
   pub batch_nodes : (n : ℕ) → nodes.home n ≡ free → n < s.config.nodes
-  -- its count; while a pass that holds the pool's lock has stored a link and not the count, that may be another
-  pub count : EachPass s (λ number view. view.call.task ≢ Pooling) → s.word PoolFree ≡ length chain
-  pub pool : EachPass s (λ number view. view.call.task ≡ Pooling → Holds view (pool_lock s.config) Write)
+  -- its count; while a pass that holds the pool's lock has taken nodes off or put nodes on since, that is another
+  pub count : EachPass s (λ number view. ¬ IsPooling view.call.task) → s.word PoolFree ≡ length chain
+  pub pool : EachPass s (λ number view. PoolsUnder s view view.call.task (length chain))
   -- a pass owns the nodes of its batches and those that it is to give back, which are batch nodes, and those of its update
   pub owned : (n number : ℕ) → IsOwnedBy number (nodes.home n) ↔ HasPass s number (λ view. Contains (nodes_of view) n)
   pub owned_once : EachPass s (λ number view. IsOnce (nodes_of view))

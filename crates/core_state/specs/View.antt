@@ -9,7 +9,11 @@ use Rattle.core_state.specs.declared.view.LockStep.TheVariants.{Taken, Released}
 use Rattle.core_state.specs.declared.view.Task.TheVariants.{Nothing}
 use Rattle.core_state.specs.declared.view.Walk.{Walk}
 use Rattle.core_state.specs.declared.view.Call.{Call}
+use Rattle.core_state.specs.declared.item.Item.{Item}
+use Rattle.core_state.specs.declared.view.Joined.{Joined}
 use Rattle.core_state.specs.declared.view.View.{View}
+use Rattle.word_map.specs.declared.name.Name.{Name}
+use Rattle.core_state.specs.Log.{word}
 
 -- the number of the pass whose view it is; a visitor and a spent view have none
 abbrev pub number_in : Role → Option ℕ
@@ -39,6 +43,18 @@ Holds view lock mode = mode_of view.locks lock ≡ Some mode
 -- the pass does not hold it
 abbrev pub HoldsNot : View → ℕ → Type 0
 HoldsNot view lock = mode_of view.locks lock ≡ None
+
+-- what the pass knew by its own last step: while it meets another, what it knew before
+abbrev pub known_alone : Option Joined → List Item → List Item
+known_alone None known = known
+known_alone (Some joined) known = joined.own
+
+abbrev pub own_known : View → List Item
+own_known view = known_alone view.joined view.known
+
+-- a word as the pass knows it
+abbrev pub known_word : View → Name → ℕ
+known_word view name = word view.config view.known name
 
 -- no walk yet, and nothing under way under a lock
 abbrev pub no_walk : Walk

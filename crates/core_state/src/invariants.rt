@@ -7,8 +7,10 @@ ghost use Rattle.fixed_box.specs.declared.shape.Shape.TheVariants.{Box};
 ghost use Rattle.scene_model.specs.History.{IsDue};
 ghost use Rattle.word_map.specs.declared.config.Config.{Config};
 ghost use Rattle.word_map.specs.declared.name.Name.{Name};
-ghost use Rattle.word_map.specs.declared.name.Name.TheVariants.{Lock};
+ghost use Rattle.word_map.specs.declared.name.Name.TheVariants.{Lock, State};
 ghost use Rattle.word_map.specs.Limits.{IsConfig};
+ghost use Rattle.word_map.specs.Names.{stripe_of};
+ghost use Rattle.core_state.specs.declared.view.Mode.{Mode};
 ghost use Rattle.core_state.specs.declared.view.Mode.TheVariants.{Read, Write};
 ghost use Rattle.core_state.specs.declared.view.Walk.{Walk};
 ghost use Rattle.core_state.specs.declared.view.View.{View};
@@ -19,7 +21,8 @@ ghost use Rattle.core_state.specs.Kind.{Kind, Step, Steps, after_step};
 ghost use Rattle.core_state.specs.Seats.{Visits, Joins};
 ghost use Rattle.core_state.specs.Looking.{MayLook, look};
 ghost use Rattle.core_state.specs.Locking.{MayLoadLock, load_lock};
-ghost use Rattle.core_state.specs.Event.{Event, Run};
+ghost use Rattle.core_state.specs.Lists.{MayLoadList, load_list};
+ghost use Rattle.core_state.specs.Lives.{MayLoadBody, load_body};
 ghost use Rattle.core_state.specs.Formed.{IsFormed};
 ghost use Rattle.core_state.specs.Nodes.{Nodes};
 ghost use Rattle.core_state.specs.Space.{HadSince};
@@ -36,7 +39,7 @@ ghost use Rattle.core_state.specs.WalksLead.{WalksLead, IsAhead, since_begun, wa
 ghost use Rattle.core_state.specs.ReadersCounted.{ReadersCounted, reader_scope};
 ghost use Rattle.core_state.specs.Invariants.{Invariants};
 ghost use Rattle.core_state.specs.Unseen.{IsUnseen};
-ghost use Rattle.core_state.specs.Guards.{Owns, KeepsGuards, GuardsHold};
+ghost use Rattle.core_state.specs.Guards.{Owns, IsBodyWord, KeepsGuards, GuardsHold};
 ghost use Rattle.core_state.specs.Broken.{bit_of_nobody, body_of_nothing, miscounted_pool, endless_tree, body_without_entry, body_without_location, walk_past_a_body, uncounted_reader};
 
 /// A world of any sizes within the limits opens with all invariants.
@@ -66,14 +69,16 @@ pub fn steps_outside_a_scope_are_not_seen()
     ensures joins { (scope : Scope) (before after : Core) → ReadsNoLog scope → Joins before after → IsSameTo scope before after }
 {}
 
-/// Events that no invariant sees keep all of them: so do the splitting and joining of a visitor, a look, and the load
-/// of a lock word.
+/// Events that no invariant sees keep all of them: so do the splitting and joining of a visitor, a look, and the loads
+/// of a lock word, of a word of a list and of a word of a body.
 pub fn unseen_events_keep_all()
     ensures unseen { (before after : Core) → IsUnseen before after → Invariants before → Invariants after }
     ensures visits { (before after : Core) → Visits before after → Invariants before → Invariants after }
     ensures joins { (before after : Core) → Joins before after → Invariants before → Invariants after }
     ensures looks { (before after : Core) → Steps MayLook look before after → Invariants before → Invariants after }
     ensures loads { (before after : Core) → Steps MayLoadLock load_lock before after → Invariants before → Invariants after }
+    ensures lists { (before after : Core) → Steps MayLoadList load_list before after → Invariants before → Invariants after }
+    ensures bodies { (before after : Core) → Steps MayLoadBody load_body before after → Invariants before → Invariants after }
 {}
 
 /// Bit p of a lock word is set exactly where pass p holds the lock to read, bit 32 + p exactly where it holds it to
@@ -86,16 +91,17 @@ pub fn lock_words_have_the_bits_of_holders()
 {}
 
 /// Who writes under a lock holds it alone. What a pass has for itself, by a lock that it holds or otherwise, stands
-/// still from its last step on.
+/// still from its last step on; so do the words of a live body whose stripe it holds, be it to read.
 pub fn owned_words_stand_still()
     ensures alone { (core : Core) (lock seat other number second : ℕ) (view view_of_other : View) → LocksAgree core → IsViewAt core seat view → IsPass view number
         → Holds view lock Write → other ≢ seat → IsViewAt core other view_of_other → IsPass view_of_other second → HoldsNot view_of_other lock }
     ensures step { (kind : Kind) (core : Core) (step : Step) → IsViewAt core step.seat step.view → KeepsGuards kind core step → GuardsHold core
         → GuardsHold (after_step kind core step) }
-    ensures event { (before after : Core) → Event before after → GuardsHold before → GuardsHold after }
-    ensures run { (c : Config) (last : Core) → Run (opening c) last → GuardsHold last }
-    ensures still { (core : Core) (seat number : ℕ) (view : View) (name : Name) → GuardsHold core → IsViewAt core seat view → IsPass view number
-        → IsPrefix view.known core.log → Owns core.config view name → word_of core name ≡ word core.config view.known name }
+    ensures still { (core : Core) (seat number : ℕ) (view : View) (name : Name) → IsFormed core → GuardsHold core → IsViewAt core seat view → IsPass view number
+        → Owns core.config view name → word_of core name ≡ word core.config view.known name }
+    ensures live { (core : Core) (seat number : ℕ) (view : View) (i : ℕ) (mode : Mode) (name : Name) → IsFormed core → GuardsHold core → IsViewAt core seat view → IsPass view number
+        → Holds view (stripe_of core.config i) mode → 256 ≤ word core.config view.known (State i) → IsBodyWord i name
+        → word_of core name ≡ word core.config view.known name }
 {}
 
 /// Together they let a walk begin at any moment: each body that it has to find is then ahead of it, in a tree that some

@@ -1,5 +1,7 @@
 //! What follows from the definitions of the core, as the layers above use it. No call here does anything.
-ghost use Rattle.std.specs.Prelude.{◌≡◌, ◌≢◌, ◌⊎◌, ◌^◌, ◌<◌, ◌++◌, [], ◌∷◌, ℕ, List, length, slice_index_or, slice_set};
+ghost use Rattle.std.specs.Prelude.{◌≡◌, ◌≢◌, ◌⊎◌, ◌^◌, ◌<◌, ◌++◌, [], ◌∷◌, ℕ, List, length, slice_index, slice_index_or, slice_set, Some};
+ghost use Rattle.fixed_box.specs.FixBox.{words_of};
+ghost use Rattle.fixed_box.specs.declared.fix_box.FixBox.{FixBox};
 ghost use Rattle.word_map.specs.declared.config.Config.{Config};
 ghost use Rattle.word_map.specs.declared.name.Name.{Name};
 ghost use Rattle.word_map.specs.Limits.{IsConfig};
@@ -13,6 +15,8 @@ ghost use Rattle.core_state.specs.Core.{Core, word_of, IsViewAt, opening};
 ghost use Rattle.core_state.specs.Kind.{Kind, Step, left_by, log_after, view_after, after_step};
 ghost use Rattle.core_state.specs.Event.{Event, Run, ChangesOne};
 ghost use Rattle.core_state.specs.Formed.{IsFormed};
+ghost use Rattle.core_state.specs.Encoding.{Sides};
+ghost use Rattle.core_state.specs.Boxes.{box_of};
 
 /// A word is read off the log: by the name that a step stored, by another name, and where none of some steps stored
 /// it. So it is the opening word, or what the last step that stored it left there.
@@ -60,4 +64,9 @@ pub fn runs_keep_the_form()
     ensures known { (c : Config) (last : Core) (seat : ℕ) (view : View) → IsConfig c → Run (opening c) last → IsViewAt last seat view
         → view.role ≢ Spent → IsPrefix view.known last.log }
     ensures fits { (c : Config) (last : Core) (name : Name) → IsConfig c → Run (opening c) last → IsName last.config name → word_of last name < 2 ^ 64 }
+{}
+
+/// The six words of a box tell it: no others do, and they are those of no other box.
+pub fn words_tell_boxes()
+    ensures { (b : FixBox) (sides : Sides) → ((k : ℕ) → k < 6 → sides k ≡ slice_index (words_of b) k) → box_of sides ≡ Some b }
 {}

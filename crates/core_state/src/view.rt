@@ -51,8 +51,8 @@ pub enum Task {
     Creating { index: u32 },
     /// The index was put on the list of free ones, and its body is not destroyed yet.
     Destroying { index: u32 },
-    /// A link of the pool of batch nodes was stored, and its count was not.
-    Pooling,
+    /// So many nodes were taken off the pool of free batch nodes, and so many put on it, since its count was stored.
+    Pooling { taken: u32, given: u32 },
     /// The body is to have the box of these six words.
     Moving { index: u32, target: LinkedList<u64> },
     /// The body is out of the broad phase, and its places in trees are not all cleared.

@@ -2,6 +2,7 @@
 use Rattle.std.proofs.Common.{◌≡◌, ◌≢◌, ℕ, ◌<◌, List, ◌∷◌, ◌++◌, append_assoc, refl, ap, sym, ◌∙◌, subst, arith}
 use Rattle.std.specs.Prelude.{All, slice_set, slice_index}
 use Rattle.std.proofs.lemmas.List.{length-append}
+use Rattle.std.proofs.lemmas.List.Elements.{All-head}
 use mathlib.Core.Option.{none}
 use Rattle.atomic_table.specs.Table.{Me, Allows, step, keeps}
 use Rattle.atomic_table.specs.Seated.{TableId}
@@ -13,7 +14,7 @@ use Rattle.core_state.specs.declared.item.Item.{Item}
 use Rattle.core_state.specs.declared.view.Role.TheVariants.{Pass}
 use Rattle.core_state.specs.declared.view.View.{View}
 use Rattle.core_state.specs.Log.{words}
-use Rattle.core_state.specs.View.{IsPass}
+use Rattle.core_state.specs.View.{own_known, IsPass}
 use Rattle.core_state.specs.Core.{Core}
 use Rattle.core_state.specs.Kind.{Kind, Asking, Steps, IsAllowed, found_by, left_by, log_after, view_after, after_step}
 use Rattle.core_state.specs.Operation.{result_of}
@@ -22,8 +23,9 @@ use Rattle.core_state.proofs.Forming.{pass_role, unspent_pass}
 use Rattle.core_state.proofs.Reading.{words-at}
 use Rattle.core_state.proofs.Steps.{words-step}
 use Rattle.pass_table.specs.Standing.{HasNumber, AreForeign, Stands, core_of, IsRuled}
-use Rattle.pass_table.specs.Stepping.{step_by, Stepped, told, MayStep}
-use Rattle.pass_table.proofs.Keeping.{Stands-event}
+use Rattle.pass_table.specs.Stepping.{step_by, Stepped, told, told_of_store, MayStep}
+use Rattle.core_state.proofs.Guarding.{own-less}
+use Rattle.pass_table.proofs.Keeping.{All-second, own_prefix, known-longer, Stands-event}
 
 -- who has a number is no other than its pass
 foreign-others : (view : View) (number : ℕ) (items : List Item) → IsPass view number → AreForeign view.role items → All (λ (item : Item). item.pass ≢ number) items
@@ -43,6 +45,9 @@ module _ (asks : Asking) (kind : Kind) (event : (before after : Core) → Steps 
   stepped-by core seat number view name first second stands allowed =
       let made = step_by seat view number name first second in
       let sound = stands.formed.views seat view allowed.at (unspent_pass view.role number allowed.pass) in
+      let own-all : (since : List Item) → core.log ≡ own_known view ++ since → AreForeign view.role since = λ since e. stands.own seat view since allowed.at e in
+      let own-later : (since : List Item) → core.log ≡ view.known ++ since → AreForeign view.role since = λ since e.
+      known-longer view.role core.log (own_known view) view.known since (own_prefix view.joined view.known sound.joined) e own-all in
       record {
         before = core;
         seat = seat;
@@ -51,12 +56,17 @@ module _ (asks : Asking) (kind : Kind) (event : (before after : Core) → Steps 
         stands = stands;
         allowed = allowed;
         learns = sound.known.1;
-        foreign = foreign-others view number sound.known.0 allowed.pass (stands.own seat view sound.known.0 allowed.at sound.known.1);
+        foreign = foreign-others view number sound.known.0 allowed.pass (own-later sound.known.0 sound.known.1);
         quiet = λ early later item parts.
             let split : core.log ≡ (view.known ++ early) ++ item ∷ later =
             sound.known.1 ∙ (ap (λ (l : List Item). view.known ++ l) parts ∙ sym (append_assoc view.known early (item ∷ later)))
             in
-            stands.guards seat number view (view.known ++ early) later item allowed.at allowed.pass split (omega (arith, length-append view.known early));
+            stands.guards seat number view (view.known ++ early) later item allowed.at allowed.pass split (omega (arith, length-append view.known early, own-less view sound.joined));
+        alone = λ early later item split.
+            let all = own-all (early ++ item ∷ later) (split ∙ append_assoc (own_known view) early (item ∷ later)) in (
+              All-head (λ (i : Item). i.pass ≢ number) item later (All-second (λ (i : Item). i.pass ≢ number) early (item ∷ later) (foreign-others view number (early ++ item ∷ later) allowed.pass all)),
+              stands.guards seat number view (own_known view ++ early) later item allowed.at allowed.pass split (omega (arith, length-append (own_known view) early)),
+            );
         finds = refl;
         leaves = refl;
         still_stands = Stands-event core (after_step kind core made) (event core (after_step kind core made) (record { step = made; allowed = allowed; result = refl })) stands;
@@ -90,3 +100,9 @@ module _ (asks : Asking) (kind : Kind) (event : (before after : Core) → Steps 
                 (subst (λ (d : Config). Stepped asks kind me.0 (name_of d place) first second (found_by core made) (view_after kind core made)) (sym may.sizes) tells),
           ),
         )
+
+    -- and so it allows a store, which is not told what it found
+    pub allows-store : Allows (IsRuled {S = S} c) table.slots id me place f (λ said. told_of_store asks kind (step table.slots place first second none) me)
+    allows-store s ruled homes at fits =
+        let t = allows s ruled homes at fits in
+        (t.0, t.1, t.2, t.3, (slice_index s.words place, t.4))

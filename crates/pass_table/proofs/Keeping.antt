@@ -1,6 +1,6 @@
 -- Every event keeps what stands.
-use Rattle.std.proofs.Common.{◌≡◌, ◌≢◌, ◌⊎◌, ℕ, suc, List, [], ◌∷◌, ◌++◌, Some, length, set, append_assoc, refl, ap, sym, ◌∙◌, subst, inl, inr, arith}
-use Rattle.std.specs.Prelude.{All}
+use Rattle.std.proofs.Common.{◌≡◌, ◌≢◌, ◌⊎◌, ℕ, suc, List, [], ◌∷◌, ◌++◌, Option, Some, None, length, set, append_assoc, refl, ap, sym, ◌∙◌, subst, inl, inr, arith}
+use Rattle.std.specs.Prelude.{All, IfSome}
 use Rattle.std.proofs.lemmas.List.{append_cancel_left, length-append}
 use Rattle.std.proofs.lemmas.List.Elements.{All-nil, All-cons, All-tail, All-append}
 use Rattle.word_map.specs.declared.config.Config.{Config}
@@ -8,25 +8,26 @@ use Rattle.word_map.specs.Limits.{IsConfig}
 use Rattle.core_state.specs.declared.item.Item.{Item}
 use Rattle.core_state.specs.declared.view.Role.{Role}
 use Rattle.core_state.specs.declared.view.Role.TheVariants.{Pass, Visitor, Spent}
+use Rattle.core_state.specs.declared.view.Joined.{Joined}
 use Rattle.core_state.specs.declared.view.View.{View}
 use Rattle.core_state.specs.Log.{IsPrefix}
-use Rattle.core_state.specs.View.{number_in, IsPass}
+use Rattle.core_state.specs.View.{known_alone, own_known, number_in, IsPass}
 use Rattle.core_state.specs.Core.{Core, IsViewAt, opening}
 use Rattle.core_state.specs.Kind.{Kind, Asking, Step, Steps, left_by, item_of, gained_by, view_after, after_step}
 use Rattle.core_state.specs.Seats.{Opens, Visits, Joins, after_split, visitor_of, joined_view, spent_view}
-use Rattle.core_state.specs.Event.{Event, opens_pass, splits_visitor, joins_visitor, looks, loads_lock, takes_read, takes_write, releases}
-use Rattle.core_state.specs.Formed.{AreApart, IsFormed}
+use Rattle.core_state.specs.Event.{Event, opens_pass, splits_visitor, joins_visitor, looks, loads_lock, takes_read, takes_write, releases, loads_list, stores_link, stores_head, stores_field, creates, destroys, loads_body, sets_user}
+use Rattle.core_state.specs.Formed.{AreApart, IsSoundView, IsFormed}
 use Rattle.core_state.proofs.Lookups.{at_set}
-use Rattle.core_state.proofs.Prefixes.{longer-covers}
+use Rattle.core_state.proofs.Prefixes.{IsPrefix-refl, IsPrefix-trans}
 use Rattle.core_state.proofs.Steps.{gains, nothing, its_item}
 use Rattle.core_state.proofs.Forming.{pass_role, unspent_pass, is_left, is_right, is_other, at_split, is_spent, is_joined, is_old, at_join, IsFormed-event, IsFormed-opening}
-use Rattle.core_state.proofs.Guarding.{GuardsHold-event, GuardsHold-opening}
+use Rattle.core_state.proofs.Guarding.{GuardsHold-opening}
 use Rattle.core_state.proofs.Opening.{Invariants-opening}
-use Rattle.core_guard.proofs.Keeping.{Invariants-event}
+use Rattle.core_guard.proofs.Events.{Invariants-event, GuardsHold-event}
 use Rattle.pass_table.specs.Standing.{HasNumber, AreForeign, OwnAreKnown, Stands}
 
 -- what holds of all of two lists holds of all of the second
-All-second : {X : Type 0} (P : X → Type 0) (xs ys : List X) → All P (xs ++ ys) → All P ys
+pub All-second : {X : Type 0} (P : X → Type 0) (xs ys : List X) → All P (xs ++ ys) → All P ys
 All-second P [] ys h = h
 All-second P (x ∷ xs) ys h = All-second P xs ys (All-tail P x (xs ++ ys) h)
 
@@ -66,6 +67,14 @@ unspent_cases (Pass number further) = inr (unspent_pass (Pass number further) nu
 unspent_cases Visitor = inr (λ e. absurd (grind arith))
 unspent_cases Spent = inl refl
 
+-- what a pass knew by itself is a first part of the log
+pub own_prefix : (o : Option Joined) (known : List Item) → IfSome o (λ j. IsPrefix j.own known × IsPrefix j.other known) → IsPrefix (known_alone o known) known
+own_prefix None known h = IsPrefix-refl known
+own_prefix (Some j) known h = h.0
+
+pub own-prefix : (c : Config) (log : List Item) (view : View) → IsSoundView c log view → IsPrefix (own_known view) log
+own-prefix c log view sound = IsPrefix-trans (own_known view) view.known log (own_prefix view.joined view.known sound.joined) sound.known
+
 -- ---- a step
 
 module _ (kind : Kind) (core : Core) (step : Step) (at : IsViewAt core step.seat step.view) (pass : IsPass step.view step.number) (formed : IsFormed core) (own : OwnAreKnown core) where
@@ -83,20 +92,20 @@ module _ (kind : Kind) (core : Core) (step : Step) (at : IsViewAt core step.seat
       ]
 
   others-foreign : (seat : ℕ) (view : View) (since : List Item) → seat ≢ step.seat → IsViewAt core seat view
-      → core.log ++ gained_by kind core step ≡ view.known ++ since → AreForeign view.role since
+      → core.log ++ gained_by kind core step ≡ own_known view ++ since → AreForeign view.role since
   others-foreign seat view since other at_view e =
       elim (unspent_cases view.role) [
         | inl spent ↦ subst (λ (r : Role). AreForeign r since) (sym spent) (spent-foreign since)
         | inr unspent ↦
-            let known = (formed.views seat view at_view unspent).known in
-            subst (AreForeign view.role) (since-parts view.known since core.log (gained_by kind core step) known.0 known.1 e)
+            let known = own-prefix core.config core.log view (formed.views seat view at_view unspent) in
+            subst (AreForeign view.role) (since-parts (own_known view) since core.log (gained_by kind core step) known.0 known.1 e)
             (All-append (λ (item : Item). ¬ HasNumber view.role item.pass) known.0 (gained_by kind core step) (own seat view known.0 at_view known.1) (gained-foreign seat view other at_view))
       ]
 
   pub OwnAreKnown-step : OwnAreKnown (after_step kind core step)
   OwnAreKnown-step seat view since at_view e =
       elim (at_set core.views step.seat seat (view_after kind core step) view at_view) [
-        | inl t ↦ foreign-none view.role (after_step kind core step).log since (e ∙ ap (λ (v : View). v.known ++ since) (sym t.1))
+        | inl t ↦ foreign-none view.role (after_step kind core step).log since (e ∙ ap (λ (v : View). own_known v ++ since) (sym t.1))
         | inr t ↦ others-foreign seat view since t.0 t.1 e
       ]
 
@@ -106,8 +115,8 @@ OwnAreKnown-steps asks kind before after steps formed own =
 
 -- ---- seats
 
-OwnAreKnown-split : (core : Core) (cut : ℕ) (left right : View) → ((since : List Item) → core.log ≡ left.known ++ since → AreForeign left.role since)
-    → ((since : List Item) → core.log ≡ right.known ++ since → AreForeign right.role since) → OwnAreKnown core → OwnAreKnown (after_split core cut left right)
+OwnAreKnown-split : (core : Core) (cut : ℕ) (left right : View) → ((since : List Item) → core.log ≡ own_known left ++ since → AreForeign left.role since)
+    → ((since : List Item) → core.log ≡ own_known right ++ since → AreForeign right.role since) → OwnAreKnown core → OwnAreKnown (after_split core cut left right)
 OwnAreKnown-split core cut left right own_left own_right own seat view since at e =
     elim (at_split core cut left right seat view at) [
       | is_left p same ↦ subst Told same own_left since e
@@ -116,7 +125,7 @@ OwnAreKnown-split core cut left right own_left own_right own seat view since at 
     ]
   where
     Told : View → Type 0
-    Told v = (since : List Item) → core.log ≡ v.known ++ since → AreForeign v.role since
+    Told v = (since : List Item) → core.log ≡ own_known v ++ since → AreForeign v.role since
 
 OwnAreKnown-opens : (before after : Core) → Opens before after → OwnAreKnown before → OwnAreKnown after
 OwnAreKnown-opens before after opens own =
@@ -133,7 +142,7 @@ OwnAreKnown-visits before after visits own =
     (OwnAreKnown-split before visits.seat visits.view (visitor_of visits.view) (λ since e. own visits.seat visits.view since visits.at e) (λ since e. visitor-foreign since) own)
 
 -- a pass that knows more has less that it does not know
-known-longer : (role : Role) (log short long since : List Item) → IsPrefix short long → log ≡ long ++ since
+pub known-longer : (role : Role) (log short long since : List Item) → IsPrefix short long → log ≡ long ++ since
     → ((rest : List Item) → log ≡ short ++ rest → AreForeign role rest) → AreForeign role since
 known-longer role log short long since more e own =
     let all = own (more.0 ++ since) (e ∙ (ap (λ (l : List Item). l ++ since) more.1 ∙ append_assoc short more.0 since)) in
@@ -154,16 +163,13 @@ OwnAreKnown-joins before after joins formed own = subst OwnAreKnown (sym joins.r
     core : Core
     core = record before { views = set (set before.views joins.seat (joined_view joins.view joins.visitor)) joins.other spent_view }
 
-    more : IsPrefix view.known joined.known
-    more =
-        (longer-covers view.known joins.visitor.known log (formed.views joins.seat view joins.at (unspent_pass view.role joins.number joins.pass)).known
-        (formed.views joins.other joins.visitor joins.other_at (λ spent. absurd (grind (arith, joins.visits, spent)))).known).1
-
     Told : View → Type 0
-    Told v = (since : List Item) → before.log ≡ v.known ++ since → AreForeign v.role since
+    Told v = (since : List Item) → before.log ≡ own_known v ++ since → AreForeign v.role since
 
     knows : Told joined
-    knows since e = known-longer view.role log view.known joined.known since more e (λ rest f. own joins.seat view rest joins.at f)
+    knows since e =
+        known-longer view.role log (own_known view) view.known since
+        (own_prefix view.joined view.known (formed.views joins.seat view joins.at (unspent_pass view.role joins.number joins.pass)).joined) e (λ rest f. own joins.seat view rest joins.at f)
 
     go : OwnAreKnown core
     go seat u since at e =
@@ -184,12 +190,20 @@ OwnAreKnown-event before after (loads_lock e) formed own = OwnAreKnown-steps _ _
 OwnAreKnown-event before after (takes_read e) formed own = OwnAreKnown-steps _ _ before after e formed own
 OwnAreKnown-event before after (takes_write e) formed own = OwnAreKnown-steps _ _ before after e formed own
 OwnAreKnown-event before after (releases e) formed own = OwnAreKnown-steps _ _ before after e formed own
+OwnAreKnown-event before after (loads_list e) formed own = OwnAreKnown-steps _ _ before after e formed own
+OwnAreKnown-event before after (stores_link e) formed own = OwnAreKnown-steps _ _ before after e formed own
+OwnAreKnown-event before after (stores_head e) formed own = OwnAreKnown-steps _ _ before after e formed own
+OwnAreKnown-event before after (stores_field e) formed own = OwnAreKnown-steps _ _ before after e formed own
+OwnAreKnown-event before after (creates e) formed own = OwnAreKnown-steps _ _ before after e formed own
+OwnAreKnown-event before after (destroys e) formed own = OwnAreKnown-steps _ _ before after e formed own
+OwnAreKnown-event before after (loads_body e) formed own = OwnAreKnown-steps _ _ before after e formed own
+OwnAreKnown-event before after (sets_user e) formed own = OwnAreKnown-steps _ _ before after e formed own
 
 pub Stands-event : (before after : Core) → Event before after → Stands before → Stands after
 Stands-event before after event stands = record {
   formed = IsFormed-event before after event stands.formed;
-  laws = Invariants-event before after event stands.formed stands.laws;
-  guards = GuardsHold-event before after event stands.guards;
+  laws = Invariants-event before after event stands.formed stands.guards stands.laws;
+  guards = GuardsHold-event before after event stands.formed stands.laws stands.guards;
   own = OwnAreKnown-event before after event stands.formed stands.own;
 }
 
@@ -198,7 +212,7 @@ Stands-opening c sizes = record {
   formed = IsFormed-opening c sizes;
   laws = Invariants-opening c sizes;
   guards = GuardsHold-opening c;
-  own = λ seat view since at e. nothing_since view.role view.known since (sym e);
+  own = λ seat view since at e. nothing_since view.role (own_known view) since (sym e);
 }
   where
     nothing_since : (role : Role) (known since : List Item) → known ++ since ≡ [] → AreForeign role since

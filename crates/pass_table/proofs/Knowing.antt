@@ -1,6 +1,10 @@
 -- What a pass knows after a step.
-use Rattle.std.proofs.Common.{◌≡◌, ℕ, List, ◌++◌, None, append_assoc, ap, sym, ◌∙◌, refl}
+use Rattle.std.proofs.Common.{◌≡◌, ◌≢◌, ℕ, List, ◌∷◌, ◌++◌, false, None, subst, append_assoc, ap, sym, ◌∙◌, refl}
+use Rattle.std.specs.Prelude.{All}
 use Rattle.std.proofs.lemmas.List.{append-nil}
+use Rattle.std.proofs.lemmas.List.Elements.{All-head}
+use Rattle.std.proofs.lemmas.Option.{same_Some}
+use Rattle.word_map.specs.declared.config.Config.{Config}
 use Rattle.word_map.specs.declared.name.Name.{Name}
 use Rattle.word_map.specs.declared.name.Name.TheVariants.{Update}
 use Rattle.core_state.specs.declared.item.Item.{Item}
@@ -12,7 +16,12 @@ use Rattle.core_state.specs.Kind.{Kind, Asking, Step, learned, found_by, gained_
 use Rattle.core_state.proofs.Prefixes.{IsPrefix-trans}
 use Rattle.core_state.proofs.Forming.{unspent_pass}
 use Rattle.pass_table.specs.Stepping.{step_by, Stepped}
-use Rattle.pass_table.specs.Knowing.{KnowsMore, Looked, MeetsWith}
+use Rattle.core_state.specs.Guards.{IsQuiet}
+use Rattle.core_state.specs.Operation.{stores}
+use Rattle.core_state.proofs.Guarding.{joined-unquiet}
+use Rattle.core_state.proofs.Steps.{gained-unstored}
+use Rattle.pass_table.specs.Knowing.{IsOthers, KnowsMore, Looked, MeetsWith}
+use Rattle.pass_table.proofs.Keeping.{All-second}
 
 -- the kind leaves the view as it was, but for what is known
 abbrev pub IsPlain : Kind → Type 0
@@ -30,15 +39,37 @@ module _ (asks : Asking) (kind : Kind) (view next : View) (name : Name) (first s
         ap (λ (v : View). v.known) stepped.leaves ∙ (ap (λ (l : List Item). l ++ gained) stepped.learns ∙ append_assoc view.known stepped.since gained),
       )
 
-  pub knows-more : IsPlain kind → KnowsMore view next
-  knows-more plain =
+  -- what came since was stored by others
+  pub came-others : (early later : List Item) (item : Item) → stepped.since ≡ early ++ item ∷ later → IsOthers view (view.known ++ early) item
+  came-others early later item parts =
+      let sizes : stepped.before.config ≡ view.config =
+      sym (stepped.stands.formed.views stepped.seat view stepped.allowed.at (unspent_pass view.role stepped.number stepped.allowed.pass)).config
+      in
+      record {
+        foreign = λ own.
+            All-head (λ (i : Item). i.pass ≢ stepped.number) item later
+            (All-second (λ (i : Item). i.pass ≢ stepped.number) early (item ∷ later) (subst (λ (l : List Item). All (λ (i : Item). i.pass ≢ stepped.number) l) parts stepped.foreign))
+            (same_Some item.pass stepped.number (sym own ∙ stepped.allowed.pass));
+        quiet = subst (λ (c : Config). IsQuiet c view (view.known ++ early) item) sizes (stepped.quiet early later item parts);
+      }
+
+  pub knows-more : IsPlain kind → ((word operand : ℕ) → stores kind.operation word operand ≡ false) → KnowsMore view next
+  knows-more plain loads =
       let after = log_after kind stepped.before made in
       let left : next ≡ record view { known = after; joined = None } =
       stepped.leaves ∙
       ap (λ (v : View). record v { config = view.config; role = view.role; known = after; joined = None }) (plain (learned stepped.before made) name (found_by stepped.before made) first second)
       in
       let known : next.known ≡ after = ap (λ (v : View). v.known) stepped.leaves in
-      record { known = known-more; rest = left ∙ ap (λ (l : List Item). record view { known = l; joined = None }) (sym known) }
+      let same : after ≡ stepped.before.log =
+      ap (λ (l : List Item). stepped.before.log ++ l) (gained-unstored kind stepped.before made (loads (found_by stepped.before made) first)) ∙ append-nil stepped.before.log
+      in
+      record {
+        since = stepped.since;
+        known = known ∙ (same ∙ stepped.learns);
+        others = came-others;
+        rest = left ∙ ap (λ (l : List Item). record view { known = l; joined = None }) (sym known);
+      }
 
 -- what the step of a look tells
 pub looked : (view next : View) (found : ℕ) → Stepped MayLook look view Update 0 0 found next → Looked view next
@@ -46,7 +77,7 @@ looked view next found stepped = record {
   found = found;
   step = stepped;
   whole = ap (λ (v : View). v.known) stepped.leaves ∙ append-nil stepped.before.log;
-  more = knows-more MayLook look view next Update 0 0 found stepped (λ v n f a b. refl);
+  more = knows-more MayLook look view next Update 0 0 found stepped (λ v n f a b. refl) (λ word operand. refl);
 }
 
 -- a look after two met tells that what it knows goes on from what either knew
@@ -55,9 +86,23 @@ meets-with view other next look_made =
     let joined = joined_view view other in
     let step = look_made.step in
     let sound = step.stands.formed.views step.seat joined step.allowed.at (unspent_pass joined.role step.number step.allowed.pass) in
+    let own = IsPrefix-trans view.known joined.known next.known sound.joined.0 (look_made.more.since, look_made.more.known) in
+    let sizes : step.before.config ≡ view.config = sym sound.config in
     record {
-      own = IsPrefix-trans view.known joined.known next.known sound.joined.0 look_made.more.known;
-      others = IsPrefix-trans other.known joined.known next.known sound.joined.1 look_made.more.known;
-      rest = look_made.more.rest;
+      more = record {
+        since = own.0;
+        known = own.1;
+        others = λ early later item parts.
+            let split : step.before.log ≡ (view.known ++ early) ++ item ∷ later =
+            sym look_made.whole ∙ (own.1 ∙ (ap (λ (l : List Item). view.known ++ l) parts ∙ sym (append_assoc view.known early (item ∷ later))))
+            in
+            let alone = step.alone early later item split in
+            record {
+              foreign = λ same. alone.0 (same_Some item.pass step.number (sym same ∙ step.allowed.pass));
+              quiet = subst (λ (c : Config). IsQuiet c view (view.known ++ early) item) sizes (joined-unquiet step.before.config view other (view.known ++ early) item alone.1);
+            };
+        rest = look_made.more.rest;
+      };
+      theirs = IsPrefix-trans other.known joined.known next.known sound.joined.1 (look_made.more.since, look_made.more.known);
       looked = look_made;
     }

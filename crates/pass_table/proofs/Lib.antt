@@ -5,4 +5,5 @@ pub mod Seating
 pub mod Knowing
 pub mod Ruling
 pub mod Trying
+pub mod Turning
 pub mod Resting

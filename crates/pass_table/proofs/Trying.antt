@@ -14,10 +14,11 @@ use Rattle.core_state.specs.View.{IsPass, HoldsNot, mode_of}
 use Rattle.core_state.proofs.Forming.{unspent_pass}
 use Rattle.word_map.specs.declared.config.Config.{Config}
 use Rattle.core_state.specs.declared.view.Mode.TheVariants.{Read, Write}
+use Rattle.core_state.specs.Operation.{stores}
 use Rattle.core_state.specs.Kind.{Kind, Asking, Step, found_by, gained_by, log_after, view_after}
 use Rattle.core_state.proofs.Prefixes.{IsPrefix-refl, IsPrefix-trans}
 use Rattle.pass_table.specs.Stepping.{step_by, Stepped}
-use Rattle.pass_table.specs.Trying.{Leaves, HadWord, with_taken, Exchanged, Waited}
+use Rattle.pass_table.specs.Trying.{Leaves, HadWord, with_taken, MayTake, Exchanged, Waited}
 use Rattle.pass_table.proofs.Knowing.{IsPlain, known-more, knows-more}
 
 module _ (asks : Asking) (kind : Kind) (view next : View) (name : Name) (first second found : ℕ) (stepped : Stepped asks kind view name first second found next) where
@@ -40,8 +41,8 @@ module _ (asks : Asking) (kind : Kind) (view next : View) (name : Name) (first s
           (stepped.stands.formed.views stepped.seat view stepped.allowed.at (unspent_pass view.role stepped.number stepped.allowed.pass)).config
 
   -- a kind that leaves the view as it was leaves the locks
-  pub leaves-plain : IsPlain kind → Leaves view next view.locks
-  leaves-plain plain = let more = knows-more asks kind view next name first second found stepped plain in record { known = more.known; rest = more.rest }
+  pub leaves-plain : IsPlain kind → ((word operand : ℕ) → stores kind.operation word operand ≡ false) → Leaves view next view.locks
+  leaves-plain plain loads = let more = knows-more asks kind view next name first second found stepped plain loads in record { known = (more.since, more.known); rest = more.rest }
 
 -- an exchange leaves the lock taken where it found the word expected, and else leaves the locks
 module _ (asks : Asking) (mode : Mode) (view next : View) (lock expected new found : ℕ) (stepped : Stepped asks (take mode) view (Lock lock) expected new found next) where
@@ -114,12 +115,22 @@ may-write view lock number word bit pass free none same =
 pub still-free : (view mid : View) (lock : ℕ) → Leaves view mid view.locks → HoldsNot view lock → HoldsNot mid lock
 still-free view mid lock left free = ap (λ (v : View). mode_of v.locks lock) left.rest ∙ free
 
-pub exchanged-by : (asks : Asking) (mode : Mode) (view next : View) (lock word new : ℕ) (r : Result (Unit {0}) ℕ)
-    → MatchResult r (λ _. Stepped asks (take mode) view (Lock lock) word new word next) (λ found. (found ≢ word) × Stepped asks (take mode) view (Lock lock) word new found next)
+-- what an exchange tells of the view: the lock was taken, or another word was found
+pub exchanged-by : (asks : Asking) (mode : Mode) (view next : View) (lock word put : ℕ) (r : Result (Unit {0}) ℕ)
+    → MatchResult r (λ _. Stepped asks (take mode) view (Lock lock) word put word next) (λ found. (found ≢ word) × Stepped asks (take mode) view (Lock lock) word put found next)
+    → MatchResult r (λ _. Leaves view next (with_taken view lock mode)) (λ found. (word ≢ found) × Leaves view next view.locks × HadWord view next (Lock lock) found)
+exchanged-by asks mode view next lock word put (Ok done) h = leaves-taken asks mode view next lock word put word h refl
+exchanged-by asks mode view next lock word put (Err found) h =
+    ((λ e. h.0 (sym e)), leaves-missed asks mode view next lock word put found h.1 h.0, had-found asks (take mode) view next (Lock lock) word put found h.1)
+
+-- and with the step itself
+pub exchanged-lock : (mode : Mode) (view next : View) (lock word put : ℕ) (r : Result (Unit {0}) ℕ)
+    → MatchResult r (λ _. Stepped (MayTake mode) (take mode) view (Lock lock) word put word next) (λ found. (found ≢ word) × Stepped (MayTake mode) (take mode) view (Lock lock) word put found next)
     → Exchanged view next lock mode word r
-exchanged-by asks mode view next lock word new (Ok done) h = leaves-taken asks mode view next lock word new word h refl
-exchanged-by asks mode view next lock word new (Err found) h =
-    ((λ e. h.0 (sym e)), leaves-missed asks mode view next lock word new found h.1 h.0, had-found asks (take mode) view next (Lock lock) word new found h.1)
+exchanged-lock mode view next lock word put (Ok done) h = record { exchange = record { put = put; step = h }; left = exchanged-by (MayTake mode) mode view next lock word put (Ok done) h }
+exchanged-lock mode view next lock word put (Err found) h =
+    let told = exchanged-by (MayTake mode) mode view next lock word put (Err found) h in
+    record { exchange = record { put = put; step = h.1 }; changed = told.0; left = told.1; had = told.2 }
 
 -- ---- tries one after another
 

@@ -7,6 +7,7 @@ use Rattle.core_state.specs.declared.view.Role.{Role}
 use Rattle.core_state.specs.declared.view.Role.TheVariants.{Pass, Visitor, Spent}
 use Rattle.core_state.specs.declared.view.View.{View}
 use Rattle.core_state.specs.Log.{words}
+use Rattle.core_state.specs.View.{own_known}
 use Rattle.core_state.specs.Core.{Core, IsViewAt}
 use Rattle.core_state.specs.Formed.{IsFormed}
 use Rattle.core_state.specs.Guards.{GuardsHold}
@@ -22,9 +23,9 @@ HasNumber Spent number = ⊥
 abbrev pub AreForeign : Role → List Item → Type 0
 AreForeign role items = All (λ item. ¬ HasNumber role item.pass) items
 
--- what came to the log since the last step of a pass came from others
+-- what came to the log since the last step of a pass of its own came from others
 abbrev pub OwnAreKnown : Core → Type 0
-OwnAreKnown core = (seat : ℕ) (view : View) (since : List Item) → IsViewAt core seat view → core.log ≡ view.known ++ since → AreForeign view.role since
+OwnAreKnown core = (seat : ℕ) (view : View) (since : List Item) → IsViewAt core seat view → core.log ≡ own_known view ++ since → AreForeign view.role since
 
 -- a core in which all holds that holds in every run
 pub record Stands (core : Core) : Type 0 where

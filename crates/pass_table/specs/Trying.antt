@@ -9,6 +9,9 @@ use Rattle.core_state.specs.declared.view.LockStep.{LockStep}
 use Rattle.core_state.specs.declared.view.LockStep.TheVariants.{Taken as TakenStep}
 use Rattle.core_state.specs.declared.view.View.{View}
 use Rattle.core_state.specs.Log.{word, IsPrefix}
+use Rattle.core_state.specs.Kind.{Asking}
+use Rattle.core_state.specs.Locking.{MayLoadLock, load_lock, MayRead, MayWrite, take}
+use Rattle.pass_table.specs.Stepping.{Stepped}
 use Rattle.pass_table.specs.declared.taking.Take.{Take}
 use Rattle.pass_table.specs.declared.taking.Take.TheVariants.{Taken, Busy, Lost}
 
@@ -37,22 +40,65 @@ pub record HadWord (view next : View) (name : Name) (value : ℕ) : Type 0 where
 abbrev pub with_taken : View → ℕ → Mode → List LockStep
 with_taken view lock mode = view.locks ++ TakenStep lock mode ∷ []
 
--- taken: the pass holds it, where the word loaded excluded nobody
-pub record WasTaken (view next : View) (lock : ℕ) (mode : Mode) : Type 0 where
+-- ---- the two steps of a try
+
+-- the load of a lock's word, which found this one
+abbrev pub LoadedLock : View → View → ℕ → ℕ → Type 0
+LoadedLock view next lock found = Stepped MayLoadLock load_lock view (Lock lock) 0 0 found next
+
+-- what an exchange that takes a lock so asks
+abbrev pub MayTake : Mode → Asking
+MayTake Read = MayRead
+MayTake Write = MayWrite
+
+-- the exchange of a lock's word, which puts a new word in the place of the one expected, and found this one
+pub record ExchangedLock (view next : View) (lock : ℕ) (mode : Mode) (expected found : ℕ) : Type 0 where
+  pub put : ℕ
+  pub step : Stepped (MayTake mode) (take mode) view (Lock lock) expected put found next
+
+-- the exchange found the word expected, and took the lock
+pub record HitLock (view next : View) (lock : ℕ) (mode : Mode) (word : ℕ) : Type 0 where
+  pub exchange : ExchangedLock view next lock mode word word
   pub left : Leaves view next (with_taken view lock mode)
+
+-- the exchange found another word, and the pass has just the locks that it had
+pub record MissedLock (view next : View) (lock : ℕ) (mode : Mode) (word found : ℕ) : Type 0 where
+  pub exchange : ExchangedLock view next lock mode word found
+  pub changed : word ≢ found
+  pub left : Leaves view next view.locks
+  pub had : HadWord view next (Lock lock) found
+
+-- an exchange of a lock's word: taken, or another word was found
+abbrev pub Exchanged : View → View → ℕ → Mode → ℕ → Result (Unit {0}) ℕ → Type 0
+Exchanged view next lock mode word result =
+    MatchResult result (λ _. HitLock view next lock mode word) (λ found. MissedLock view next lock mode word found)
+
+-- ---- what came of a try
+
+-- taken: a load of a word that excludes nobody, and an exchange of just this word. The pass holds the lock
+pub record WasTaken (view next : View) (lock : ℕ) (mode : Mode) : Type 0 where
   pub word : ℕ
+  pub middle : View
+  pub load : LoadedLock view middle lock word
+  pub exchange : ExchangedLock middle next lock mode word word
+  pub left : Leaves view next (with_taken view lock mode)
   pub had : HadWord view next (Lock lock) word
   pub free : ¬ Excludes mode word
 
--- busy: the word loaded shows a holder that excludes this one, and the pass has just the locks that it had
+-- busy: a load and no more, of a word that shows a holder that excludes this one. The pass has just the locks that it had
 pub record WasBusy (view next : View) (lock : ℕ) (mode : Mode) (of word : ℕ) : Type 0 where
   pub same : of ≡ lock
+  pub load : LoadedLock view next lock word
   pub left : Leaves view next view.locks
   pub had : HadWord view next (Lock lock) word
   pub excludes : Excludes mode word
 
--- lost: the word had changed between the load and the exchange, and the pass has just the locks that it had
+-- lost: a load of a word that excludes nobody, and an exchange that found another one. The pass has just the locks that
+-- it had
 pub record WasLost (view next : View) (lock : ℕ) (mode : Mode) (loaded found : ℕ) : Type 0 where
+  pub middle : View
+  pub load : LoadedLock view middle lock loaded
+  pub exchange : ExchangedLock middle next lock mode loaded found
   pub left : Leaves view next view.locks
   pub had : HadWord view next (Lock lock) loaded
   pub had_found : HadWord view next (Lock lock) found
@@ -63,12 +109,6 @@ abbrev pub Tried : View → View → ℕ → Mode → Take → Type 0
 Tried view next lock mode Taken = WasTaken view next lock mode
 Tried view next lock mode (Busy of word) = WasBusy view next lock mode of word
 Tried view next lock mode (Lost loaded found) = WasLost view next lock mode loaded found
-
--- an exchange of a lock's word: taken, or another word was found
-abbrev pub Exchanged : View → View → ℕ → Mode → ℕ → Result (Unit {0}) ℕ → Type 0
-Exchanged view next lock mode word result =
-    MatchResult result (λ _. Leaves view next (with_taken view lock mode))
-    (λ found. (word ≢ found) × Leaves view next view.locks × HadWord view next (Lock lock) found)
 
 -- some tries later: what is known goes on from what was known, and the locks and all else are as they were
 pub record Waited (view next : View) : Type 0 where

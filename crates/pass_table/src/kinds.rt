@@ -70,3 +70,115 @@ impl Kind for Release {
 
     ghost event = { λ before after steps. releases steps };
 }
+
+/// Kind 9: load a word of a list.
+pub(crate) struct LoadList;
+
+impl Kind for LoadList {
+    ghost use Rattle.core_state.specs.Lists as lists;
+    ghost use Rattle.core_state.specs.Event.{loads_list};
+
+    ghost asks = { lists.MayLoadList };
+
+    ghost kind = { lists.load_list };
+
+    ghost event = { λ before after steps. loads_list steps };
+}
+
+/// Kind 10: store a link.
+pub(crate) struct StoreLink;
+
+impl Kind for StoreLink {
+    ghost use Rattle.core_state.specs.Lists as lists;
+    ghost use Rattle.core_state.specs.Event.{stores_link};
+
+    ghost asks = { lists.MayStoreLink };
+
+    ghost kind = { lists.store_link };
+
+    ghost event = { λ before after steps. stores_link steps };
+}
+
+/// Kind 11: store a head.
+pub(crate) struct StoreHead;
+
+impl Kind for StoreHead {
+    ghost use Rattle.core_state.specs.Lists as lists;
+    ghost use Rattle.core_state.specs.Event.{stores_head};
+
+    ghost asks = { lists.MayStoreHead };
+
+    ghost kind = { lists.store_head };
+
+    ghost event = { λ before after steps. stores_head steps };
+}
+
+/// Kind 12: store what a body is to be.
+pub(crate) struct StoreField;
+
+impl Kind for StoreField {
+    ghost use Rattle.core_state.specs.Lives as lives;
+    ghost use Rattle.core_state.specs.Event.{stores_field};
+
+    ghost asks = { lives.MayStoreField };
+
+    ghost kind = { lives.store_field };
+
+    ghost event = { λ before after steps. stores_field steps };
+}
+
+/// Kind 13: create a body.
+pub(crate) struct Create;
+
+impl Kind for Create {
+    ghost use Rattle.core_state.specs.Lives as lives;
+    ghost use Rattle.core_state.specs.Event.{creates};
+
+    ghost asks = { lives.MayCreate };
+
+    ghost kind = { lives.create };
+
+    ghost event = { λ before after steps. creates steps };
+}
+
+/// Kind 14: destroy a body.
+pub(crate) struct Destroy;
+
+impl Kind for Destroy {
+    ghost use Rattle.core_state.specs.Lives as lives;
+    ghost use Rattle.core_state.specs.Event.{destroys};
+
+    ghost asks = { lives.MayDestroy };
+
+    ghost kind = { lives.destroy };
+
+    ghost event = { λ before after steps. destroys steps };
+}
+
+/// Kind 15: load a word of a body.
+pub(crate) struct LoadBody;
+
+impl Kind for LoadBody {
+    ghost use Rattle.core_state.specs.Lives as lives;
+    ghost use Rattle.core_state.specs.Event.{loads_body};
+
+    ghost asks = { lives.MayLoadBody };
+
+    ghost kind = { lives.load_body };
+
+    ghost event = { λ before after steps. loads_body steps };
+}
+
+/// Kind 16: set the user number of a body.
+pub(crate) struct SetUser;
+
+impl Kind for SetUser {
+    ghost use Rattle.core_state.specs.Lives as lives;
+    ghost use Rattle.core_state.specs.Event.{sets_user};
+
+    ghost asks = { lives.MaySetUser };
+
+    ghost kind = { lives.set_user };
+
+    ghost event = { λ before after steps. sets_user steps };
+}

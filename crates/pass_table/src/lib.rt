@@ -11,7 +11,9 @@
 #![tactic(auto)]
 
 mod calls;
+mod driving;
 mod kinds;
+mod label;
 mod locks;
 mod looking;
 mod open;
@@ -28,8 +30,12 @@ mod take_turns;
 mod taking;
 mod turn;
 mod typed;
+mod typed_bodies;
+mod typed_lists;
 mod world;
 
+pub use driving::drive;
+pub use label::Label;
 pub use locks::{release, take_read, take_write, try_take};
 pub use open::{PassList, open_world};
 pub use opened::OpenFault;
@@ -39,8 +45,12 @@ pub use take_op::TakeOp;
 pub use taking::Take;
 pub use turn::Turn;
 pub use typed::{step_5, step_6, step_7, step_8};
+pub use typed_bodies::{step_12, step_13, step_14, step_15, step_16};
+pub use typed_lists::{step_9, step_10, step_11};
 pub use world::World;
 
+#[cfg(test)]
+mod look_twice;
 #[cfg(test)]
 mod tests;
 

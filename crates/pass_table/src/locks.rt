@@ -5,7 +5,7 @@ ghost use Rattle.word_map.specs.Names.{IsName};
 ghost use Rattle.core_state.specs.View.{HoldsNot};
 ghost use Rattle.core_state.specs.declared.view.Mode.TheVariants.{Read, Write};
 ghost use Rattle.pass_table.specs.Holding.{MayLetGo, LetGo};
-ghost use Rattle.pass_table.specs.Trying.{mode_if, Excludes, Leaves, HadWord, with_taken, Exchanged, Tried};
+ghost use Rattle.pass_table.specs.Trying.{mode_if, Excludes, Leaves, HadWord, with_taken, LoadedLock, Exchanged, Tried};
 ghost use Rattle.pass_table.specs.Passes.{view_of, IsOf};
 
 use crate::pass::Pass;
@@ -29,6 +29,7 @@ pub fn release(world: &World, pass: &mut Pass, lock: u32)
 }
 
 /// Whether the word of a lock shows a holder that excludes one who holds so: a writer excludes all, a reader writers.
+#[inline(always)]
 pub(crate) fn excludes(mode: Mode, word: u64) -> bool
     ensures { (result ≡ true) ↔ Excludes mode word }
 {
@@ -39,10 +40,12 @@ pub(crate) fn excludes(mode: Mode, word: u64) -> bool
 }
 
 /// The load of a try.
+#[inline(always)]
 pub(crate) fn load_word(world: &World, pass: &mut Pass, lock: u32) -> u64
     requires of { IsOf world.now pass.old }
     requires named { IsName world.now.map (Lock lock) }
     ensures of { IsOf world.now pass.new }
+    ensures step { LoadedLock (view_of pass.old) (view_of pass.new) lock result }
     ensures left { Leaves (view_of pass.old) (view_of pass.new) (view_of pass.old).locks }
     ensures had { HadWord (view_of pass.old) (view_of pass.new) (Lock lock) result }
 {
@@ -50,6 +53,7 @@ pub(crate) fn load_word(world: &World, pass: &mut Pass, lock: u32) -> u64
 }
 
 /// The exchange of a try to read.
+#[inline(always)]
 fn exchange_to_read(world: &World, pass: &mut Pass, lock: u32, word: u64) -> Result<(), u64>
     requires of { IsOf world.now pass.old }
     requires named { IsName world.now.map (Lock lock) }
@@ -63,6 +67,7 @@ fn exchange_to_read(world: &World, pass: &mut Pass, lock: u32, word: u64) -> Res
 }
 
 /// The exchange of a try to write.
+#[inline(always)]
 fn exchange_to_write(world: &World, pass: &mut Pass, lock: u32, word: u64) -> Result<(), u64>
     requires of { IsOf world.now pass.old }
     requires named { IsName world.now.map (Lock lock) }
@@ -76,6 +81,7 @@ fn exchange_to_write(world: &World, pass: &mut Pass, lock: u32, word: u64) -> Re
 }
 
 /// The exchange of a try, where the word loaded shows nobody that excludes this one.
+#[inline(always)]
 pub(crate) fn exchange(
     world: &World,
     pass: &mut Pass,

@@ -1,8 +1,8 @@
 //! Single steps: one function for each atomic operation, for all kinds.
 ghost use Rattle.std.specs.Prelude.{◌≡◌};
 ghost use Rattle.word_map.specs.Layout.{name_of};
-ghost use Rattle.core_state.specs.Operation.{load, fetch_add, compare_exchange};
-ghost use Rattle.pass_table.specs.Stepping.{MayStep, Stepped};
+ghost use Rattle.core_state.specs.Operation.{load, store, fetch_add, compare_exchange};
+ghost use Rattle.pass_table.specs.Stepping.{MayStep, Stepped, Stored};
 
 use crate::rule::{Seat, Words};
 use atomic_table::Play;
@@ -34,6 +34,17 @@ impl<K: Kind> Play<(), View> for Told<K> {
     ghost use Rattle.pass_table.specs.Stepping.{told};
 
     ghost then = { told K.asks K.kind };
+}
+
+/// What a store of a kind tells. The table does not tell a store what it found, so it is some word.
+pub(crate) struct ToldOfStore<K> {
+    kind: PhantomData<K>,
+}
+
+impl<K: Kind> Play<(), View> for ToldOfStore<K> {
+    ghost use Rattle.pass_table.specs.Stepping.{told_of_store};
+
+    ghost then = { λ step me said next. told_of_store K.asks K.kind step me next };
 }
 
 /// A load of the word at a place: exactly one step of the kind, whose operation has to be a load.
@@ -75,4 +86,15 @@ pub(crate) fn compare_exchange<K: Kind>(
     ensures step { Stepped K.asks K.kind seat.old.me.0 (name_of table.now.key place) expected new result seat.new.me.0 }
 {
     table.compare_exchange::<Told<K>>(seat, place, expected, new)
+}
+
+/// A store at a place: exactly one step of the kind, whose operation has to be a store.
+pub(crate) fn store<K: Kind>(table: &Words, seat: &mut Seat, place: usize, value: u64)
+    requires own { seat.old.table_id ≡ table.now.table_id }
+    requires stores { K.kind.operation ≡ store }
+    requires may { MayStep K.asks table.now.key table.now.table_id seat.old.me place value 0 }
+    ensures seat { (seat.new.table_id ≡ seat.old.table_id) × (seat.new.me.1 ≡ seat.old.me.1) }
+    ensures step { Stored K.asks K.kind seat.old.me.0 (name_of table.now.key place) value seat.new.me.0 }
+{
+    table.store::<ToldOfStore<K>>(seat, place, value);
 }

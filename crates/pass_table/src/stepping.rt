@@ -7,8 +7,8 @@ ghost use Rattle.core_state.specs.declared.view.Mode.{Mode};
 ghost use Rattle.core_state.specs.declared.view.Mode.TheVariants.{Read};
 ghost use Rattle.pass_table.specs.Holding.{MayLetGo, LetGo};
 ghost use Rattle.word_map.specs.Names.{IsName};
-ghost use Rattle.core_state.specs.Operation.{load, fetch_add, compare_exchange};
-ghost use Rattle.pass_table.specs.Stepping.{Stepped};
+ghost use Rattle.core_state.specs.Operation.{load, store, fetch_add, compare_exchange};
+ghost use Rattle.pass_table.specs.Stepping.{Stepped, Stored};
 ghost use Rattle.pass_table.specs.Passes.{view_of, IsOf};
 
 use crate::kinds::Release;
@@ -39,6 +39,20 @@ impl Pass {
     {
         let place = world.map.place(name);
         step::load::<K>(&world.table.shared, &mut self.seat, place)
+    }
+
+    /// A store of a word, of a kind that leaves the locks of the pass as they are.
+    #[inline(always)]
+    pub(crate) fn store<K: StillKind>(&mut self, world: &World, name: Name, value: u64)
+        requires of { IsOf world.now self.old }
+        requires named { IsName world.now.map name }
+        requires stores { K.kind.operation ≡ store }
+        requires asks { K.asks (view_of self.old) name value 0 }
+        ensures of { IsOf world.now self.new }
+        ensures step { Stored K.asks K.kind (view_of self.old) name value (view_of self.new) }
+    {
+        let place = world.map.place(name);
+        step::store::<K>(&world.table.shared, &mut self.seat, place, value);
     }
 
     /// A compare and exchange of a lock's word, which takes the lock where it finds the word expected.

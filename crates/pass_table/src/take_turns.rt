@@ -3,10 +3,13 @@ ghost use Rattle.std.specs.Prelude.{◌≡◌, None, Some};
 ghost use Rattle.word_map.specs.declared.name.Name.TheVariants.{Lock};
 ghost use Rattle.word_map.specs.Names.{IsName};
 ghost use Rattle.core_state.specs.View.{HoldsNot};
-ghost use Rattle.pass_table.specs.TakeTurns.{IsReady, HasTaken, turns_left};
-ghost use Rattle.pass_table.specs.Turning.{Turned, GoesOn, Answers};
+ghost use Rattle.core_state.specs.declared.view.View.{View};
+ghost use Rattle.pass_table.specs.declared.take_op.TakeOp.{TakeOp};
+ghost use Rattle.pass_table.specs.TakeTurns.{taking_of, IsTaking, HasTaken, turns_left};
+ghost use Rattle.pass_table.specs.Turning.{Turned, GoesOn, Answers, IsUnderWay, AtMostOneStep, MadeBy};
 ghost use Rattle.pass_table.specs.Passes.{view_of, IsOf};
 
+use crate::label::Label;
 use crate::locks;
 use crate::operation::Operation;
 use crate::pass::Pass;
@@ -14,18 +17,26 @@ use crate::take_op::TakeOp;
 use crate::turn::Turn;
 use crate::world::World;
 use core_state::Mode;
+use scene_model::Made;
 
 impl Operation for TakeOp {
-    ghost use Rattle.pass_table.specs.TakeTurns.{ready-later};
+    ghost use Rattle.pass_table.specs.TakeTurns.{taking-later};
 
     type Done = ();
 
-    ghost ready = { IsReady };
+    ghost under_way = { IsTaking };
+
+    ghost answers = { λ first start last next answer. HasTaken first start next };
 
     ghost left = { turns_left };
 
-    ghost answers = { λ operation view next answer. HasTaken operation view next };
+    ghost takes = { λ operation. operation.mode };
 
+    ghost reached = { λ operation. None };
+
+    ghost entry = { λ operation. None };
+
+    #[inline(always)]
     fn turn(&mut self, world: &World, pass: &mut Pass) -> Turn<()> {
         match self.loaded {
             None => self.load(world, pass),
@@ -33,7 +44,15 @@ impl Operation for TakeOp {
         }
     }
 
-    ghost may_look = { ready-later };
+    fn label(&self) -> Option<Label> {
+        None
+    }
+
+    fn made(&self) -> Option<&Made> {
+        None
+    }
+
+    ghost may_look = { taking-later };
 }
 
 impl TakeOp {
@@ -43,8 +62,8 @@ impl TakeOp {
         requires named { IsName world.now.map (Lock lock) }
         requires free { HoldsNot (view_of pass.old) lock }
         ensures pass { pass.new ≡ pass.old }
-        ensures begun { (result.lock ≡ lock) × (result.mode ≡ mode) }
-        ensures ready { IsReady result (view_of pass.new) }
+        ensures begun { result ≡ taking_of lock mode }
+        ensures under_way { IsTaking (taking_of lock mode) (view_of pass.old) result (view_of pass.new) }
     {
         TakeOp {
             lock,
@@ -53,14 +72,18 @@ impl TakeOp {
         }
     }
 
+    /// The turn that loads the lock's word.
+    #[inline(always)]
     fn load(&mut self, world: &World, pass: &mut Pass) -> Turn<()>
         requires of { IsOf world.now pass.old }
-        requires ready { IsReady self.old (view_of pass.old) }
+        requires under_way { IsUnderWay IsTaking self.old (view_of pass.old) }
         requires first { self.old.loaded ≡ None }
         ensures of { IsOf world.now pass.new }
-        ensures turned { Turned result (view_of pass.old) (view_of pass.new) (turns_left self.old) (turns_left self.new) }
-        ensures goes_on { GoesOn result (IsReady self.new (view_of pass.new)) }
-        ensures answers { Answers result (λ answer. HasTaken self.old (view_of pass.old) (view_of pass.new)) }
+        ensures step { AtMostOneStep (view_of pass.old) (view_of pass.new) }
+        ensures made { MadeBy (view_of pass.old) (view_of pass.new) None }
+        ensures turned { Turned result (view_of pass.old) (view_of pass.new) self.old.mode (turns_left self.old) (turns_left self.new) }
+        ensures keeps { (first : TakeOp) (start : View) → IsTaking first start self.old (view_of pass.old) → GoesOn result (IsTaking first start self.new (view_of pass.new)) }
+        ensures answers { (first : TakeOp) (start : View) → IsTaking first start self.old (view_of pass.old) → Answers result (λ answer. HasTaken first start (view_of pass.new)) }
     {
         let word = locks::load_word(world, pass, self.lock);
         if locks::excludes(self.mode, word) {
@@ -73,14 +96,18 @@ impl TakeOp {
         Turn::More
     }
 
+    /// The turn that exchanges the word that the turn before loaded.
+    #[inline(always)]
     fn exchange(&mut self, world: &World, pass: &mut Pass, word: u64) -> Turn<()>
         requires of { IsOf world.now pass.old }
-        requires ready { IsReady self.old (view_of pass.old) }
+        requires under_way { IsUnderWay IsTaking self.old (view_of pass.old) }
         requires second { self.old.loaded ≡ Some word }
         ensures of { IsOf world.now pass.new }
-        ensures turned { Turned result (view_of pass.old) (view_of pass.new) (turns_left self.old) (turns_left self.new) }
-        ensures goes_on { GoesOn result (IsReady self.new (view_of pass.new)) }
-        ensures answers { Answers result (λ answer. HasTaken self.old (view_of pass.old) (view_of pass.new)) }
+        ensures step { AtMostOneStep (view_of pass.old) (view_of pass.new) }
+        ensures made { MadeBy (view_of pass.old) (view_of pass.new) None }
+        ensures turned { Turned result (view_of pass.old) (view_of pass.new) self.old.mode (turns_left self.old) (turns_left self.new) }
+        ensures keeps { (first : TakeOp) (start : View) → IsTaking first start self.old (view_of pass.old) → GoesOn result (IsTaking first start self.new (view_of pass.new)) }
+        ensures answers { (first : TakeOp) (start : View) → IsTaking first start self.old (view_of pass.old) → Answers result (λ answer. HasTaken first start (view_of pass.new)) }
     {
         match locks::exchange(world, pass, self.lock, self.mode, word) {
             Ok(()) => Turn::Done(()),

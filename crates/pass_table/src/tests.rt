@@ -1,11 +1,16 @@
 ghost use Rattle.std.specs.Prelude.{◌≡◌, ℕ, IfSome};
 ghost use Rattle.pass_table.specs.Opened.{IsFresh, AreAll};
 ghost use Rattle.pass_table.specs.Holding.{IsAtRest};
+ghost use Rattle.pass_table.specs.Trying.{Leaves, with_taken};
 ghost use Rattle.pass_table.specs.Passes.{view_of, IsOf};
+ghost use Rattle.core_state.specs.View.{HoldsNot};
+ghost use Rattle.word_map.specs.Names.{IsName};
+ghost use Rattle.word_map.specs.declared.name.Name.TheVariants.{Lock};
 
+use crate::look_twice::LookTwice;
 use crate::{
-    OpenFault, Operation, Pass, PassList, Take, TakeOp, Turn, World, open_world, release,
-    take_write, try_take,
+    Label, OpenFault, Operation, Pass, PassList, Take, TakeOp, Turn, World, drive, open_world,
+    release, take_write, try_take,
 };
 use core_state::Mode;
 use std::sync::Wait;
@@ -143,16 +148,82 @@ fn a_lock_is_taken_in_two_turns(rt: HostRuntime) -> Result<(), Fail> {
     let Ok((world, mut list)) = open_world(rt.alloc(), sizes(4, 2)) else {
         panic!(rt; "no world")
     };
-    let Some((mut first, _second)) = two(&world, &mut list) else {
+    let Some((mut first, mut second)) = two(&world, &mut list) else {
         panic!(rt; "too few passes")
     };
     let mut taking = TakeOp::new(&world, &mut first, 0, Mode::Read);
     let Turn::More = taking.turn(&world, &mut first) else {
         panic!(rt; "the load was the last turn")
     };
+    first.look(&world);
+    first.meet(&world, &mut second);
+    assert!(rt; taking.label().is_none() && taking.made().is_none());
     let Turn::Done(()) = taking.turn(&world, &mut first) else {
         panic!(rt; "the lock was not taken")
     };
     assert!(rt; !first.is_idle());
+    Ok(())
+}
+
+/// Takes a lock by turns, in one call.
+fn take_by_turns<R: Wait>(rt: &R, world: &World, pass: &mut Pass, lock: u32, mode: Mode)
+    requires of { IsOf world.now pass.old }
+    requires named { IsName world.now.map (Lock lock) }
+    requires free { HoldsNot (view_of pass.old) lock }
+    ensures of { IsOf world.now pass.new }
+    ensures left { Leaves (view_of pass.old) (view_of pass.new) (with_taken (view_of pass.old) lock mode) }
+{
+    let mut taking = TakeOp::new(world, pass, lock, mode);
+    drive(rt, world, pass, &mut taking);
+}
+
+#[test]
+fn a_lock_is_taken_by_turns_in_one_call(rt: HostRuntime) -> Result<(), Fail> {
+    let Ok((world, mut list)) = open_world(rt.alloc(), sizes(4, 2)) else {
+        panic!(rt; "no world")
+    };
+    let Some((mut first, mut second)) = two(&world, &mut list) else {
+        panic!(rt; "too few passes")
+    };
+    take_by_turns(&rt, &world, &mut first, 0, Mode::Read);
+    let busy = Take::Busy { lock: 0, word: 1 };
+    assert!(rt; try_take(&world, &mut second, 0, true) == busy);
+    Ok(())
+}
+
+#[test]
+fn an_exchange_by_turns_is_lost(rt: HostRuntime) -> Result<(), Fail> {
+    let Ok((world, mut list)) = open_world(rt.alloc(), sizes(4, 2)) else {
+        panic!(rt; "no world")
+    };
+    let Some((mut first, mut second)) = two(&world, &mut list) else {
+        panic!(rt; "too few passes")
+    };
+    let mut taking = TakeOp::new(&world, &mut first, 0, Mode::Read);
+    let Turn::More = taking.turn(&world, &mut first) else {
+        panic!(rt; "the load was the last turn")
+    };
+    take_by_turns(&rt, &world, &mut second, 0, Mode::Read);
+    let Turn::More = taking.turn(&world, &mut first) else {
+        panic!(rt; "the lock was taken over another one")
+    };
+    drive(&rt, &world, &mut first, &mut taking);
+    assert!(rt; !first.is_idle());
+    Ok(())
+}
+
+#[test]
+fn labels_are_reached_in_order(rt: HostRuntime) -> Result<(), Fail> {
+    let Ok((world, mut list)) = open_world(rt.alloc(), sizes(4, 2)) else {
+        panic!(rt; "no world")
+    };
+    let Some((mut first, _second)) = two(&world, &mut list) else {
+        panic!(rt; "too few passes")
+    };
+    let mut looking = LookTwice { looks: 0 };
+    let (middle, last) = (Label::new(1), Label::new(2));
+    assert!(rt; looking.label().is_none() && middle < last && last.number() == 2);
+    drive(&rt, &world, &mut first, &mut looking);
+    assert!(rt; looking.label() == Some(last));
     Ok(())
 }

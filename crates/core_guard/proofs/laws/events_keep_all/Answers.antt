@@ -1,11 +1,14 @@
-use Rattle.core_state.specs.Core.{opening}
-use Rattle.core_state.proofs.Forming.{IsFormed-opening}
-use Rattle.core_state.proofs.Opening.{Invariants-opening}
-use Rattle.core_guard.proofs.Keeping.{Invariants-event, Invariants-run}
+use Rattle.core_guard.proofs.Events.{Invariants-event, GuardsHold-event, all-run}
 use Rattle.core_guard.proofs.laws.events_keep_all.Goals as goal
 
 pub returns-clause-event : goal.returns-clause-event
 returns-clause-event c = Invariants-event
 
+pub returns-clause-guards : goal.returns-clause-guards
+returns-clause-guards c = GuardsHold-event
+
 pub returns-clause-run : goal.returns-clause-run
-returns-clause-run c = λ config last sizes run. Invariants-run (opening config) last run (IsFormed-opening config sizes) (Invariants-opening config sizes)
+returns-clause-run c = λ config last sizes run. (all-run config last sizes run).laws
+
+pub returns-clause-run_guards : goal.returns-clause-run_guards
+returns-clause-run_guards c = λ config last sizes run. (all-run config last sizes run).guards

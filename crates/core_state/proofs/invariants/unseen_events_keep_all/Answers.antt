@@ -1,6 +1,8 @@
 use Rattle.core_state.specs.Looking.{MayLook, look}
 use Rattle.core_state.specs.Locking.{MayLoadLock, load_lock}
-use Rattle.core_state.proofs.Keeping.{Invariants-unseen, visits-unseen, joins-unseen, load-unseen, look-plain, load_lock-plain}
+use Rattle.core_state.specs.Lists.{MayLoadList, load_list}
+use Rattle.core_state.specs.Lives.{MayLoadBody, load_body}
+use Rattle.core_state.proofs.Keeping.{Invariants-unseen, visits-unseen, joins-unseen, load-unseen, look-plain, load_lock-plain, load_list-plain, load_body-plain}
 use Rattle.core_state.proofs.invariants.unseen_events_keep_all.Goals as goal
 
 pub returns-clause-unseen : goal.returns-clause-unseen
@@ -17,3 +19,9 @@ returns-clause-looks c = λ before after steps. Invariants-unseen before after (
 
 pub returns-clause-loads : goal.returns-clause-loads
 returns-clause-loads c = λ before after steps. Invariants-unseen before after (load-unseen MayLoadLock load_lock before after load_lock-plain steps)
+
+pub returns-clause-lists : goal.returns-clause-lists
+returns-clause-lists c = λ before after steps. Invariants-unseen before after (load-unseen MayLoadList load_list before after load_list-plain steps)
+
+pub returns-clause-bodies : goal.returns-clause-bodies
+returns-clause-bodies c = λ before after steps. Invariants-unseen before after (load-unseen MayLoadBody load_body before after load_body-plain steps)

@@ -7,14 +7,17 @@ use Rattle.pass_table.proofs.locks.try_mode.Goals as goal
 pub returns-in-Err-clause-tried : goal.returns-in-Err-clause-tried
 returns-in-Err-clause-tried c =
     let view = view_of c.args.pass.now in
-    let mid = view_of c.load_word-loaded.new.pass in
+    let middle = view_of c.load_word-loaded.new.pass in
     let next = view_of c.exchange.new.pass in
     let load = c.load_word-loaded.ensures in
     let lost = c.in-Err.ensures.exchanged in
     record {
-      left = Leaves-trans (λ locks. locks) view mid next load.left lost.1;
-      had = HadWord-later view mid next _ _ _ load.had lost.1;
-      had_found = HadWord-earlier view mid next _ _ _ load.left lost.2;
+      middle = middle;
+      load = load.step;
+      exchange = lost.exchange;
+      left = Leaves-trans (λ locks. locks) view middle next load.left lost.left;
+      had = HadWord-later view middle next _ _ _ load.had lost.left;
+      had_found = HadWord-earlier view middle next _ _ _ load.left lost.had;
       free = λ excluded. false≢true (sym c.if-excludes.false ∙ c.excludes.ensures.1 excluded);
-      changed = lost.0;
+      changed = lost.changed;
     }

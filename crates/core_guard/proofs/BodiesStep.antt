@@ -24,7 +24,7 @@ use Rattle.core_state.specs.declared.view.View.{View}
 use Rattle.core_state.specs.Log.{word}
 use Rattle.core_state.specs.View.{number_in, known_word, IsPass, Holds, HoldsNot}
 use Rattle.core_state.specs.Core.{Core, word_of, IsViewAt}
-use Rattle.core_state.specs.Kind.{Kind, Step, view_after, after_step}
+use Rattle.core_state.specs.Kind.{Kind, Step, view_after, after_step, learned}
 use Rattle.core_state.specs.Formed.{IsFormed, IsSoundView}
 use Rattle.core_state.specs.Guards.{Owns, GuardsHold}
 use Rattle.core_state.specs.Scope.{Sight, sight, scene_in, word_in, HasPass, EachPass}
@@ -36,8 +36,8 @@ use Rattle.core_state.proofs.Frames.{same_cond}
 use Rattle.core_state.proofs.Guarding.{owned-still, writer-alone}
 use Rattle.core_state.proofs.Steps.{word-step-other, view-step}
 use Rattle.core_guard.proofs.Chains.{chain-kept}
-use Rattle.core_guard.proofs.Scenes.{body_record, record_body}
 use Rattle.core_guard.proofs.Seats.{KeepsNumber, each-seat, each-seats, SeatBefore, steps_now, stays, seat-before, each-step, each-unstep, has-step, has-unstep, flat-step}
+use Rattle.core_state.proofs.Beginning.{body_record, record_body}
 
 -- ---- the parts of the law
 
@@ -124,6 +124,10 @@ module _ (kind : Kind) (core : Core) (step : Step) (at : IsViewAt core step.seat
   sound formed =
       formed.views step.seat step.view at
       (λ spent. none-some step.number (sym (ap (λ (r : Role). number_in r) spent) ∙ pass))
+
+  -- what it finds in the log is what there is
+  pub found-now : (name : Name) → IsFormed core → known_word (learned core step) name ≡ word_of core name
+  found-now name formed = ap (λ (c : Config). word c core.log name) (sound formed).config
 
   -- a word that the pass has for itself is the one that it knew
   pub known-now : (name : Name) → IsFormed core → GuardsHold core → Owns core.config step.view name → word_of core name ≡ known_word step.view name

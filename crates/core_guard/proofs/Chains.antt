@@ -2,16 +2,13 @@
 use Rattle.std.proofs.Common.{◌≡◌, ℕ, suc, List, [], ◌∷◌, Contains, refl, sym, subst, arith}
 use Rattle.scene_model.proofs.Lives.{Contains-cons_tail}
 use Rattle.core_state.specs.Bodies.{IsChain}
-
--- the first is an element
-pub Contains-cons_first : (x : ℕ) (xs : List ℕ) → Contains (x ∷ xs) x
-Contains-cons_first x xs = (0, omega arith, refl)
+use Rattle.core_state.proofs.Beginning.{contains_first}
 
 -- a chain stands where each of its elements has the link that it had
 pub chain-kept : (next after : ℕ → ℕ) (link : ℕ) (chain : List ℕ) → ((j : ℕ) → Contains chain j → after j ≡ next j) → IsChain next link chain → IsChain after link chain
 chain-kept next after link [] same h = h
 chain-kept next after link (at ∷ rest) same h =
-    let own : after at ≡ next at = same at (Contains-cons_first at rest) in
+    let own : after at ≡ next at = same at (contains_first at rest) in
     (h.0, rw own (chain-kept next after (next at) rest (λ j c. same j (Contains-cons_tail at rest j c)) h.1))
 
 -- an element whose link is the chain's comes in front

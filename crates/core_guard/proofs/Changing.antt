@@ -1,13 +1,10 @@
 -- What a step on a lock, and the opening of a pass, leave of the sights of all laws but that of locks.
-use Rattle.std.proofs.Common.{◌≡◌, ℕ, zero, suc, List, [], ◌∷◌, ◌++◌, Bool, true, false, cond, eqb, Option, Some, None, set, refl, ap, sym, ◌∙◌, subst}
+use Rattle.std.proofs.Common.{◌≡◌, ℕ, suc, List, [], ◌∷◌, ◌++◌, Bool, true, false, cond, eqb, Some, None, set, refl, ap, sym, ◌∙◌, subst}
 use Rattle.std.specs.Prelude.{IsTrue, filter_map, option_map}
-use Rattle.std.specs.List.{AllZip, cons_option}
 use Rattle.std.proofs.lemmas.Bool.{eqb-true}
-use Rattle.std.proofs.lemmas.Option.{none-some, same_Some}
+use Rattle.std.proofs.lemmas.Option.{none-some}
 use Rattle.std.proofs.lemmas.List.Sums.{fold-append}
 use Rattle.std.proofs.lemmas.List.Elements.{filter_map-append}
-use mathlib.Core.Option.{some, some-injective, some-ne-none}
-use lib.ListN.{get_elem?}
 use Rattle.word_map.specs.declared.config.Config.{Config}
 use Rattle.word_map.specs.declared.name.Name.{Name}
 use Rattle.word_map.specs.declared.name.Name.TheVariants.{Lock}
@@ -25,7 +22,7 @@ use Rattle.core_state.specs.Kind.{Kind, Step, learned, found_by, view_after}
 use Rattle.core_state.specs.Locking.{with_lock_step, taken_if, released}
 use Rattle.core_state.specs.Scope.{Scope, sight, part_of, bare_view}
 use Rattle.core_state.proofs.Frames.{filter_map-set, same_cond}
-use Rattle.core_guard.proofs.Likeness.{IsNothing, same_call, idle_calls, IsLike, IsLike-refl, AreLike, same_many, one_more, with_passes}
+use Rattle.core_guard.proofs.Likeness.{IsNothing, same_call, idle_calls, IsLike, IsLike-refl, AreLike, same_many, one_more, with_passes, zip-same, zip-set}
 
 -- ---- the stepping view
 
@@ -94,33 +91,12 @@ ReadsLike idle scope = (number : ℕ) (v w : View) → IsLike idle v w → IsLik
 abbrev pub ReadsBlank : Scope → Type 0
 ReadsBlank scope = (c : Config) (number further : ℕ) → scope.part (bare_view number) (blank_view c (Pass number further)) ≡ bare_view number
 
-zip-same : (idle : Task → Type 0) (xs : List View) → AllZip (IsLike idle) xs xs
-zip-same idle [] = tt
-zip-same idle (x ∷ xs) = (IsLike-refl x, zip-same idle xs)
-
-zip-cons : (idle : Task → Type 0) (o p : Option View) (xs ys : List View) → ((v w : View) → o ≡ Some v → p ≡ Some w → IsLike idle v w) → ((v : View) → o ≡ Some v → (w : View) × (p ≡ Some w)) → (o ≡ None → p ≡ None)
-    → AllZip (IsLike idle) xs ys → AllZip (IsLike idle) (cons_option o xs) (cons_option p ys)
-zip-cons idle None None xs ys like kept none h = h
-zip-cons idle None (Some w) xs ys like kept none h = absurd (none-some w (sym (none refl)))
-zip-cons idle (Some v) None xs ys like kept none h = let t = kept v refl in absurd (none-some t.0 t.1)
-zip-cons idle (Some v) (Some w) xs ys like kept none h = (like v w refl refl, h)
-
-zip-set : (idle : Task → Type 0) (f : View → Option View) (xs : List View) (i : ℕ) (v w a b : View) → get_elem? xs i ≡ some v → f v ≡ Some a → f w ≡ Some b → IsLike idle a b → AllZip (IsLike idle) (filter_map f xs) (filter_map f (set xs i w))
-zip-set idle f [] i v w a b at old new like = absurd (some-ne-none v (sym at))
-zip-set idle f (z ∷ xs) zero v w a b at old new like =
-    let first : f z ≡ Some a = ap f (some-injective z v at) ∙ old in
-    rw (first, new) (like, zip-same idle (filter_map f xs))
-zip-set idle f (z ∷ xs) (suc i) v w a b at old new like =
-    let rest = zip-set idle f xs i v w a b at old new like in
-    zip-cons idle (f z) (f z) (filter_map f xs) (filter_map f (set xs i w))
-    (λ p q e k. subst (λ (u : View). IsLike idle p u) (same_Some p q (sym e ∙ k)) (IsLike-refl p)) (λ p e. (p, e)) (λ e. e) rest
-
 -- a seat whose view is like what it was
 pub passes-set : {idle : Task → Type 0} (scope : Scope) (core : Core) (seat number : ℕ) (view w : View) → ReadsLike idle scope → IsViewAt core seat view → IsPass view number → IsLike idle view w
     → AreLike idle (sight scope core).passes (filter_map (part_of scope) (set core.views seat w))
 passes-set {idle = idle} scope core seat number view w reads at pass like =
     same_many
-    (zip-set idle (part_of scope) core.views seat view w (scope.part (bare_view number) view) (scope.part (bare_view number) w) at
+    (zip-set (IsLike idle) IsLike-refl (part_of scope) core.views seat view w (scope.part (bare_view number) view) (scope.part (bare_view number) w) at
     (ap (option_map (λ n. scope.part (bare_view n) view)) pass) (ap (option_map (λ n. scope.part (bare_view n) w)) (like.number ∙ pass)) (reads number view w like))
 
 -- a pass more that has done nothing
@@ -134,7 +110,7 @@ passes-opened {idle = idle} scope core seat number further reads at =
     let same : filter_map (part_of scope) (set core.views seat left) ≡ filter_map (part_of scope) core.views =
     filter_map-set (part_of scope) core.views seat old left at (ap Some (reads c number 0 ∙ sym (reads c number (suc further))))
     in
-    one_more (filter_map (part_of scope) core.views) (suc number) (zip-same idle (filter_map (part_of scope) core.views))
+    one_more (filter_map (part_of scope) core.views) (suc number) (zip-same (IsLike idle) IsLike-refl (filter_map (part_of scope) core.views))
     (filter_map-append (part_of scope) (set core.views seat left) (right ∷ []) ∙
     (λ i. same i ++ reads c (suc number) further i ∷ []))
 

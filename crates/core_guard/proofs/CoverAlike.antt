@@ -31,6 +31,7 @@ module _ {idle : Task → Type 0} (quiet : (t : Task) → idle t → IsListing t
         (t.0, as-noted n t.1);
     unplaced = λ n among unplaced looks. h.unplaced n among unplaced (looks-back n looks);
     located = h.located;
+    in_old = λ n among open_still. h.in_old n among (λ done. open_still (done-forth quiet v w r n.index l done));
     placed = h.placed;
     given_up = h.given_up;
     once = h.once;

@@ -95,6 +95,7 @@ module _ (nodes : Nodes) (before after : Core) (t : Turns before after) where
         (old_tree-forth r n.index old.0, as_noted-forth n old.0.0 old.1);
     unplaced = λ n among unplaced looks. loc_b n.index ∙ h.unplaced n among unplaced (looks-back n (h.located n among) looks);
     located = h.located;
+    in_old = h.in_old;
     placed = λ i among tree.
         let noted = h.placed i among (old_tree-back r i tree) in
         (noted.0, noted.1, noted.2, loc_b i ∙ noted.3);

@@ -29,9 +29,8 @@ use Rattle.core_state.specs.Scope.{sight, scene_in}
 use Rattle.core_state.specs.Bodies.{all_batches, free_indexes}
 use Rattle.core_state.specs.BodiesAgree.{BodiesAgree, body_scope, ListsFree, ChangesList}
 use Rattle.core_state.proofs.Guarding.{writer-alone}
-use Rattle.core_state.proofs.Beginning.{contains_flat}
-use Rattle.core_guard.proofs.Chains.{Contains-cons_first}
-use Rattle.core_guard.proofs.Scenes.{body_record, state-dead_low}
+use Rattle.core_state.proofs.Beginning.{contains_flat, body_record, contains_first}
+use Rattle.core_guard.proofs.Scenes.{state-dead_low, none_here}
 use Rattle.core_guard.proofs.FreeIndexes.{free-dead}
 use Rattle.core_guard.proofs.Seats.{seat_seen, each-seat}
 use Rattle.core_guard.proofs.BodiesStep.{others-idle}
@@ -136,11 +135,6 @@ module _ (core : Core) (h : BodiesAgree core) (seat number : ℕ) (view : View) 
       let all : Contains (all_batches (sight body_scope core)) batch = contains_flat (λ v. v.batches) (sight body_scope core).passes _ batch seen among in
       (h.marked batch m all marked).held
 
--- a body at whose index none is live is marked in no batch
-none-body : (o : Option Record) (P : Record → Type 0) → IsNone o → ¬ IsSomeAnd o P
-none-body None P none has = has
-none-body (Some r) P none has = absurd cc
-
 -- an item that is nobody else's
 quiet-item : (c : Config) (view : View) (first : List Item) (item : Item) → IsForeign c view item.name
     → ((i : ℕ) (mode : Mode) → Holds view (stripe_of c i) mode → IsBodyWord i item.name → word c first (State i) < 256) → IsQuiet c view first item
@@ -193,7 +187,7 @@ module _ (kind : Kind) (core : Core) (step : Step) (at : IsViewAt core step.seat
           uncreated = λ i e body. others-idle kind core step at pass agree h holds seat number view apart found own (subst ChangesList (sym e) tt);
           unheld = λ batch m among marked held.
               let same = names.held m.index held in
-              none-body (record_at (scene_in (sight body_scope core)) index) _ none
+              none_here (record_at (scene_in (sight body_scope core)) index) _ none
               (subst (λ (i : ℕ). HasBody (scene_in (sight body_scope core)) i (λ r. (r.phase ≡ Held) × (r.layer ≡ batch.layer))) same
               (marked-held core h seat number view found own batch m among marked));
         })
@@ -236,8 +230,8 @@ module _ (kind : Kind) (core : Core) (step : Step) (at : IsViewAt core step.seat
               let same : index ≡ i = subst (IsBodyWord i) names body in
               let lists = each-seat body_scope (λ n v. refl) core (λ n v. ListsFree (sight body_scope core) v v.call.task h.chain) h.listed seat number view found own in
               let first : i ∷ h.chain ≡ free_indexes (scene_in (sight body_scope core)) = (subst (λ (t : Task). ListsFree (sight body_scope core) view t h.chain) e lists).1 in
-              let dead = (free-dead core.config.layers (scene_in (sight body_scope core)) (scene_consistent core h) i (subst (λ (l : List ℕ). Contains l i) first (Contains-cons_first i h.chain))).1 in
-              none-body (record_at (scene_in (sight body_scope core)) i) (λ q. ⊤) dead
+              let dead = (free-dead core.config.layers (scene_in (sight body_scope core)) (scene_consistent core h) i (subst (λ (l : List ℕ). Contains l i) first (contains_first i h.chain))).1 in
+              none_here (record_at (scene_in (sight body_scope core)) i) (λ q. ⊤) dead
               (subst (λ (o : Option Record). IsSomeAnd o (λ q. ⊤)) (sym live ∙ ap (λ (k : ℕ). record_at (scene_in (sight body_scope core)) k) same) tt);
           unheld = λ batch m among marked held. subst (IsHeldWord m.index) names held;
         })

@@ -9,7 +9,6 @@ pub mod WalksAlike
 pub mod Changing
 pub mod LockWords
 pub mod Keeping
-pub mod Widening
 pub mod Reading
 pub mod Chains
 pub mod Scenes
@@ -28,4 +27,3 @@ pub mod OneBody
 pub mod LivesAgree
 pub mod LivesTurn
 pub mod LivesKeep
-pub mod Events

@@ -1,9 +1,9 @@
 -- Views that differ in their locks, and in calls that are idle to a law, and sights of such views.
-use Rattle.std.proofs.Common.{◌≡◌, ◌⊎◌, ℕ, suc, ◌<◌, List, [], ◌∷◌, ◌++◌, length, get_or, refl, ap, sym, ◌∙◌, subst, inl, inr, arith}
-use Rattle.std.specs.Prelude.{⊤, Contains, flat_map, fold}
-use Rattle.std.specs.List.{AllZip}
+use Rattle.std.proofs.Common.{◌≡◌, ◌⊎◌, ℕ, ◌<◌, List, [], ◌∷◌, ◌++◌, length, get_or, refl, ap, sym, ◌∙◌, subst, inl, inr, arith, zero, Option, Some, None, set, suc}
+use Rattle.std.specs.Prelude.{⊤, Contains, flat_map, fold, filter_map}
+use Rattle.std.specs.List.{AllZip, cons_option}
 use Rattle.std.proofs.lemmas.List.{append-nil}
-use Rattle.std.proofs.lemmas.List.Elements.{AllZip-get_or, Contains-get_or, Contains-append_left, Contains-push_cases}
+use Rattle.std.proofs.lemmas.List.Elements.{AllZip-get_or, Contains-get_or, Contains-append_left, Contains-push_cases, length_all_zip}
 use Rattle.std.proofs.lemmas.List.Concat.{flat_map-append}
 use Rattle.std.proofs.lemmas.List.Sums.{fold-append}
 use Rattle.core_state.specs.declared.view.Mode.{Mode}
@@ -13,6 +13,8 @@ use Rattle.core_state.specs.declared.view.Call.{Call}
 use Rattle.core_state.specs.declared.view.View.{View}
 use Rattle.core_state.specs.View.{number_of, Holds}
 use Rattle.core_state.specs.Scope.{Sight, HasPass, EachPass, bare_view}
+use mathlib.Core.Option.{some, some-injective}
+use lib.ListN.{get_elem?}
 
 -- ---- tasks that are idle to a law: it says nothing of them
 
@@ -102,43 +104,69 @@ pub call-like : {idle : Task → Type 0} (C : Call → Type 0) (a b : Call) → 
 call-like C a b (same_call e) fresh h = subst C (sym e) h
 call-like C a b (idle_calls calm later loads stores) fresh h = fresh b later loads stores
 
--- ---- lists of views that are like one another
+-- ---- lists whose elements are like one another
 
-length-like : (idle : Task → Type 0) (xs ys : List View) → AllZip (IsLike idle) xs ys → length xs ≡ length ys
-length-like idle [] [] h = refl
-length-like idle [] (y ∷ ys) h = elim h [ ]
-length-like idle (x ∷ xs) [] h = elim h [ ]
-length-like idle (x ∷ xs) (y ∷ ys) h = ap suc (length-like idle xs ys h.1)
+module _ {X : Type 0} (R : X → X → Type 0) where
+  -- an element of the one has its like in the other
+  pub zip-back : (xs ys : List X) (y : X) → AllZip R xs ys → Contains ys y → (x : X) × Contains xs x × R x y
+  zip-back xs ys y like h =
+      let same = length_all_zip R xs ys like in
+      let below : h.0 < length xs = omega (arith, h.1) in
+      (get_or xs h.0 y, Contains-get_or xs h.0 y below, subst (λ (z : X). R (get_or xs h.0 y) z) h.2 (AllZip-get_or R xs ys h.0 y y like below))
 
--- a view among the ones has its like among the others
-zip-back : (idle : Task → Type 0) (xs ys : List View) (w : View) → AllZip (IsLike idle) xs ys → Contains ys w → (v : View) × Contains xs v × IsLike idle v w
-zip-back idle xs ys w like h =
-    let same = length-like idle xs ys like in
-    let below : h.0 < length xs = omega (arith, h.1) in
-    (get_or xs h.0 w, Contains-get_or xs h.0 w below, subst (λ (u : View). IsLike idle (get_or xs h.0 w) u) h.2 (AllZip-get_or (IsLike _) xs ys h.0 w w like below))
+  pub zip-forth : (xs ys : List X) (x : X) → AllZip R xs ys → Contains xs x → (y : X) × Contains ys y × R x y
+  zip-forth xs ys x like h =
+      let same = length_all_zip R xs ys like in
+      let below : h.0 < length ys = omega (arith, h.1) in
+      (get_or ys h.0 x, Contains-get_or ys h.0 x below, subst (λ (z : X). R z (get_or ys h.0 x)) h.2 (AllZip-get_or R xs ys h.0 x x like h.1))
 
-zip-forth : (idle : Task → Type 0) (xs ys : List View) (v : View) → AllZip (IsLike idle) xs ys → Contains xs v → (w : View) × Contains ys w × IsLike idle v w
-zip-forth idle xs ys v like h =
-    let same = length-like idle xs ys like in
-    let below : h.0 < length ys = omega (arith, h.1) in
-    (get_or ys h.0 v, Contains-get_or ys h.0 v below, subst (λ (u : View). IsLike idle u (get_or ys h.0 v)) h.2 (AllZip-get_or (IsLike _) xs ys h.0 v v like h.1))
+  -- of which the same is collected, or added
+  zip-flat : {Y : Type 0} (f : X → List Y) (xs ys : List X) → ((x y : X) → R x y → f y ≡ f x) → AllZip R xs ys → flat_map f ys ≡ flat_map f xs
+  zip-flat f [] [] same h = refl
+  zip-flat f [] (y ∷ ys) same h = elim h [ ]
+  zip-flat f (x ∷ xs) [] same h = elim h [ ]
+  zip-flat f (x ∷ xs) (y ∷ ys) same h = λ i. same x y h.0 i ++ zip-flat f xs ys same h.1 i
+
+  pub zip-fold : (g : ℕ → X → ℕ) (a : ℕ) (xs ys : List X) → ((n : ℕ) (x y : X) → R x y → g n y ≡ g n x) → AllZip R xs ys → fold g a ys ≡ fold g a xs
+  zip-fold g a [] [] same h = refl
+  zip-fold g a [] (y ∷ ys) same h = elim h [ ]
+  zip-fold g a (x ∷ xs) [] same h = elim h [ ]
+  zip-fold g a (x ∷ xs) (y ∷ ys) same h = ap (λ (n : ℕ). fold g n ys) (same a x y h.0) ∙ zip-fold g (g a x) xs ys same h.1
+
+-- where each is like itself
+module _ {Y : Type 0} (R : Y → Y → Type 0) (same : (y : Y) → R y y) where
+  pub zip-same : (ys : List Y) → AllZip R ys ys
+  zip-same [] = tt
+  zip-same (y ∷ ys) = (same y, zip-same ys)
+
+  pub zip-option : (o : Option Y) (ys zs : List Y) → AllZip R ys zs → AllZip R (cons_option o ys) (cons_option o zs)
+  zip-option None ys zs h = h
+  zip-option (Some y) ys zs h = (same y, h)
+
+  -- what is kept of a list where one element is written
+  pub zip-set : {X : Type 0} (f : X → Option Y) (xs : List X) (i : ℕ) (v w : X) (a b : Y) → get_elem? xs i ≡ some v → f v ≡ Some a → f w ≡ Some b → R a b → AllZip R (filter_map f xs) (filter_map f (set xs i w))
+  zip-set f [] i v w a b at old new h = tt
+  zip-set f (z ∷ xs) zero v w a b at old new h =
+      let first : f z ≡ Some a = ap f (some-injective z v at) ∙ old in
+      rw (first, new) (h, zip-same (filter_map f xs))
+  zip-set f (z ∷ xs) (suc i) v w a b at old new h = zip-option (f z) (filter_map f xs) (filter_map f (set xs i w)) (zip-set f xs i v w a b at old new h)
 
 -- a view afterwards is like one before, or says nothing
 abbrev Origin : (Task → Type 0) → List View → View → Type 0
 Origin idle before w = ((v : View) × Contains before v × IsLike idle v w) ⊎ ((number : ℕ) × (bare_view number ≡ w))
 
 origin : (idle : Task → Type 0) (before after : List View) (w : View) → AreLike idle before after → Contains after w → Origin idle before w
-origin idle before after w (same_many zip) h = inl (zip-back idle before after w zip h)
+origin idle before after w (same_many zip) h = inl (zip-back (IsLike idle) before after w zip h)
 origin idle before after w (one_more middle number zip e) h =
     elim (Contains-push_cases middle (bare_view number) w (subst (λ (l : List View). Contains l w) e h)) [
-      | inl old ↦ inl (zip-back idle before middle w zip old)
+      | inl old ↦ inl (zip-back (IsLike idle) before middle w zip old)
       | inr new ↦ inr (number, new)
     ]
 
 successor : (idle : Task → Type 0) (before after : List View) (v : View) → AreLike idle before after → Contains before v → (w : View) × Contains after w × IsLike idle v w
-successor idle before after v (same_many zip) h = zip-forth idle before after v zip h
+successor idle before after v (same_many zip) h = zip-forth (IsLike idle) before after v zip h
 successor idle before after v (one_more middle number zip e) h =
-    let t = zip-forth idle before middle v zip h in
+    let t = zip-forth (IsLike idle) before middle v zip h in
     (t.0, subst (λ (l : List View). Contains l t.0) (sym e) (Contains-append_left middle (bare_view number ∷ []) t.0 t.1), t.2)
 
 -- ---- sights
@@ -178,30 +206,18 @@ module _ {idle : Task → Type 0} (s : Sight) (after : List View) (like : AreLik
 
 -- ---- what is collected of all passes
 
-zip-flat : (idle : Task → Type 0) {X : Type 0} (f : View → List X) (xs ys : List View) → ((v w : View) → IsLike idle v w → f w ≡ f v) → AllZip (IsLike idle) xs ys → flat_map f ys ≡ flat_map f xs
-zip-flat idle f [] [] same h = refl
-zip-flat idle f [] (y ∷ ys) same h = elim h [ ]
-zip-flat idle f (x ∷ xs) [] same h = elim h [ ]
-zip-flat idle f (x ∷ xs) (y ∷ ys) same h = λ i. same x y h.0 i ++ zip-flat idle f xs ys same h.1 i
-
 pub flat-like : {idle : Task → Type 0} {X : Type 0} (f : View → List X) (before after : List View) → ((v w : View) → IsLike idle v w → f w ≡ f v) → ((k : ℕ) → f (bare_view k) ≡ []) → AreLike idle before after
     → flat_map f after ≡ flat_map f before
-flat-like {idle = idle} f before after same none (same_many zip) = zip-flat idle f before after same zip
+flat-like {idle = idle} f before after same none (same_many zip) = zip-flat (IsLike idle) f before after same zip
 flat-like {idle = idle} {X = X} f before after same none (one_more middle number zip e) =
     ap (λ (l : List View). flat_map f l) e ∙
     (flat_map-append f middle (bare_view number ∷ []) ∙
     (ap (λ (l : List X). flat_map f middle ++ (l ++ [])) (none number) ∙
-    (append-nil (flat_map f middle) ∙ zip-flat idle f before middle same zip)))
-
-zip-fold : (idle : Task → Type 0) (g : ℕ → View → ℕ) (a : ℕ) (xs ys : List View) → ((n : ℕ) (v w : View) → IsLike idle v w → g n w ≡ g n v) → AllZip (IsLike idle) xs ys → fold g a ys ≡ fold g a xs
-zip-fold idle g a [] [] same h = refl
-zip-fold idle g a [] (y ∷ ys) same h = elim h [ ]
-zip-fold idle g a (x ∷ xs) [] same h = elim h [ ]
-zip-fold idle g a (x ∷ xs) (y ∷ ys) same h = ap (λ (n : ℕ). fold g n ys) (same a x y h.0) ∙ zip-fold idle g (g a x) xs ys same h.1
+    (append-nil (flat_map f middle) ∙ zip-flat (IsLike idle) f before middle same zip)))
 
 pub fold-like : {idle : Task → Type 0} (g : ℕ → View → ℕ) (a : ℕ) (before after : List View) → ((n : ℕ) (v w : View) → IsLike idle v w → g n w ≡ g n v) → ((n k : ℕ) → g n (bare_view k) ≡ n) → AreLike idle before after
     → fold g a after ≡ fold g a before
-fold-like {idle = idle} g a before after same none (same_many zip) = zip-fold idle g a before after same zip
+fold-like {idle = idle} g a before after same none (same_many zip) = zip-fold (IsLike idle) g a before after same zip
 fold-like {idle = idle} g a before after same none (one_more middle number zip e) =
     ap (λ (l : List View). fold g a l) e ∙
-    (fold-append g a middle (bare_view number ∷ []) ∙ (none (fold g a middle) number ∙ zip-fold idle g a before middle same zip))
+    (fold-append g a middle (bare_view number ∷ []) ∙ (none (fold g a middle) number ∙ zip-fold (IsLike idle) g a before middle same zip))

@@ -28,10 +28,11 @@ use Rattle.core_state.specs.Bodies.{free_indexes, IsChain, MovesBody}
 use Rattle.core_state.specs.BodiesAgree.{BodiesAgree, body_scope, ListsFree, ChangesList, IsUnderStripe}
 use Rattle.core_state.proofs.Frames.{step-history}
 use Rattle.core_state.proofs.Steps.{word-step}
-use Rattle.core_guard.proofs.Chains.{Contains-cons_first, chain-kept, chain-front, chain-first}
-use Rattle.core_guard.proofs.Scenes.{bodies-after, record_body, state-tells_live, state-dead_low}
+use Rattle.core_guard.proofs.Chains.{chain-kept, chain-front, chain-first}
+use Rattle.core_guard.proofs.Scenes.{bodies-after, state-tells_live, state-dead_low}
 use Rattle.core_guard.proofs.FreeIndexes.{free-dead, free-apart}
-use Rattle.core_guard.proofs.BodiesStep.{WordsPart, ListPart, together, sound, known-now, unstored, chain-idle, new_sight, bodies-agree, words-kept, stripe-part, list-part, KeepsHeld, batch-part}
+use Rattle.core_guard.proofs.BodiesStep.{WordsPart, ListPart, together, sound, known-now, unstored, chain-idle, new_sight, bodies-agree, words-kept, stripe-part, list-part, KeepsHeld, batch-part, found-now}
+use Rattle.core_state.proofs.Beginning.{record_body, contains_first}
 
 -- ---- under the lock of the list
 
@@ -179,10 +180,6 @@ module _ (core : Core) (step : Step) (at : IsViewAt core step.seat step.view) (p
   now : (name : Name) → guard_of core.config name ≡ Some (index_lock core.config) → word_of core name ≡ known_word step.view name
   now name guarded = listed-now store_head core step at pass formed name guards world guarded
 
-  -- what the pass finds in the log is what there is
-  found_now : (name : Name) → known_word (learned core step) name ≡ word_of core name
-  found_now name = ap (λ (c : Config). word c core.log name) (sound store_head core step at pass formed).config
-
   whole_list : h.chain ≡ free_indexes (scene_in (sight body_scope core))
   whole_list = chain-idle store_head core step at pass agree h world list.idle
 
@@ -203,36 +200,61 @@ module _ (core : Core) (step : Step) (at : IsViewAt core step.seat step.view) (p
       (subst (λ (t : Task). ListsFree head_sight head_view t chain) (sym is) lists)
       (λ none. absurd (none (subst ChangesList (sym is) changes))))
 
-  take-agree : TakesFirst step.view step.first → BodiesAgree (after_step store_head core step)
-  take-agree takes =
+  -- what is left of the list when the first index is taken off
+  pub record IsTaken (takes : TakesFirst step.view step.first) : Type 0 where
+    pub chain : List ℕ
+    pub free : takes.index ∷ chain ≡ free_indexes (scene_in (sight body_scope core))
+    pub linked : IsChain (λ i. (sight body_scope core).word (SlotNext i)) step.first chain
+
+  pub is-taken : (takes : TakesFirst step.view step.first) → IsTaken takes
+  is-taken takes =
       let s = sight body_scope core in
       let first : word_of core SlotHead ≡ suc takes.index = now SlotHead refl ∙ takes.head in
       let link : step.first ≡ word_of core (SlotNext takes.index) = takes.next ∙ sym (now (SlotNext takes.index) refl) in
       let cut = chain-first (λ i. s.word (SlotNext i)) takes.index h.chain (subst (λ (n : ℕ). IsChain (λ i. s.word (SlotNext i)) n h.chain) first h.linked) in
-      let free : takes.index ∷ cut.0 ≡ free_indexes (scene_in s) = sym cut.1 ∙ whole_list in
-      let linked : IsChain (λ i. s.word (SlotNext i)) step.first cut.0 = subst (λ (n : ℕ). IsChain (λ i. s.word (SlotNext i)) n cut.0) (sym link) cut.2 in
-      let dead : (i : ℕ) → step.first ≡ suc i → known_word (learned core step) (State i) < 256 = λ i names.
-      let next = chain-first (λ j. s.word (SlotNext j)) i cut.0 (subst (λ (n : ℕ). IsChain (λ j. s.word (SlotNext j)) n cut.0) names linked) in
-      let among : Contains cut.0 i = subst (λ (l : List ℕ). Contains l i) (sym next.1) (Contains-cons_first i next.0) in
-      let none = free-dead core.config.layers (scene_in s) (scene_consistent core h) i (subst (λ (l : List ℕ). Contains l i) free (Contains-cons_tail takes.index cut.0 i among)) in
+      record {
+        chain = cut.0;
+        free = sym cut.1 ∙ whole_list;
+        linked = subst (λ (n : ℕ). IsChain (λ i. s.word (SlotNext i)) n cut.0) (sym link) cut.2;
+      }
+
+  -- no body is live at the next one
+  next-dead : (takes : TakesFirst step.view step.first) (i : ℕ) → step.first ≡ suc i → known_word (learned core step) (State i) < 256
+  next-dead takes i names =
+      let s = sight body_scope core in
+      let taken = is-taken takes in
+      let next = chain-first (λ j. s.word (SlotNext j)) i taken.chain (subst (λ (n : ℕ). IsChain (λ j. s.word (SlotNext j)) n taken.chain) names taken.linked) in
+      let among : Contains taken.chain i = subst (λ (l : List ℕ). Contains l i) (sym next.1) (contains_first i next.0) in
+      let none = free-dead core.config.layers (scene_in s) (scene_consistent core h) i (subst (λ (l : List ℕ). Contains l i) taken.free (Contains-cons_tail takes.index taken.chain i among)) in
       let below : i < core.config.bodies = subst (λ (n : ℕ). i < n) (bodies-after core.config.bodies (history core.log)) none.0 in
       let state = h.state i below in
       let low = state-dead_low (place_at (scene_in s) i) none.1 in
-      let found = found_now (State i) in
+      let found = found-now store_head core step at pass (State i) formed in
       omega arith
-      in
-      head-agree (Creating takes.index) cut.0 (task-taken (learned core step) (word_of core step.name) step.first takes.index (ap (λ (n : Name). word_of core n) names ∙ first) dead)
-      linked (λ view. tt) (world, free) tt
+
+  -- so a creation is under way
+  pub taken-task : (takes : TakesFirst step.view step.first) → head_view.call.task ≡ Creating takes.index
+  taken-task takes =
+      task-taken (learned core step) (word_of core step.name) step.first takes.index (ap (λ (n : Name). word_of core n) names ∙ (now SlotHead refl ∙ takes.head)) (next-dead takes)
+
+  -- or a destruction
+  pub put-task : (puts : PutsFirst step.view step.first) → head_view.call.task ≡ Destroying puts.index
+  put-task puts =
+      let state = now (State puts.index) refl in
+      let live = puts.body.live in
+      let found = found-now store_head core step at pass (State puts.index) formed in
+      task-put (learned core step) (word_of core step.name) step.first puts.index puts.head (omega arith)
+
+  take-agree : TakesFirst step.view step.first → BodiesAgree (after_step store_head core step)
+  take-agree takes =
+      let taken = is-taken takes in
+      head-agree (Creating takes.index) taken.chain (taken-task takes) taken.linked (λ view. tt) (world, taken.free) tt
 
   put-agree : PutsFirst step.view step.first → BodiesAgree (after_step store_head core step)
   put-agree puts =
       let s = sight body_scope core in
       let link : word_of core (SlotNext puts.index) ≡ word_of core SlotHead = now (SlotNext puts.index) refl ∙ (puts.link ∙ sym (now SlotHead refl)) in
-      let state = now (State puts.index) refl in
-      let live = puts.body.live in
-      let found = found_now (State puts.index) in
-      head-agree (Destroying puts.index) (puts.index ∷ h.chain)
-      (task-put (learned core step) (word_of core step.name) step.first puts.index puts.head (omega arith))
+      head-agree (Destroying puts.index) (puts.index ∷ h.chain) (put-task puts)
       (rw puts.head (chain-front (λ i. s.word (SlotNext i)) (s.word SlotHead) puts.index h.chain link h.linked))
       (λ view. tt) (world, ap (λ (l : List ℕ). puts.index ∷ l) whole_list) tt
 

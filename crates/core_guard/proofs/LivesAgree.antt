@@ -30,12 +30,13 @@ use Rattle.core_state.proofs.Boxes.{box_of-words}
 use Rattle.core_state.proofs.Frames.{step-history}
 use Rattle.core_state.proofs.Guarding.{live-still}
 use Rattle.core_state.proofs.Steps.{word-step}
-use Rattle.core_guard.proofs.Chains.{chain-kept, Contains-cons_first}
-use Rattle.core_guard.proofs.Scenes.{live_or_dead, record_live, record_body, bodies-after, place_at-created, place_at-created_other, place_at-destroyed, place_at-destroyed_other, with_user, place_at-user, place_at-user_other, state-created, state-destroyed, state-user, state-tells_live}
+use Rattle.core_guard.proofs.Chains.{chain-kept}
+use Rattle.core_guard.proofs.Scenes.{live_or_dead, record_live, bodies-after, place_at-created, place_at-created_other, place_at-destroyed, place_at-destroyed_other, with_user, place_at-user, place_at-user_other, state-created, state-destroyed, state-user, state-tells_live}
 use Rattle.core_guard.proofs.FreeIndexes.{free-next, free-created, free-destroyed, free-user, free-dead}
 use Rattle.core_guard.proofs.BodiesStep.{WordsPart, together, sound, known-now, unstored, chain-task, new_sight, bodies-agree, phase-kept, whole-back, words-kept, stripe-moved, stripe-part, list-part, list-stays, KeepsHeld, batch-part, out_phase}
 use Rattle.core_guard.proofs.OneBody.{is_other, body_index, past_after, one_sight, one-scene, other_word, one-words, one-held, one-linked, one-agree}
 use Rattle.core_guard.proofs.ListsAgree.{scene_consistent, world-lock, listed-now, known-live}
+use Rattle.core_state.proofs.Beginning.{record_body, contains_first}
 
 -- ---- an index that is to get a body
 
@@ -54,7 +55,7 @@ module _ (kind : Kind) (core : Core) (step : Step) (at : IsViewAt core step.seat
   -- so no body is live there
   pub creating-dead : (index < core.config.bodies) × IsNone (record_at (scene_in old) index)
   creating-dead =
-      let t = free-dead core.config.layers (scene_in old) (scene_consistent core h) index (subst (λ (l : List ℕ). Contains l index) creating-first (Contains-cons_first index h.chain)) in
+      let t = free-dead core.config.layers (scene_in old) (scene_consistent core h) index (subst (λ (l : List ℕ). Contains l index) creating-first (contains_first index h.chain)) in
       (subst (λ (n : ℕ). index < n) (bodies-after core.config.bodies (history core.log)) t.0, t.1)
 
   -- a live body is at another index

@@ -250,7 +250,7 @@ Invariants-set_user before after steps formed guards h =
 
 -- ---- what others have for themselves
 
-guards-after : (asks : Asking) (kind : Kind) (before after : Core) (steps : Steps asks kind before after) → KeepsGuards kind before steps.step → GuardsHold before → GuardsHold after
+pub guards-after : (asks : Asking) (kind : Kind) (before after : Core) (steps : Steps asks kind before after) → KeepsGuards kind before steps.step → GuardsHold before → GuardsHold after
 guards-after asks kind before after steps keeps guards = subst GuardsHold (sym steps.result) (GuardsHold-step kind before steps.step steps.allowed.at keeps guards)
 
 pub GuardsHold-store_link : (before after : Core) → Steps MayStoreLink store_link before after → IsFormed before → Invariants before → GuardsHold before → GuardsHold after

@@ -21,7 +21,7 @@ use Rattle.core_state.specs.Kind.{Kind, Step, view_after, after_step, log_after}
 use Rattle.core_state.specs.Scope.{Sight, sight}
 use Rattle.core_state.specs.LocksAgree.{LocksAgree}
 use Rattle.core_state.specs.BodiesAgree.{BodiesAgree, body_scope, IsUnderStripe}
-use Rattle.core_state.specs.LocationsHold.{LocationsHold, location_scope, Removes, IsRemoved}
+use Rattle.core_state.specs.LocationsHold.{LocationsHold, location_scope, IsRemoved}
 use Rattle.core_state.specs.Nodes.{Nodes}
 use Rattle.core_state.proofs.Frames.{step-history}
 use Rattle.core_state.proofs.Lookups.{at_set}
@@ -31,6 +31,7 @@ use Rattle.core_guard.proofs.Guarded.{lock-alone}
 use Rattle.core_guard.proofs.Seats.{each-seat}
 use Rattle.core_guard.proofs.TreeLaws.{with_view}
 use Rattle.core_guard.proofs.Turning.{IsHandled, IsLeftAlone, IsTurned, as_before, IsBare, MayTurn, Turns, not_handled}
+use Rattle.core_guard.proofs.LocationsTurned.{removes_handles}
 
 -- ---- the core in which the view has changed, and the step after it
 
@@ -86,16 +87,11 @@ module _ (kind : Kind) (core : Core) (step : Step) where
 -- ---- bodies that have no place in a tree
 
 -- a task that handles a body has its stripe
-handled-stripe : (s : Sight) (view : View) (task : Task) (i : ℕ) → IsHandled task i → IsUnderStripe s view task → Holds view (stripe_of s.config i) Write
+pub handled-stripe : (s : Sight) (view : View) (task : Task) (i : ℕ) → IsHandled task i → IsUnderStripe s view task → Holds view (stripe_of s.config i) Write
 handled-stripe s view (Moving index target) i same h = subst (λ (k : ℕ). Holds view (stripe_of s.config k) Write) same h
 handled-stripe s view (Removing index) i same h = subst (λ (k : ℕ). Holds view (stripe_of s.config k) Write) same h
 handled-stripe s view (Placing index) i same h = subst (λ (k : ℕ). Holds view (stripe_of s.config k) Write) same h
 handled-stripe s view _ i handled h = absurd handled
-
--- who removes a body handles it
-removes-handled : (task : Task) (i : ℕ) → Removes task i → IsHandled task i
-removes-handled (Removing index) i h = h
-removes-handled _ i h = absurd h
 
 module _ (kind : Kind) (core : Core) (step : Step) (at : IsViewAt core step.seat step.view) (pass : IsPass step.view step.number) (agree : LocksAgree core) (h : BodiesAgree core) where
   -- nobody handles a body whose stripe another pass has, if that one does not
@@ -123,7 +119,7 @@ pub bare-out : (nodes : Nodes) (core : Core) (i : ℕ) (r : Record) → Location
 bare-out nodes core i r h live out alone =
     let body : HasBody (scene_of core) i (λ q. q.phase ≡ Out) = subst (λ (o : Option Record). IsSomeAnd o (λ q. q.phase ≡ Out)) (sym live) out in
     let kept : ¬ IsRemoved (sight location_scope core) i = λ removed.
-    not_handled location_scope core i removed.1.0 (λ bare own. refl) alone removed.1.1 (removes-handled removed.1.0.call.task i removed.1.3)
+    not_handled location_scope core i removed.1.0 (λ bare own. refl) alone removed.1.1 (removes_handles removed.1.0.call.task i removed.1.3)
     in
     let places = h.out i body kept in
     record {

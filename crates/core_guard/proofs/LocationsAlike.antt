@@ -14,14 +14,14 @@ use Rattle.core_state.specs.declared.view.Noted.{Noted}
 use Rattle.core_state.specs.declared.view.Rebuild.{Rebuild}
 use Rattle.core_state.specs.declared.view.View.{View}
 use Rattle.core_state.specs.Encoding.{place, Sides}
-use Rattle.core_state.specs.Nodes.{Nodes}
+use Rattle.core_state.specs.Nodes.{Nodes, Stands}
 use Rattle.core_state.specs.Scope.{Sight, scene_in, bare_view}
 use Rattle.core_state.specs.Bodies.{has_box_word}
 use Rattle.core_state.specs.Updates.{IsNoted, IsDone, IsPlacing, IsStillMerged}
-use Rattle.core_state.specs.LocationsHold.{LocationsHoldIn, IsLocation, Encloses, Removes, IsRemoved, IsPartlyCleared, IsWhere, in_slot, in_main, in_old, in_merged, IsPlannedAt, GivesBox, IsStillWide, ClimbsFrom, IsOnItsWay}
+use Rattle.core_state.specs.LocationsHold.{LocationsHoldIn, IsLocation, Encloses, Removes, IsRemoved, IsPartlyCleared, IsWhere, in_slot, in_main, in_old, in_merged, IsPlannedAt, GivesBox, IsStillWide, ClimbsFrom, IsOnItsWay, IsWidenedOnWay, IsUnheld}
 use Rattle.core_guard.proofs.Likeness.{IsListing, same_call, idle_calls, IsLike, AreLike, with_passes, busy-forth, busy-back, call-like, each-like, has-forth, flat-like}
-use Rattle.core_guard.proofs.UpdatesAlike.{has_update-forth, update-like, has_pass_update-forth}
-use Rattle.core_guard.proofs.NodesAlike.{nothing_in}
+use Rattle.core_guard.proofs.UpdatesAlike.{has_update-back, has_update-forth, update-like, has_pass_update-forth}
+use Rattle.core_state.proofs.Opening.{none_in}
 
 removes_none : (i : ℕ) (t : Task) → IsListing t → ¬ Removes t i
 removes_none i (Removing index) listing h = listing
@@ -49,6 +49,20 @@ gives_none i box (Destroying index) listing h = h
 gives_none i box (Pooling taken given) listing h = h
 gives_none i box (Removing index) listing h = h
 gives_none i box (Placing index) listing h = h
+
+unheld_none : (s : Sight) (t : Task) → IsListing t → IsUnheld s t
+unheld_none s (Moving index target) listing = absurd listing
+unheld_none s (Placing index) listing = absurd listing
+unheld_none s _ listing = tt
+
+climbs_none : (s : Sight) (v : View) (t : Task) (n k : ℕ) → IsListing t → ¬ ClimbsFrom s v t n k
+climbs_none s v (Moving index target) n k listing h = listing
+climbs_none s v (Placing index) n k listing h = listing
+climbs_none s v Nothing n k listing h = h
+climbs_none s v (Creating index) n k listing h = h
+climbs_none s v (Destroying index) n k listing h = h
+climbs_none s v (Pooling taken given) n k listing h = h
+climbs_none s v (Removing index) n k listing h = h
 
 -- what an update has done with stays done
 module _ {idle : Task → Type 0} (quiet : (t : Task) → idle t → IsListing t) (v w : View) (r : Rebuild) (i : ℕ) (l : IsLike idle v w) where
@@ -95,12 +109,30 @@ module _ {idle : Task → Type 0} (quiet : (t : Task) → idle t → IsListing t
   climbs-like : (v w : View) (task : Task) (n k : ℕ) → IsLike idle v w → ClimbsFrom s v task n k → ClimbsFrom (with_passes s after) w task n k
   climbs-like v w (Moving index target) n k l h = h
   climbs-like v w (Placing index) n k l h =
-      has_update-forth v w (λ r. IsNoted r index (λ noted. noted.place ≡ place n k)) (λ r. IsNoted r index (λ noted. noted.place ≡ place n k)) l (λ r e. e) h
+      (h.0, has_update-forth v w (λ r. IsNoted r index (λ noted. noted.place ≡ place n k)) (λ r. IsNoted r index (λ noted. noted.place ≡ place n k)) l (λ r e. e) h.1)
   climbs-like v w Nothing n k l h = h
   climbs-like v w (Creating index) n k l h = h
   climbs-like v w (Destroying index) n k l h = h
   climbs-like v w (Pooling taken given) n k l h = h
   climbs-like v w (Removing index) n k l h = h
+
+  climbs-back : (v w : View) (task : Task) (n k : ℕ) → IsLike idle v w → ClimbsFrom (with_passes s after) w task n k → ClimbsFrom s v task n k
+  climbs-back v w (Moving index target) n k l h = h
+  climbs-back v w (Placing index) n k l h =
+      (h.0, has_update-back v w (λ r. IsNoted r index (λ noted. noted.place ≡ place n k)) (λ r. IsNoted r index (λ noted. noted.place ≡ place n k)) l (λ r e. e) h.1)
+  climbs-back v w Nothing n k l h = h
+  climbs-back v w (Creating index) n k l h = h
+  climbs-back v w (Destroying index) n k l h = h
+  climbs-back v w (Pooling taken given) n k l h = h
+  climbs-back v w (Removing index) n k l h = h
+
+  -- who climbs begins where it began
+  from-like : (v w : View) → IsLike idle v w → ((n k : ℕ) → ClimbsFrom s v v.call.task n k → Stands (nodes.home n)) → (n k : ℕ) → ClimbsFrom (with_passes s after) w w.call.task n k → Stands (nodes.home n)
+  from-like v w l h n k climbs =
+      elim (l.call) [
+        | same_call e ↦ h n k (climbs-back v w v.call.task n k l (subst (λ (c : Call). ClimbsFrom (with_passes s after) w c.task n k) e climbs))
+        | idle_calls calm later loads stores ↦ absurd (climbs_none (with_passes s after) w w.call.task n k (quiet w.call.task later) climbs)
+      ]
 
   way-like : (v w : View) → IsLike idle v w → IsOnItsWay s v → IsOnItsWay (with_passes s after) w
   way-like v w l h m a b below among =
@@ -108,8 +140,23 @@ module _ {idle : Task → Type 0} (quiet : (t : Task) → idle t → IsListing t
         | same_call e ↦
             let t = h m a b below (subst (λ (c : Call). Contains c.loads (record { name = Parent m; value = place a b })) e among) in
             (t.0, t.1, climbs-like v w w.call.task t.0 t.1 l (subst (λ (c : Call). ClimbsFrom s v c.task t.0 t.1) (sym e) t.2), t.3)
-        | idle_calls calm later loads stores ↦ absurd (nothing_in (record { name = Parent m; value = place a b }) (subst (λ (l : List Load). Contains l (record { name = Parent m; value = place a b })) loads among))
+        | idle_calls calm later loads stores ↦ absurd (none_in (record { name = Parent m; value = place a b }) (subst (λ (l : List Load). Contains l (record { name = Parent m; value = place a b })) loads among))
       ]
+
+  wide-way-like : (v w : View) → IsLike idle v w → IsWidenedOnWay s v → IsWidenedOnWay (with_passes s after) w
+  wide-way-like v w l h a b q value among =
+      elim (l.call) [
+        | same_call e ↦
+            let t = h a b q value (subst (λ (c : Call). Contains c.stores (record { name = Bound a b q; value = value })) e among) in
+            (t.0, t.1, climbs-like v w w.call.task t.0 t.1 l (subst (λ (c : Call). ClimbsFrom s v c.task t.0 t.1) (sym e) t.2), t.3)
+        | idle_calls calm later loads stores ↦
+            absurd (none_in (record { name = Bound a b q; value = value }) (subst (λ (x : List Store). Contains x (record { name = Bound a b q; value = value })) stores among))
+      ]
+
+  unheld-same : (task : Task) → IsUnheld s task → IsUnheld (with_passes s after) task
+  unheld-same (Moving index target) h = h
+  unheld-same (Placing index) h = h
+  unheld-same _ h = tt
 
   abbrev Clears : Call → Type 0
   Clears c = (i : ℕ) → Removes c.task i → HasBody (scene_in s) i (λ r. r.phase ≡ Out) × IsPartlyCleared nodes s (record (bare_view 0) { call = c }) i
@@ -124,6 +171,7 @@ module _ {idle : Task → Type 0} (quiet : (t : Task) → idle t → IsListing t
         has_pass_update-forth s after like number (λ r. IsNoted r i (λ noted. (noted.place ≡ place n k) × (noted.layer ≡ l))) (λ r. IsNoted r i (λ noted. (noted.place ≡ place n k) × (noted.layer ≡ l)))
         (λ r e. e) (h.made_entries i n k number l home below entry);
     planned = update-like s after like _ _ h.planned (λ number v w r l planned noted among made swapped. planned-like number v w r noted l (planned noted among made swapped));
+    planned_stand = update-like s after like _ _ h.planned_stand (λ number v w r l stand. stand);
     first = λ i r n k e phase below location. where-like i r.layer n (h.first i r n k e phase below location);
     second = λ i other.
         let t = h.second i other in
@@ -142,8 +190,13 @@ module _ {idle : Task → Type 0} (quiet : (t : Task) → idle t → IsListing t
     still_wide = each-like s after like _ _ h.still_wide
         (λ number v w l wide.
         call-like (λ c. IsStillWide s (record (bare_view 0) { call = c })) v.call w.call l.call
-        (λ c calm loads stores n k q value among. absurd (nothing_in (record { name = Bound n k q; value = value }) (subst (λ (l : List Store). Contains l (record { name = Bound n k q; value = value })) stores among))) wide)
-        (λ number j n k q value among. absurd (nothing_in (record { name = Bound n k q; value = value }) among));
+        (λ c calm loads stores n k q value among. absurd (none_in (record { name = Bound n k q; value = value }) (subst (λ (l : List Store). Contains l (record { name = Bound n k q; value = value })) stores among))) wide)
+        (λ number j n k q value among. absurd (none_in (record { name = Bound n k q; value = value }) among));
+    unheld = each-like s after like _ _ h.unheld
+        (λ number v w l unheld. unheld-same w.call.task (call-like (λ c. IsUnheld s c.task) v.call w.call l.call (λ c calm loads stores. unheld_none s c.task (quiet c.task calm)) unheld)) (λ number k. tt);
+    widened_on_way = each-like s after like _ _ h.widened_on_way (λ number v w l way. wide-way-like v w l way)
+        (λ number k a b q value among. absurd (none_in (record { name = Bound a b q; value = value }) among));
+    climbs_from = each-like s after like _ _ h.climbs_from (λ number v w l from. from-like v w l from) (λ number k n j climbs. absurd climbs);
     on_its_way = each-like s after like _ _ h.on_its_way (λ number v w l way. way-like v w l way)
-        (λ number k m a b below among. absurd (nothing_in (record { name = Parent m; value = place a b }) among));
+        (λ number k m a b below among. absurd (none_in (record { name = Parent m; value = place a b }) among));
   }

@@ -1,15 +1,15 @@
 -- The locations hold also where the scene goes on and no place in a tree changes.
-use Rattle.std.proofs.Common.{◌≡◌, ◌⊎◌, ℕ, ◌<◌, ◌≤◌, false, Option, Some, refl, sym, ◌∙◌, subst, inl, inr}
+use Rattle.std.proofs.Common.{◌≡◌, ◌⊎◌, ℕ, ◌<◌, ◌≤◌, false, Option, Some, refl, sym, ◌∙◌, subst, inl, inr, None}
 use Rattle.std.specs.Prelude.{Contains, IsSomeAnd}
 use Rattle.fixed_box.specs.FixBox.{words_of}
 use Rattle.fixed_box.specs.declared.fix_box.FixBox.{FixBox}
-use Rattle.scene_model.specs.declared.body_view.Phase.TheVariants.{Out, In}
+use Rattle.scene_model.specs.declared.body_view.Phase.TheVariants.{Out, Held, In}
 use Rattle.scene_model.specs.Scene.{Record, record_at}
 use Rattle.scene_model.specs.Step.{HasBody}
 use Rattle.word_map.specs.declared.name.Name.{Name}
 use Rattle.word_map.specs.declared.name.Name.TheVariants.{Phase, BoxWord, LocA, LocB, Child, Bound, Parent}
 use Rattle.core_state.specs.declared.view.Task.{Task}
-use Rattle.core_state.specs.declared.view.Task.TheVariants.{Moving, Removing}
+use Rattle.core_state.specs.declared.view.Task.TheVariants.{Moving, Removing, Placing}
 use Rattle.core_state.specs.declared.view.Marked.{Marked}
 use Rattle.core_state.specs.declared.view.Batch.{Batch}
 use Rattle.core_state.specs.declared.view.Noted.{Noted}
@@ -20,17 +20,17 @@ use Rattle.core_state.specs.Encoding.{body_child, Sides, sides_of, Covers}
 use Rattle.core_state.specs.Nodes.{Nodes, Stands, Above, here, higher}
 use Rattle.core_state.specs.Scope.{Sight, sight, word_in, scene_in, HasPass}
 use Rattle.core_state.specs.Updates.{HasUpdate, IsNoted}
-use Rattle.core_state.specs.LocationsHold.{LocationsHoldIn, LocationsHold, location_scope, box_in, IsLocation, IsAt, Encloses, Removes, has_cleared_location, IsPartlyCleared, IsPlannedIn, IsWhere, in_slot, in_main, in_old, in_merged, IsPlannedAt, ClimbsFrom}
+use Rattle.core_state.specs.LocationsHold.{LocationsHoldIn, IsUnheld, LocationsHold, location_scope, box_in, IsLocation, IsAt, Encloses, Removes, has_cleared_location, IsPartlyCleared, IsPlannedIn, IsWhere, in_slot, in_main, in_old, in_merged, IsPlannedAt, ClimbsFrom}
 use Rattle.core_guard.proofs.UpdatesAlike.{if_some_map}
 use Rattle.core_guard.proofs.Turning.{IsHandled, IsTurned, Turns, IsGone, body-back, body-forth, was_in, IsSameBody, none-back, not_handled, grown, word-turned, sight-turned, bodies-turned}
 
 -- who takes a body out handles it
-removes_handles : (task : Task) (i : ℕ) → Removes task i → IsHandled task i
+pub removes_handles : (task : Task) (i : ℕ) → Removes task i → IsHandled task i
 removes_handles (Removing index) i h = h
 removes_handles _ i h = absurd h
 
 -- the way up is that by the same parent words
-above-same : (v w : Name → ℕ) → ((n : ℕ) → w (Parent n) ≡ v (Parent n)) → (n k a b : ℕ) → Above v n k a b → Above w n k a b
+pub above-same : (v w : Name → ℕ) → ((n : ℕ) → w (Parent n) ≡ v (Parent n)) → (n k a b : ℕ) → Above v n k a b → Above w n k a b
 above-same v w same n k a b (here x y) = here x y
 above-same v w same n k a b (higher x y m j c d e below rest) = higher x y m j c d (same x ∙ e) below (above-same v w same m j c d rest)
 
@@ -63,6 +63,23 @@ module _ (nodes : Nodes) (before after : Core) (t : Turns before after) where
   bound n k q = word-turned location_scope before after t (Bound n k q) (λ h. h)
 
   -- ---- bodies in the broad phase
+
+  -- a body is held as it was
+  held-back : (i : ℕ) → HasBody (scene_in New) i (λ r. r.phase ≡ Held) → HasBody (scene_in Old) i (λ r. r.phase ≡ Held)
+  held-back i body =
+      elim (body-back before i (λ r. r.phase ≡ Held) _ _ (turned i) (λ r user same. same) body) [
+        | inl old ↦ old
+        | inr new ↦ absurd (held_out (record_at (scene_in New) i) body new.out)
+      ]
+    where
+      held_out : (o : Option Record) → IsSomeAnd o (λ r. r.phase ≡ Held) → IsSomeAnd o (λ r. r.phase ≡ Out) → ⊥
+      held_out None h out = h
+      held_out (Some r) h out = absurd cc
+
+  unheld-forth : (task : Task) → IsUnheld Old task → IsUnheld New task
+  unheld-forth (Moving index target) h = λ held. h (held-back index held)
+  unheld-forth (Placing index) h = λ held. h (held-back index held)
+  unheld-forth _ h = tt
 
   location-back : (i n k : ℕ) → IsLocation New i n k → IsLocation Old i n k
   location-back i n k h = (h.0, elim (h.1) [ inl e ↦ inl (sym (loc_a i) ∙ e) | inr e ↦ inr (sym (loc_b i) ∙ e) ])
@@ -131,6 +148,10 @@ module _ (nodes : Nodes) (before after : Core) (t : Turns before after) where
   climbs-forth view (Moving index target) n k h = location-forth index n k h
   climbs-forth view _ n k h = h
 
+  climbs-back : (view : View) (task : Task) (n k : ℕ) → ClimbsFrom New view task n k → ClimbsFrom Old view task n k
+  climbs-back view (Moving index target) n k h = location-back index n k h
+  climbs-back view _ n k h = h
+
   -- ---- the law
 
   locations : LocationsHoldIn nodes Old → LocationsHoldIn nodes New
@@ -142,6 +163,7 @@ module _ (nodes : Nodes) (before after : Core) (t : Turns before after) where
     made_entries = λ i n k number l home below entry. h.made_entries i n k number l home below (sym (child n k) ∙ entry);
     planned = λ number view among pass.
         if_some_map view.rebuild _ _ (λ r planned noted listed made swapped. planned-forth number view r noted (planned noted listed made swapped)) (h.planned number view among pass);
+    planned_stand = λ number view among pass. if_some_map view.rebuild _ _ (λ r stand. stand) (h.planned_stand number view among pass);
     first = λ i r n k e inside below location.
         let o = was_in before i _ _ r (turned i) e inside in
         subst (λ (layer : ℕ). IsWhere nodes New i layer n) o.2.1 (where-forth i o.0.layer n (h.first i o.0 n k o.1 o.2.0 below (sym (loc_a i) ∙ location)));
@@ -177,6 +199,11 @@ module _ (nodes : Nodes) (before after : Core) (t : Turns before after) where
         encloses-forth n k box (h.widened number view among pass i n k box gives stored (location-back i n k location));
     still_wide = λ number view among pass n k q value stored.
         subst (λ (w : ℕ). (q < 3 → w ≤ value) × (3 ≤ q → value ≤ w)) (sym (bound n k q)) (h.still_wide number view among pass n k q value stored);
+    unheld = λ number view among pass. unheld-forth view.call.task (h.unheld number view among pass);
+    widened_on_way = λ number view among pass a b q value stored.
+        let old = h.widened_on_way number view among pass a b q value stored in
+        (old.0, old.1, climbs-forth view view.call.task old.0 old.1 old.2, above-same Old.word New.word parent old.0 old.1 a b old.3);
+    climbs_from = λ number view among pass n k climbs. h.climbs_from number view among pass n k (climbs-back view view.call.task n k climbs);
     on_its_way = λ number view among pass m a b below read.
         let old = h.on_its_way number view among pass m a b below read in
         (old.0, old.1, climbs-forth view view.call.task old.0 old.1 old.2, above-same Old.word New.word parent old.0 old.1 a b old.3);

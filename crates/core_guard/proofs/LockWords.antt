@@ -1,11 +1,8 @@
 -- The locks agree after a lock is taken or let go, and after a pass is opened.
-use Rattle.std.proofs.Common.{◌≡◌, ◌≢◌, ◌⊎◌, ℕ, zero, suc, ◌+◌, ◌^◌, ◌<◌, List, [], ◌∷◌, ◌++◌, Bool, true, false, eqb, Option, Some, None, set, refl, ap, sym, ◌∙◌, subst, inl, inr, arith}
-use Rattle.std.specs.Prelude.{Contains, filter_map, sum_by, option_map}
+use Rattle.std.proofs.Common.{◌≡◌, ◌≢◌, ℕ, zero, suc, ◌+◌, ◌^◌, ◌<◌, List, [], ◌∷◌, ◌++◌, Bool, true, false, eqb, Option, Some, None, set, refl, ap, sym, ◌∙◌, subst, inl, inr, arith}
+use Rattle.std.specs.Prelude.{sum_by, option_map}
 use Rattle.std.proofs.lemmas.Bool.{eqb-true, eq-eqb, ne_eqb, cases_eq}
 use Rattle.std.proofs.lemmas.Option.{none-some, same_Some}
-use Rattle.std.specs.List.{cons_option}
-use Rattle.std.proofs.lemmas.List.Elements.{Contains-append_cases}
-use Rattle.core_state.proofs.Opening.{only}
 use Rattle.std.proofs.lemmas.List.Sums.{sum_by-cons, sum_by_push, fold-append}
 use mathlib.Core.Option.{some, some-injective, some-ne-none}
 use lib.ListN.{get_elem?}
@@ -28,6 +25,7 @@ use Rattle.core_state.proofs.Lookups.{at_set}
 use Rattle.core_state.proofs.Guarding.{adds, lock-word, sum-kept, sum_one, sum_two, bit-some, Contains-kept}
 use Rattle.core_state.proofs.Forming.{AfterSplit, is_left, is_right, is_other, at_split}
 use Rattle.core_state.proofs.Steps.{word-step, word-step-other}
+use Rattle.core_guard.proofs.Seats.{kept_at}
 
 -- ---- what one view adds
 
@@ -65,19 +63,6 @@ Agrees-from core agree = record {
       (Contains-kept (part_of lock_scope) (bit_in 0) core.views seat view (masked view number) at (rw pass refl)) refl lock holds;
 }
 
--- what is kept of a list comes from some element
-kept_cons : {Y : Type 0} (o : Option Y) (ys : List Y) (b : Y) → Contains (cons_option o ys) b → (o ≡ Some b) ⊎ Contains ys b
-kept_cons None ys b h = inr h
-kept_cons (Some a) ys b h = elim (Contains-append_cases (a ∷ []) ys b h) [ inl first ↦ inl (ap Some (only a b first)) | inr rest ↦ inr rest ]
-
-kept-from : {X Y : Type 0} (f : X → Option Y) (xs : List X) (b : Y) → Contains (filter_map f xs) b → (i : ℕ) × (x : X) × (get_elem? xs i ≡ some x) × (f x ≡ Some b)
-kept-from f [] b h = let below = h.1 in absurd (omega arith)
-kept-from f (x ∷ xs) b h =
-    elim (kept_cons (f x) (filter_map f xs) b h) [
-      | inl e ↦ (0, x, refl, e)
-      | inr k ↦ let t = kept-from f xs b k in (suc t.0, t.1, t.2, t.3)
-    ]
-
 -- a masked view tells the number and the locks
 mask-parts : (view m : View) (o : Option ℕ) → number_of view ≡ o → option_map (λ n. masked view n) o ≡ Some m → (n : ℕ) × (number_of view ≡ Some n) × (masked view n ≡ m)
 mask-parts view m None e h = absurd (none-some m h)
@@ -88,7 +73,7 @@ unfolding masked
 Agrees-to core agree = record {
   holders = λ lock. agree.words lock ∙ sym (sum-kept (part_of lock_scope) (bit_in lock) core.views);
   alone = λ number m among pass lock holds.
-      let t = kept-from (part_of lock_scope) core.views m among in
+      let t = kept_at (part_of lock_scope) core.views m among in
       let p = mask-parts t.1 m (number_of t.1) refl t.3 in
       let same : p.0 ≡ number = same_Some p.0 number (ap (λ (v : View). number_of v) p.2 ∙ pass) in
       let held : Holds t.1 lock Write = ap (λ (v : View). mode_of v.locks lock) p.2 ∙ holds in
@@ -160,7 +145,8 @@ module _ (before after : Core) (seat lock number : ℕ) (view w : View) (change 
 
 -- ---- taking a lock
 
-mode-push : (steps : List LockStep) (step : LockStep) (lock : ℕ) → mode_of (steps ++ step ∷ []) lock ≡ mode_after lock (mode_of steps lock) step
+-- one step more on a lock
+pub mode-push : (steps : List LockStep) (step : LockStep) (lock : ℕ) → mode_of (steps ++ step ∷ []) lock ≡ mode_after lock (mode_of steps lock) step
 mode-push steps step lock = fold-append (mode_after lock) None steps (step ∷ [])
 
 taken-here : (steps : List LockStep) (lock : ℕ) (mode : Mode) → mode_of (steps ++ Taken lock mode ∷ []) lock ≡ Some mode

@@ -18,6 +18,7 @@ use Rattle.core_state.specs.View.{Holds}
 use Rattle.core_state.specs.NodesInOnePlace.{NodesInOnePlaceIn, IsPooling, PoolsUnder}
 use Rattle.core_guard.proofs.Likeness.{IsIndexing, IsLike, same_call, idle_calls, AreLike, with_passes, busy-forth, each-like, each-back, has-forth, has-back, flat-like, fold-like}
 use Rattle.core_guard.proofs.UpdatesAlike.{nodes_of-like, update-like, update-back}
+use Rattle.core_state.proofs.Opening.{none_in}
 
 pooling_none : (t : Task) → IsIndexing t → ¬ IsPooling t
 pooling_none (Pooling taken given) idle pooling = idle
@@ -29,7 +30,7 @@ pooling_none (Removing index) idle pooling = pooling
 pooling_none (Placing index) idle pooling = pooling
 
 -- a task that does not change the pool needs nothing of it
-unpooled : (s : Sight) (view : View) (t : Task) (many : ℕ) → ¬ IsPooling t → PoolsUnder s view t many
+pub unpooled : (s : Sight) (view : View) (t : Task) (many : ℕ) → ¬ IsPooling t → PoolsUnder s view t many
 unpooled s view (Pooling taken given) many none = absurd (none tt)
 unpooled s view _ many none = tt
 
@@ -38,9 +39,6 @@ pool-kept : (s : Sight) (after : List View) (v w : View) (t : Task) (many : ℕ)
     → PoolsUnder (with_passes s after) w t many
 pool-kept s after v w (Pooling taken given) many locks h = (locks tt h.0, h.1)
 pool-kept s after v w _ many locks h = tt
-
-pub nothing_in : {X : Type 0} (x : X) → Contains [] x → ⊥
-nothing_in x h = let below = h.1 in absurd (omega arith)
 
 pub once_none : IsOnce []
 once_none i j d less below = absurd (omega arith)
@@ -82,13 +80,14 @@ module _ {idle : Task → Type 0} (quiet : (t : Task) → idle t → IsIndexing 
           (λ v w l has. subst (λ (x : List ℕ). Contains x n) (sym (nodes_of-like v w l)) has),
       λ has. (h.owned n number).1
           (has-back s after like number (λ v. Contains (nodes_of v) n) (λ w. Contains (nodes_of w) n) has
-          (λ v w l one. subst (λ (x : List ℕ). Contains x n) (nodes_of-like v w l) one) (λ k none. nothing_in n none)),
+          (λ v w l one. subst (λ (x : List ℕ). Contains x n) (nodes_of-like v w l) one) (λ k none. none_in n none)),
     );
     owned_once = each-like s after like _ _ h.owned_once (λ number v w l once. subst IsOnce (sym (nodes_of-like v w l)) once) (λ number k. once_none);
     batches = λ batch n among inside.
         h.batches batch n (subst (λ (b : List Batch). Contains b batch) (flat-like (λ v. v.batches) s.passes after (λ v w l. l.batches) (λ k. refl) like) among) inside;
-    loose = each-like s after like _ _ h.loose (λ number v w l loose n among. loose n (subst (λ (x : List ℕ). Contains x n) l.loose among)) (λ number k n among. absurd (nothing_in n among));
+    loose = each-like s after like _ _ h.loose (λ number v w l loose n among. loose n (subst (λ (x : List ℕ). Contains x n) l.loose among)) (λ number k n among. absurd (none_in n among));
     slot_trees = h.slot_trees;
+    made_trees = h.made_trees;
     main_trees = λ n l e. subst (λ (a : ℕ). IsInArena s.config a n) (sym (arena-same l _)) (h.main_trees n l e);
     update = λ number. (
       λ e. has-forth s after like number (λ v. IsSome v.rebuild) (λ w. IsSome w.rebuild) ((h.update number).0 e) (λ v w l some. subst (λ (o : Option Rebuild). IsSome o) (sym l.rebuild) some),

@@ -21,8 +21,8 @@ use Rattle.core_state.specs.Encoding.{phase_out}
 use Rattle.core_state.specs.Bodies.{state_word, IsChain, IsBetweenBoxes}
 use Rattle.core_state.specs.BodiesAgree.{BodiesAgree, HasWordsOf, body_scope, IsUnderStripe}
 use Rattle.core_guard.proofs.Chains.{chain-kept}
-use Rattle.core_guard.proofs.Scenes.{record_body}
 use Rattle.core_guard.proofs.BodiesStep.{WordsPart, ListPart, together, unstored, new_sight, bodies-agree, words-kept, stripe-part, KeepsHeld, batch-part}
+use Rattle.core_state.proofs.Beginning.{record_body}
 
 -- ---- a step that makes an entry
 

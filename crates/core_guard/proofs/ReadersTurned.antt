@@ -17,7 +17,7 @@ use Rattle.core_guard.proofs.WalksAlike.{hull-map}
 use Rattle.core_guard.proofs.Turning.{IsHandled, Turns, body-forth, not_handled, grown, word-turned, sight-same, bodies-turned, had-grown, had_in_layer-grown}
 
 -- who is to give a body a box handles it
-target_handles : (task : Task) (index q side : ℕ) → IsTarget task index q side → IsHandled task index
+pub target_handles : (task : Task) (index q side : ℕ) → IsTarget task index q side → IsHandled task index
 target_handles (Moving i target) index q side h = h.0
 target_handles _ index q side h = absurd h
 

@@ -1,5 +1,5 @@
 -- What stands at an index after an entry, and the state words of live and of other indexes.
-use Rattle.std.proofs.Common.{◌≡◌, ◌≢◌, ℕ, ◌+◌, ◌-◌, ◌%◌, ◌<◌, ◌≤◌, List, [], ◌∷◌, length, fold, refl, sym, ◌∙◌, ap, subst, Option, Some, None, option_map, is_some, IsSome, IsNone, IsSomeAnd, ◌⊎◌, inl, inr, arith}
+use Rattle.std.proofs.Common.{◌≡◌, ◌≢◌, ℕ, ◌+◌, ◌-◌, ◌%◌, ◌<◌, ◌≤◌, List, [], ◌∷◌, length, fold, refl, ◌∙◌, ap, Option, Some, None, option_map, is_some, IsSome, IsNone, IsSomeAnd, ◌⊎◌, inl, inr, arith}
 use Rattle.std.proofs.lemmas.Bool.{false≢true}
 use Rattle.fixed_box.specs.declared.fix_box.FixBox.{FixBox}
 use Rattle.scene_model.specs.declared.body_view.Phase.{Phase}
@@ -30,14 +30,10 @@ pub live_or_dead : (o : Option Record) → ((r : Record) × (o ≡ Some r)) ⊎ 
 live_or_dead None = inr refl
 live_or_dead (Some r) = inl (r, refl)
 
--- a body of which something holds is live
-pub body_record : (o : Option Record) (P : Record → Type 0) → IsSomeAnd o P → (r : Record) × (o ≡ Some r) × P r
-body_record None P h = absurd h
-body_record (Some r) P h = (r, refl, h)
-
--- the other way round
-pub record_body : (o : Option Record) (P : Record → Type 0) (r : Record) → o ≡ Some r → P r → IsSomeAnd o P
-record_body o P r e h = subst (λ (p : Option Record). IsSomeAnd p P) (sym e) h
+-- where there is none, nothing holds of it
+pub none_here : (o : Option Record) (P : Record → Type 0) → IsNone o → ¬ IsSomeAnd o P
+none_here None P none h = h
+none_here (Some r) P none h = absurd cc
 
 -- a live index was used
 pub live_placed : (scene : Scene) (index : ℕ) → IsSome (record_at scene index) → index < length scene.places

@@ -9,7 +9,7 @@ use Rattle.core_state.specs.Nodes.{Nodes, Home, free, spare, owned, made, under,
 use Rattle.core_state.specs.TreesSound.{TreesSoundIn, IsSoundNode, IsChild, nothing, a_body, a_node, IsPlaced, as_root, at_place, IsRootOf, IsSupersededRoot}
 use Rattle.core_guard.proofs.Likeness.{AreLike, with_passes, each-like}
 use Rattle.core_guard.proofs.UpdatesAlike.{update-like, has_pass_update-forth}
-use Rattle.core_guard.proofs.NodesAlike.{nothing_in}
+use Rattle.core_state.proofs.Opening.{none_in}
 
 module _ {idle : Task → Type 0} (nodes : Nodes) (s : Sight) (after : List View) (like : AreLike idle s.passes after) where
   root-like : (home : Home) (root : ℕ) → IsRootOf s home root → IsRootOf (with_passes s after) home root
@@ -38,7 +38,7 @@ module _ {idle : Task → Type 0} (nodes : Nodes) (s : Sight) (after : List View
     roots = h.roots;
     stored = each-like s after like _ _ h.stored
         (λ number v w l stored store among. stored store (subst (λ (x : List Store). Contains x store) l.written among))
-        (λ number k store among. absurd (nothing_in store among));
-    returning = update-like s after like _ _ h.returning (λ number v w r l back. record { owned = back.owned; agree = back.agree; once = back.once });
+        (λ number k store among. absurd (none_in store among));
+    returning = update-like s after like _ _ h.returning (λ number v w r l back. record { owned = back.owned; among = back.among; agree = back.agree; once = back.once });
     none_lost = update-like s after like _ _ h.none_lost (λ number v w r l lost. lost);
   }

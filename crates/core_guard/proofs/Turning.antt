@@ -1,14 +1,8 @@
 -- The scene goes on, bodies are created, destroyed or get another user number, and no place in a tree changes: what is
 -- left of bodies, of passes and of what a law sees.
-use Rattle.std.proofs.Common.{◌≡◌, ◌⊎◌, ℕ, zero, suc, ◌≤◌, List, [], ◌∷◌, ◌++◌, Bool, true, Option, Some, None, length, refl, ap, sym, ◌∙◌, subst, inl, inr, arith, cond}
-use Rattle.std.specs.Prelude.{⊤, Contains, filter_map, option_map, IsNone, IsSomeAnd}
-use Rattle.std.specs.List.{cons_option}
-use Rattle.std.proofs.lemmas.Bool.{false≢true}
-use Rattle.std.proofs.lemmas.Option.{none-some, same_Some}
+use Rattle.std.proofs.Common.{◌≡◌, ◌⊎◌, ℕ, ◌≤◌, List, [], ◌++◌, Bool, true, Option, Some, None, length, refl, ap, sym, ◌∙◌, subst, inl, inr, arith, cond}
+use Rattle.std.specs.Prelude.{⊤, Contains, filter_map, IsNone, IsSomeAnd}
 use Rattle.std.proofs.lemmas.List.{take-append-le, length-append}
-use Rattle.std.proofs.lemmas.List.Elements.{Contains-append_cases}
-use mathlib.Core.Option.{some}
-use lib.ListN.{get_elem?}
 use Rattle.fixed_box.specs.FixBox.{words_of}
 use Rattle.scene_model.specs.declared.body_view.Phase.TheVariants.{Out, In}
 use Rattle.scene_model.specs.declared.entry.Made.{Made}
@@ -22,12 +16,14 @@ use Rattle.core_state.specs.declared.view.Task.TheVariants.{Moving, Removing, Pl
 use Rattle.core_state.specs.declared.view.Call.{Call}
 use Rattle.core_state.specs.declared.view.View.{View}
 use Rattle.core_state.specs.Log.{history}
-use Rattle.core_state.specs.View.{number_of, IsPass}
+use Rattle.core_state.specs.View.{IsPass}
 use Rattle.core_state.specs.Core.{Core, word_of, scene_of, IsViewAt}
 use Rattle.core_state.specs.Encoding.{phase_out, sides_of, Sides}
 use Rattle.core_state.specs.Scope.{Scope, Sight, sight, bare_view, part_of, word_in, scene_in}
 use Rattle.core_state.specs.Space.{HadSince, HadInLayer}
-use Rattle.core_state.proofs.Opening.{none_in, only}
+use Rattle.core_state.proofs.Beginning.{body_record}
+use Rattle.core_guard.proofs.Scenes.{none_here}
+use Rattle.core_guard.proofs.Seats.{seen_at}
 
 -- a pass moves, removes or places the body
 abbrev pub IsHandled : Task → ℕ → Type 0
@@ -91,15 +87,6 @@ both : (o : Option Record) (P Q : Record → Type 0) → IsSomeAnd o P → IsSom
 both None P Q h k = absurd h
 both (Some r) P Q h k = (r, refl, h, k)
 
--- the record of a body, with what holds of it
-live_record : (o : Option Record) (P : Record → Type 0) → IsSomeAnd o P → (r : Record) × (o ≡ Some r) × P r
-live_record None P h = absurd h
-live_record (Some r) P h = (r, refl, h)
-
-none_here : (o : Option Record) (P : Record → Type 0) → IsNone o → ¬ IsSomeAnd o P
-none_here None P none h = h
-none_here (Some r) P none h = absurd (false≢true (sym none))
-
 out_is_not_in : (r : Record) → r.phase ≡ Out → r.phase ≡ In → ⊥
 out_is_not_in r out inside = absurd cc
 
@@ -139,7 +126,7 @@ IsSameBody r old = (old.phase ≡ In) × (old.layer ≡ r.layer) × (old.bounds 
 
 pub was_in : (core : Core) (i : ℕ) (o p : Option Record) (r : Record) → IsTurned core i o p → p ≡ Some r → r.phase ≡ In → (old : Record) × (o ≡ Some old) × IsSameBody r old
 was_in core i o p r turned e inside =
-    live_record o (IsSameBody r)
+    body_record o (IsSameBody r)
     (in-back core i (IsSameBody r) o p turned (λ old user h. h) (λ old h. h.0) (subst (λ (x : Option Record). IsSomeAnd x (IsSameBody r)) (sym e) (inside, refl, refl)))
 
 -- where there is none afterwards, there was none, or it is gone
@@ -151,41 +138,13 @@ none-back core i o p (destroyed r out alone) none = inr (record { out = out; non
 
 -- ---- the views of passes
 
-module _ {X Y : Type 0} (f : X → Option Y) where
-  -- what is kept of a list is kept of an element of it
-  pub kept-from : (xs : List X) (b : Y) → Contains (filter_map f xs) b → (i : ℕ) × (x : X) × (get_elem? xs i ≡ some x) × (f x ≡ Some b)
-  kept-from [] b h = absurd (none_in b h)
-  kept-from (z ∷ xs) b h = go (f z) refl h (λ later. let t = kept-from xs b later in (suc t.0, t.1, t.2, t.3))
-    where
-      go : (o : Option Y) → f z ≡ o → Contains (cons_option o (filter_map f xs)) b
-          → (Contains (filter_map f xs) b → (i : ℕ) × (x : X) × (get_elem? (z ∷ xs) i ≡ some x) × (f x ≡ Some b))
-          → (i : ℕ) × (x : X) × (get_elem? (z ∷ xs) i ≡ some x) × (f x ≡ Some b)
-      go None e among further = further among
-      go (Some y) e among further =
-          elim (Contains-append_cases (y ∷ []) (filter_map f xs) b among) [
-            | inl here ↦ (zero, z, refl, e ∙ ap (λ (a : Y). Some a) (only y b here))
-            | inr later ↦ further later
-          ]
-
-mapped : {X Y : Type 0} (f : X → Y) (o : Option X) (b : Y) → option_map f o ≡ Some b → (x : X) × (o ≡ Some x) × (f x ≡ b)
-mapped f None b e = absurd (none-some b e)
-mapped f (Some x) b e = (x, refl, same_Some (f x) b e)
-
--- a view that a law sees is what it reads of the view at some seat
-pub seat_of : (scope : Scope) (core : Core) (view : View) → Contains (sight scope core).passes view
-    → (seat : ℕ) × (number : ℕ) × (own : View) × IsViewAt core seat own × IsPass own number × (scope.part (bare_view number) own ≡ view)
-seat_of scope core view among =
-    let t = kept-from (part_of scope) core.views view among in
-    let u = mapped (λ (number : ℕ). scope.part (bare_view number) t.1) (number_of t.1) view t.3 in
-    (t.0, u.0, t.1, t.2, u.1, u.2)
-
 -- so where a law reads what passes have under way, it sees none that handles a body that is left alone
 pub not_handled : (scope : Scope) (core : Core) (i : ℕ) (view : View) → ((bare own : View) → (scope.part bare own).call ≡ own.call) → IsLeftAlone core i
     → Contains (sight scope core).passes view → ¬ IsHandled view.call.task i
 not_handled scope core i view reads alone among handled =
-    let t = seat_of scope core view among in
-    let same : view.call ≡ t.2.call = sym (ap (λ (v : View). v.call) t.5) ∙ reads (bare_view t.1) t.2 in
-    alone t.0 t.1 t.2 t.3 t.4 (subst (λ (c : Call). IsHandled c.task i) same handled)
+    let t = seen_at scope core view among in
+    let same : view.call ≡ t.view.call = sym (ap (λ (v : View). v.call) t.is) ∙ reads (bare_view t.number) t.view in
+    alone t.seat t.number t.view t.at t.pass (subst (λ (c : Call). IsHandled c.task i) same handled)
 
 -- ---- what a law sees
 

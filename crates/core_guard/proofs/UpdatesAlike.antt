@@ -1,5 +1,5 @@
 -- Updates under way, where the passes have views that are like what they were.
-use Rattle.std.proofs.Common.{◌≡◌, ℕ, List, ◌++◌, Option, Some, None, sym, subst}
+use Rattle.std.proofs.Common.{◌≡◌, ℕ, List, ◌++◌, Option, Some, None, refl, sym, subst}
 use Rattle.std.specs.Prelude.{flat_map, IfSome, IsSomeAnd}
 use Rattle.core_state.specs.declared.view.Batch.{Batch}
 use Rattle.core_state.specs.declared.view.Rebuild.{Rebuild}
@@ -13,6 +13,16 @@ use Rattle.core_guard.proofs.Likeness.{IsLike, AreLike, with_passes, each-like, 
 pub if_some_map : {X : Type 0} (o : Option X) (P Q : X → Type 0) → ((x : X) → P x → Q x) → IfSome o P → IfSome o Q
 if_some_map None P Q f h = h
 if_some_map (Some x) P Q f h = f x h
+
+-- with what is known of what is there
+pub if_some_with : {X : Type 0} (o : Option X) (P Q : X → Type 0) → ((x : X) → o ≡ Some x → P x → Q x) → IfSome o P → IfSome o Q
+if_some_with None P Q f h = h
+if_some_with (Some x) P Q f h = f x refl h
+
+-- two facts of one
+pub if_some_both : {X : Type 0} (o : Option X) (P Q : X → Type 0) → IfSome o P → IfSome o Q → IfSome o (λ x. P x × Q x)
+if_some_both None P Q h k = h
+if_some_both (Some x) P Q h k = (h, k)
 
 pub some_and_map : {X : Type 0} (o : Option X) (P Q : X → Type 0) → ((x : X) → P x → Q x) → IsSomeAnd o P → IsSomeAnd o Q
 some_and_map None P Q f h = h

@@ -64,7 +64,7 @@ module _ (s : Sight) (more : List Made) where
       let longer = length-grown s.history more in
       subst (λ (scene : Scene). Fits touches mask scene index generation) (point-grown s.config.bodies s.history more n to) (due n from (omega arith))
 
-  walk-grown : (walk : Walk) (query : Query) (at : Position) → WalkLeads s walk query at → WalkLeads (grown s s.word more) walk query at
+  pub walk-grown : (walk : Walk) (query : Query) (at : Position) → WalkLeads s walk query at → WalkLeads (grown s s.word more) walk query at
   walk-grown walk query at h = record {
     ahead = λ index generation due.
         ahead-more s.word (HadSince s walk.from index) (HadSince (grown s s.word more) walk.from index) (λ box had. had-grown s s.word more walk.from index box had) index query walk at
@@ -73,7 +73,7 @@ module _ (s : Sight) (more : List Made) where
     order = h.order;
   }
 
-  WalksLead-grown : WalksLeadIn s → WalksLeadIn (grown s s.word more)
+  pub WalksLead-grown : WalksLeadIn s → WalksLeadIn (grown s s.word more)
   WalksLead-grown h = record {
     leads = λ number view among pass on query follows. walk-grown view.walk query (position_of s.config query view.walk.loads) (h.leads number view among pass on query follows);
     begun = λ number view among pass. let longer = length-grown s.history more in omega (arith, h.begun number view among pass);

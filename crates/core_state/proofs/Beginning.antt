@@ -75,10 +75,13 @@ module _ (core : Core) (nodes : Nodes) (trees : TreesSound nodes core) (Had : Si
 
 -- ---- the words that a query reads
 
-cases_cons : {X : Type 0} (y : X) (xs : List X) (x : X) → Contains (y ∷ xs) x → (y ≡ x) ⊎ Contains xs x
+pub contains_first : {X : Type 0} (x : X) (xs : List X) → Contains (x ∷ xs) x
+contains_first x xs = (0, omega arith, refl)
+
+pub cases_cons : {X : Type 0} (y : X) (xs : List X) (x : X) → Contains (y ∷ xs) x → (y ≡ x) ⊎ Contains xs x
 cases_cons y xs x h = elim (Contains-append_cases (y ∷ []) xs x h) [ inl first ↦ inl (only y x first) | inr rest ↦ inr rest ]
 
-contains_filter : (p : ℕ → Bool) (xs : List ℕ) (x : ℕ) → Contains xs x → p x ≡ true → Contains (filter p xs) x
+pub contains_filter : {X : Type 0} (p : X → Bool) (xs : List X) (x : X) → Contains xs x → p x ≡ true → Contains (filter p xs) x
 contains_filter p [] x h passes = h
 contains_filter p (y ∷ xs) x h passes =
     elim (cases_cons y xs x h) [
@@ -134,12 +137,13 @@ slot_named core l t root formed names =
 -- ---- the bodies that a query has to find
 
 -- a body of which something holds has a record
-record_of_body : (o : Option Record) (P : Record → Type 0) → IsSomeAnd o P → (r : Record) × (o ≡ Some r) × P r
-record_of_body None P h = absurd h
-record_of_body (Some r) P h = (r, refl, h)
+pub body_record : (o : Option Record) (P : Record → Type 0) → IsSomeAnd o P → (r : Record) × (o ≡ Some r) × P r
+body_record None P h = absurd h
+body_record (Some r) P h = (r, refl, h)
 
-some_body : (o : Option Record) (r : Record) (P : Record → Type 0) → o ≡ Some r → P r → IsSomeAnd o P
-some_body o r P e h = subst (λ (x : Option Record). IsSomeAnd x P) (sym e) h
+-- the other way round
+pub record_body : (o : Option Record) (P : Record → Type 0) (r : Record) → o ≡ Some r → P r → IsSomeAnd o P
+record_body o P r e h = subst (λ (x : Option Record). IsSomeAnd x P) (sym e) h
 
 -- a published node is in the tree of some word
 published_name : (home : Home) → IsPublished home → (name : Name) × (home ≡ under name)
@@ -180,7 +184,7 @@ module _ (core : Core) (formed : IsFormed core) (h : Invariants core) (query : Q
       let at = h.locations.at i r n k live inside cover.2 in
       let box : Sides = sides_of (words_of r.bounds) in
       let now : record_at (point core.config.bodies (history core.log) (length (history core.log))) i ≡ Some r = ap (λ (s : Scene). record_at s i) (last_point core) ∙ live in
-      let had : Had i box = (length (history core.log), from, omega arith, some_body _ r (λ x. box ≡ sides_of (words_of x.bounds)) now refl) in
+      let had : Had i box = (length (history core.log), from, omega arith, record_body _ (λ x. box ≡ sides_of (words_of x.bounds)) r now refl) in
       let wide : (a b : ℕ) → Above (word_in location_scope core) n k a b → HoldsOne (Had i) (bound_in (word_of core) a b) = λ a b up. (box, had, at.bounds a b up) in
       let way : Way (word_in walk_scope core) (Had i) i n = to_entry n k cover.2.0 at.entry (wide n k (here n k)) in
       let tree = published_name (h.nodes.home n) cover.3 in
@@ -198,5 +202,5 @@ module _ (core : Core) (formed : IsFormed core) (h : Invariants core) (query : Q
       let fits : Fits (Touch query.shape) query.mask (scene_of core) i generation =
       subst (λ (s : Scene). Fits (Touch query.shape) query.mask s i generation) (last_point core) (due last from (omega arith))
       in
-      let body = record_of_body (record_at (scene_of core) i) _ fits in
+      let body = body_record (record_at (scene_of core) i) _ fits in
       body_ahead i body.0 body.1 body.2.1.0 body.2.1.1

@@ -1,24 +1,33 @@
 -- Events keep the form of a core.
-use Rattle.std.proofs.Common.{◌≡◌, ◌≢◌, ◌⊎◌, ℕ, zero, suc, ◌+◌, ◌-◌, ◌<◌, ◌^◌, List, [], ◌++◌, Bool, true, false, cond, Some, None, length, set, refl, ap, sym, ◌∙◌, inl, inr, subst, arith}
-use Rattle.std.specs.Prelude.{All, option_map, option_to_list}
+use Rattle.std.proofs.Common.{◌≡◌, ◌≢◌, ◌⊎◌, ℕ, zero, suc, ◌+◌, ◌-◌, ◌<◌, ◌^◌, List, [], ◌++◌, Bool, true, false, cond, Option, Some, None, IfSome, length, set, refl, ap, sym, ◌∙◌, inl, inr, subst, arith}
+use Rattle.std.specs.Prelude.{All, map, option_map, option_to_list}
 use Rattle.std.proofs.lemmas.List.{length-set}
 use Rattle.std.proofs.lemmas.List.Elements.{All-nil, All-cons, All-append}
 use mathlib.Core.Option.{some, some-injective, some-ne-none}
 use lib.ListN.{get_elem?}
 use Rattle.word_map.specs.declared.config.Config.{Config}
+use Rattle.word_map.specs.declared.name.Name.{Name}
+use Rattle.word_map.specs.declared.name.Name.TheVariants.{State, Phase, Layer, User, BoxWord, Slot}
 use Rattle.word_map.specs.Limits.{IsConfig}
+use Rattle.fixed_box.specs.declared.fix_box.FixBox.{FixBox}
+use Rattle.scene_model.specs.declared.entry.Entry.{Entry}
+use Rattle.scene_model.specs.declared.entry.Entry.TheVariants.{Create, Join}
 use Rattle.core_state.specs.declared.item.Item.{Item}
 use Rattle.core_state.specs.declared.view.Role.{Role}
 use Rattle.core_state.specs.declared.view.Role.TheVariants.{Pass, Visitor, Spent}
+use Rattle.core_state.specs.declared.view.Batch.{Batch}
 use Rattle.core_state.specs.declared.view.View.{View}
 use Rattle.core_state.specs.Log.{IsPrefix}
-use Rattle.core_state.specs.View.{number_in, blank_view}
+use Rattle.core_state.specs.View.{number_in, known_word, blank_view}
+use Rattle.core_state.specs.Boxes.{box_of}
+use Rattle.core_state.specs.Lives.{creation_of, destruction_of, new_user_of}
+use Rattle.core_state.specs.Batches.{mark_of, unmark_of, batch_for, joined_by}
 use Rattle.core_state.specs.Core.{Core, IsViewAt, opening}
 use Rattle.core_state.specs.Operation.{stores}
 use Rattle.core_state.specs.Kind.{Kind, Asking, Step, IsAllowed, Steps, found_by, left_by, item_of, gained_by, log_after, view_after, after_step}
 use Rattle.core_state.specs.Seats.{Opens, Visits, Joins, after_split, visitor_of, joined_view, spent_view}
-use Rattle.core_state.specs.Event.{Event, opens_pass, splits_visitor, joins_visitor, looks, loads_lock, takes_read, takes_write, releases, loads_list, stores_link, stores_head, stores_field, creates, destroys, loads_body, sets_user, Run, begins, goes_on}
-use Rattle.core_state.specs.Formed.{IsSoundItem, HasNumbers, AreApart, IsSoundView, IsFormed}
+use Rattle.core_state.specs.Event.{Event, opens_pass, splits_visitor, joins_visitor, looks, loads_lock, takes_read, takes_write, releases, loads_list, stores_link, stores_head, stores_field, creates, destroys, loads_body, sets_user, loads_slot, reserves, marks, stores_node, places, attaches, takes_back, unmarks, lets_slot_go, stores_pool_link, stores_pool_head, stores_pool_count, Run, begins, goes_on}
+use Rattle.core_state.specs.Formed.{IsMadeOn, IsSoundItem, HasNumbers, AreApart, IsSoundView, IsFormed}
 use Rattle.std.proofs.lemmas.Option.{same_Some, none-some}
 use Rattle.core_state.proofs.Lookups.{at_set, at_push}
 use Rattle.core_state.proofs.Fitting.{word-fits, result_of-fits}
@@ -56,9 +65,13 @@ apart_spent Spent = tt
 
 -- ---- a step
 
+-- a kind makes entries only of the body, or the layer, whose word it stores
+pub record SaysOf (kind : Kind) : Type 0 where
+  pub said : (view : View) (name : Name) (value : ℕ) → IfSome (kind.entry view name value) (λ entry. IsMadeOn entry name)
+
 -- what a step gains is sound
-gained-sound : (asks : Asking) (kind : Kind) (core : Core) (step : Step) → IsFormed core → IsAllowed asks core step → All (IsSoundItem core.config) (gained_by kind core step)
-gained-sound asks kind core step formed allowed = go (stores kind.operation (found_by core step) step.first)
+gained-sound : (asks : Asking) (kind : Kind) (core : Core) (step : Step) → SaysOf kind → IsFormed core → IsAllowed asks core step → All (IsSoundItem core.config) (gained_by kind core step)
+gained-sound asks kind core step says formed allowed = go (stores kind.operation (found_by core step) step.first)
   where
     below : step.number < core.config.passes
     below = pass_below core.config.passes step.number step.view.role allowed.pass (formed.views step.seat step.view allowed.at (unspent_pass step.view.role step.number allowed.pass)).numbers
@@ -70,7 +83,7 @@ gained-sound asks kind core step formed allowed = go (stores kind.operation (fou
     left = result_of-fits kind.operation (found_by core step) step.first step.second found allowed.first_fits allowed.second_fits
 
     item : IsSoundItem core.config (item_of kind step (left_by kind core step))
-    item = record { pass = below; named = allowed.named; fits = left }
+    item = record { pass = below; named = allowed.named; fits = left; said = says.said step.view step.name (left_by kind core step) }
 
     go : (test : Bool) → All (IsSoundItem core.config) (option_to_list (option_map (item_of kind step) (cond test (Some (left_by kind core step)) None)))
     go true = All-cons (IsSoundItem core.config) _ [] item (All-nil (IsSoundItem core.config))
@@ -95,10 +108,10 @@ step_role asks kind core step seat view allowed at =
       | inr t ↦ (view, t.1, refl)
     ]
 
-pub IsFormed-step : (asks : Asking) (kind : Kind) (core : Core) (step : Step) → IsAllowed asks core step → IsFormed core → IsFormed (after_step kind core step)
-IsFormed-step asks kind core step allowed formed = record {
+pub IsFormed-step : (asks : Asking) (kind : Kind) (core : Core) (step : Step) → SaysOf kind → IsAllowed asks core step → IsFormed core → IsFormed (after_step kind core step)
+IsFormed-step asks kind core step says allowed formed = record {
   sizes = formed.sizes;
-  items = All-append (IsSoundItem core.config) core.log (gained_by kind core step) formed.items (gained-sound asks kind core step formed allowed);
+  items = All-append (IsSoundItem core.config) core.log (gained_by kind core step) formed.items (gained-sound asks kind core step says formed allowed);
   views = λ seat view at unspent.
       elim (at_set core.views step.seat seat (view_after kind core step) view at) [
         | inl t ↦ subst (λ (v : View). IsSoundView core.config (log_after kind core step) v) t.1 (view_after-sound asks kind core step allowed formed)
@@ -293,26 +306,76 @@ IsFormed-joins before after joins formed =
 
 -- ---- events and runs
 
-IsFormed-steps : (asks : Asking) (kind : Kind) (before after : Core) → Steps asks kind before after → IsFormed before → IsFormed after
-IsFormed-steps asks kind before after steps formed = subst IsFormed (sym steps.result) (IsFormed-step asks kind before steps.step steps.allowed formed)
+IsFormed-steps : (asks : Asking) (kind : Kind) (before after : Core) → SaysOf kind → Steps asks kind before after → IsFormed before → IsFormed after
+IsFormed-steps asks kind before after says steps formed = subst IsFormed (sym steps.result) (IsFormed-step asks kind before steps.step says steps.allowed formed)
+
+-- most kinds make no entry
+says-nothing : (kind : Kind) → ((view : View) (name : Name) (value : ℕ) → kind.entry view name value ≡ None) → SaysOf kind
+says-nothing kind none = record { said = λ view name value. subst (λ (o : Option Entry). IfSome o (λ entry. IsMadeOn entry name)) (sym (none view name value)) tt }
+
+-- a creation and a destruction speak of the body whose state they store, a new user number of the one whose it is
+creation-said : (index layer user : ℕ) (bounds : Option FixBox) → IfSome (option_map (λ b. Create index layer b user) bounds) (λ entry. IsMadeOn entry (State index))
+creation-said index layer user None = tt
+creation-said index layer user (Some b) = refl
+
+creates-said : (view : View) (name : Name) → IfSome (creation_of view name) (λ entry. IsMadeOn entry name)
+creates-said view (State index) = creation-said index (known_word view (Layer index)) (known_word view (User index)) (box_of (λ k. known_word view (BoxWord index k)))
+creates-said view _ = tt
+
+destroys-said : (name : Name) → IfSome (destruction_of name) (λ entry. IsMadeOn entry name)
+destroys-said (State index) = refl
+destroys-said _ = tt
+
+user-said : (name : Name) (value : ℕ) → IfSome (new_user_of name value) (λ entry. IsMadeOn entry name)
+user-said (User index) value = refl
+user-said _ value = tt
+
+-- a mark and what takes it back speak of the body whose phase they store, and a joining of the layer of its slot
+marks-said : (name : Name) → IfSome (mark_of name) (λ entry. IsMadeOn entry name)
+marks-said (Phase index) = refl
+marks-said _ = tt
+
+unmarks-said : (name : Name) → IfSome (unmark_of name) (λ entry. IsMadeOn entry name)
+unmarks-said (Phase index) = refl
+unmarks-said _ = tt
+
+joining-said : (layer slot : ℕ) (batch : Option Batch) → IfSome (option_map (λ b. Join layer (map (λ m. m.index) b.marked)) batch) (λ entry. IsMadeOn entry (Slot layer slot))
+joining-said layer slot None = tt
+joining-said layer slot (Some b) = (slot, refl)
+
+joins-said : (view : View) (name : Name) → IfSome (joined_by view name) (λ entry. IsMadeOn entry name)
+joins-said view (Slot layer slot) = joining-said layer slot (batch_for layer slot view)
+joins-said view _ = tt
 
 pub IsFormed-event : (before after : Core) → Event before after → IsFormed before → IsFormed after
 IsFormed-event before after (opens_pass e) formed = IsFormed-opens before after e formed
 IsFormed-event before after (splits_visitor e) formed = IsFormed-visits before after e formed
 IsFormed-event before after (joins_visitor e) formed = IsFormed-joins before after e formed
-IsFormed-event before after (looks e) formed = IsFormed-steps _ _ before after e formed
-IsFormed-event before after (loads_lock e) formed = IsFormed-steps _ _ before after e formed
-IsFormed-event before after (takes_read e) formed = IsFormed-steps _ _ before after e formed
-IsFormed-event before after (takes_write e) formed = IsFormed-steps _ _ before after e formed
-IsFormed-event before after (releases e) formed = IsFormed-steps _ _ before after e formed
-IsFormed-event before after (loads_list e) formed = IsFormed-steps _ _ before after e formed
-IsFormed-event before after (stores_link e) formed = IsFormed-steps _ _ before after e formed
-IsFormed-event before after (stores_head e) formed = IsFormed-steps _ _ before after e formed
-IsFormed-event before after (stores_field e) formed = IsFormed-steps _ _ before after e formed
-IsFormed-event before after (creates e) formed = IsFormed-steps _ _ before after e formed
-IsFormed-event before after (destroys e) formed = IsFormed-steps _ _ before after e formed
-IsFormed-event before after (loads_body e) formed = IsFormed-steps _ _ before after e formed
-IsFormed-event before after (sets_user e) formed = IsFormed-steps _ _ before after e formed
+IsFormed-event before after (looks e) formed = IsFormed-steps _ _ before after (says-nothing _ (λ view name value. refl)) e formed
+IsFormed-event before after (loads_lock e) formed = IsFormed-steps _ _ before after (says-nothing _ (λ view name value. refl)) e formed
+IsFormed-event before after (takes_read e) formed = IsFormed-steps _ _ before after (says-nothing _ (λ view name value. refl)) e formed
+IsFormed-event before after (takes_write e) formed = IsFormed-steps _ _ before after (says-nothing _ (λ view name value. refl)) e formed
+IsFormed-event before after (releases e) formed = IsFormed-steps _ _ before after (says-nothing _ (λ view name value. refl)) e formed
+IsFormed-event before after (loads_list e) formed = IsFormed-steps _ _ before after (says-nothing _ (λ view name value. refl)) e formed
+IsFormed-event before after (stores_link e) formed = IsFormed-steps _ _ before after (says-nothing _ (λ view name value. refl)) e formed
+IsFormed-event before after (stores_head e) formed = IsFormed-steps _ _ before after (says-nothing _ (λ view name value. refl)) e formed
+IsFormed-event before after (stores_field e) formed = IsFormed-steps _ _ before after (says-nothing _ (λ view name value. refl)) e formed
+IsFormed-event before after (creates e) formed = IsFormed-steps _ _ before after (record { said = λ view name value. creates-said view name }) e formed
+IsFormed-event before after (destroys e) formed = IsFormed-steps _ _ before after (record { said = λ view name value. destroys-said name }) e formed
+IsFormed-event before after (loads_body e) formed = IsFormed-steps _ _ before after (says-nothing _ (λ view name value. refl)) e formed
+IsFormed-event before after (sets_user e) formed = IsFormed-steps _ _ before after (record { said = λ view name value. user-said name value }) e formed
+IsFormed-event before after (loads_slot e) formed = IsFormed-steps _ _ before after (says-nothing _ (λ view name value. refl)) e formed
+IsFormed-event before after (reserves e) formed = IsFormed-steps _ _ before after (says-nothing _ (λ view name value. refl)) e formed
+IsFormed-event before after (marks e) formed = IsFormed-steps _ _ before after (record { said = λ view name value. marks-said name }) e formed
+IsFormed-event before after (stores_node e) formed = IsFormed-steps _ _ before after (says-nothing _ (λ view name value. refl)) e formed
+IsFormed-event before after (places e) formed = IsFormed-steps _ _ before after (says-nothing _ (λ view name value. refl)) e formed
+IsFormed-event before after (attaches e) formed = IsFormed-steps _ _ before after (record { said = λ view name value. joins-said view name }) e formed
+IsFormed-event before after (takes_back e) formed = IsFormed-steps _ _ before after (says-nothing _ (λ view name value. refl)) e formed
+IsFormed-event before after (unmarks e) formed = IsFormed-steps _ _ before after (record { said = λ view name value. unmarks-said name }) e formed
+IsFormed-event before after (lets_slot_go e) formed = IsFormed-steps _ _ before after (says-nothing _ (λ view name value. refl)) e formed
+IsFormed-event before after (stores_pool_link e) formed = IsFormed-steps _ _ before after (says-nothing _ (λ view name value. refl)) e formed
+IsFormed-event before after (stores_pool_head e) formed = IsFormed-steps _ _ before after (says-nothing _ (λ view name value. refl)) e formed
+IsFormed-event before after (stores_pool_count e) formed = IsFormed-steps _ _ before after (says-nothing _ (λ view name value. refl)) e formed
 
 -- the only seat of the opening
 opening-only : (c : Config) (seat : ℕ) (view : View) → IsViewAt (opening c) seat view → (seat ≡ 0) × (blank_view c (Pass 0 (c.passes - 1)) ≡ view)

@@ -186,7 +186,7 @@ lock-unowned c view lock (by_update h) = no_lock view.rebuild h
     no_lock (Some r) h = h
 
 -- and it is no word of a body
-lock-quiet : (c : Config) (view : View) (first : List Item) (item : Item) (lock : ℕ) → item.name ≡ Lock lock → IsQuiet c view first item
+pub lock-quiet : (c : Config) (view : View) (first : List Item) (item : Item) (lock : ℕ) → item.name ≡ Lock lock → IsQuiet c view first item
 lock-quiet c view first item lock names = record {
   others = λ owns. lock-unowned c view lock (subst (Owns c view) names owns);
   body = λ i mode holds h. absurd (subst (IsBodyWord i) names h);

@@ -9,6 +9,7 @@ use Rattle.core_state.specs.Looking.{look}
 use Rattle.core_state.specs.Locking.{load_lock}
 use Rattle.core_state.specs.Lists.{load_list}
 use Rattle.core_state.specs.Lives.{load_body}
+use Rattle.core_state.specs.Batches.{load_slot}
 use Rattle.core_state.specs.Scope.{Scope, IsSameTo, bare_view}
 use Rattle.core_state.specs.Frame.{IsOutside, ReadsNoLog}
 use Rattle.core_state.specs.LocksAgree.{LocksAgreeIn, lock_scope}
@@ -97,3 +98,6 @@ load_list-plain = record { loads = λ found first. refl; entry = λ view name va
 
 pub load_body-plain : IsPlainLoad load_body
 load_body-plain = record { loads = λ found first. refl; entry = λ view name value. refl; leaves = λ view name found first second. refl }
+
+pub load_slot-plain : IsPlainLoad load_slot
+load_slot-plain = record { loads = λ found first. refl; entry = λ view name value. refl; leaves = λ view name found first second. refl }

@@ -14,3 +14,4 @@ pub mod Keeping
 pub mod LockBits
 pub mod Beginning
 pub mod Boxes
+pub mod Quiet

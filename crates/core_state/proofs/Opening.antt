@@ -177,6 +177,7 @@ NodesInOnePlace-opening c sizes =
       batches = λ batch n among. absurd (none_in batch among);
       loose = each_bare s _ refl (λ number n among. absurd (none_in n among));
       slot_trees = λ n l t e. absurd (idle_not c.nodes n IsPublished (λ h. h) (λ h. h) (subst IsPublished (sym e) tt));
+      made_trees = λ n number l e. absurd (idle_not c.nodes n Stands (λ h. h) (λ h. h) (subst Stands (sym e) tt));
       main_trees = λ n l e. absurd (idle_not c.nodes n IsPublished (λ h. h) (λ h. h) (subst IsPublished (sym e) tt));
       update = λ number. (
         λ e. absurd (omega arith),
@@ -217,6 +218,7 @@ LocationsHold-opening c =
       entries = λ i n k published. absurd (idle_not c.nodes n IsPublished (λ h. h) (λ h. h) published);
       made_entries = λ i n k number l e. absurd (idle_not c.nodes n Stands (λ h. h) (λ h. h) (subst Stands (sym e) tt));
       planned = each_bare s _ refl (λ number. tt);
+      planned_stand = each_bare s _ refl (λ number. tt);
       first = λ i r n k e. absurd (none-some r e);
       second = λ i other. absurd (other refl);
       dead = λ i none. (refl, refl);
@@ -225,7 +227,10 @@ LocationsHold-opening c =
       held = λ batch m among. absurd (none_in batch among);
       widened = each_bare s _ refl (λ number i n k box gives. absurd gives);
       still_wide = each_bare s _ refl (λ number n k q value among. absurd (none_in (record { name = Bound n k q; value = value }) among));
+      climbs_from = each_bare s _ refl (λ number n k climbs. absurd climbs);
       on_its_way = each_bare s _ refl (λ number m a b below among. absurd (none_in (record { name = Parent m; value = place a b }) among));
+      unheld = each_bare s _ refl (λ number. tt);
+      widened_on_way = each_bare s _ refl (λ number a b q value among. absurd (none_in (record { name = Bound a b q; value = value }) among));
     }
 
 BodiesCovered-opening : (c : Config) → BodiesCovered (opening_nodes c) (opening c)

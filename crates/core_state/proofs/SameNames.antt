@@ -29,11 +29,11 @@ same_parts : (a b : Code) → a.kind ≡ b.kind → a.first ≡ b.first → a.se
 same_parts a b p q r t = λ i. record { kind = p i; first = q i; second = r i; third = t i }
 
 -- both of two tests
-and_left : (a b : Bool) → (a && b) ≡ true → a ≡ true
+pub and_left : (a b : Bool) → (a && b) ≡ true → a ≡ true
 and_left true b h = refl
 and_left false b h = h
 
-and_right : (a b : Bool) → (a && b) ≡ true → b ≡ true
+pub and_right : (a b : Bool) → (a && b) ≡ true → b ≡ true
 and_right true b h = h
 and_right false b h = absurd (false≢true h)
 

@@ -13,7 +13,7 @@ use Rattle.core_state.specs.Core.{Core, word_of, IsViewAt}
 use Rattle.core_state.specs.Operation.{Operation, load, store, exchange, compare_exchange, fetch_add, fetch_min, fetch_max, stores, result_of}
 use Rattle.core_state.specs.Kind.{Kind, Asking, Step, Steps, found_by, left_by, item_of, gained_by, log_after, view_after, after_step}
 use Rattle.core_state.specs.Seats.{Joins, after_split, joined_view, spent_view}
-use Rattle.core_state.specs.Event.{Event, opens_pass, splits_visitor, joins_visitor, looks, loads_lock, takes_read, takes_write, releases, loads_list, stores_link, stores_head, stores_field, creates, destroys, loads_body, sets_user, Run, begins, goes_on, ChangesOne}
+use Rattle.core_state.specs.Event.{Event, opens_pass, splits_visitor, joins_visitor, looks, loads_lock, takes_read, takes_write, releases, loads_list, stores_link, stores_head, stores_field, creates, destroys, loads_body, sets_user, loads_slot, reserves, marks, stores_node, places, attaches, takes_back, unmarks, lets_slot_go, stores_pool_link, stores_pool_head, stores_pool_count, Run, begins, goes_on, ChangesOne}
 use Rattle.core_state.proofs.Lookups.{at_bound, at_one, at_longer, set_here, set_else}
 use Rattle.core_state.proofs.Prefixes.{IsPrefix-refl, IsPrefix-trans}
 use Rattle.core_state.proofs.Reading.{word-stored, word-other, words-push, words-named}
@@ -115,6 +115,18 @@ event-prefix before after (creates e) = steps-prefix _ _ before after e
 event-prefix before after (destroys e) = steps-prefix _ _ before after e
 event-prefix before after (loads_body e) = steps-prefix _ _ before after e
 event-prefix before after (sets_user e) = steps-prefix _ _ before after e
+event-prefix before after (loads_slot e) = steps-prefix _ _ before after e
+event-prefix before after (reserves e) = steps-prefix _ _ before after e
+event-prefix before after (marks e) = steps-prefix _ _ before after e
+event-prefix before after (stores_node e) = steps-prefix _ _ before after e
+event-prefix before after (places e) = steps-prefix _ _ before after e
+event-prefix before after (attaches e) = steps-prefix _ _ before after e
+event-prefix before after (takes_back e) = steps-prefix _ _ before after e
+event-prefix before after (unmarks e) = steps-prefix _ _ before after e
+event-prefix before after (lets_slot_go e) = steps-prefix _ _ before after e
+event-prefix before after (stores_pool_link e) = steps-prefix _ _ before after e
+event-prefix before after (stores_pool_head e) = steps-prefix _ _ before after e
+event-prefix before after (stores_pool_count e) = steps-prefix _ _ before after e
 
 pub run-prefix : (first last : Core) → Run first last → IsPrefix first.log last.log
 run-prefix first last begins = IsPrefix-refl first.log
@@ -164,3 +176,15 @@ event-one before after (creates e) = steps-one _ _ before after e
 event-one before after (destroys e) = steps-one _ _ before after e
 event-one before after (loads_body e) = steps-one _ _ before after e
 event-one before after (sets_user e) = steps-one _ _ before after e
+event-one before after (loads_slot e) = steps-one _ _ before after e
+event-one before after (reserves e) = steps-one _ _ before after e
+event-one before after (marks e) = steps-one _ _ before after e
+event-one before after (stores_node e) = steps-one _ _ before after e
+event-one before after (places e) = steps-one _ _ before after e
+event-one before after (attaches e) = steps-one _ _ before after e
+event-one before after (takes_back e) = steps-one _ _ before after e
+event-one before after (unmarks e) = steps-one _ _ before after e
+event-one before after (lets_slot_go e) = steps-one _ _ before after e
+event-one before after (stores_pool_link e) = steps-one _ _ before after e
+event-one before after (stores_pool_head e) = steps-one _ _ before after e
+event-one before after (stores_pool_count e) = steps-one _ _ before after e

@@ -62,8 +62,9 @@ pub record NotesHold (nodes : Nodes) (s : Sight) (view : View) (r : Rebuild) : T
   pub all_noted : (i : ℕ) → IsOpen s view r i → IsInOldTree nodes s r i → IsNoted r i (λ n. IsAsNoted s n)
   pub still_there : (n : Noted) → Contains r.noted n → IsOpen s view r n.index → LooksAsNoted s n → IsInOldTree nodes s r n.index × IsAsNoted s n
   pub unplaced : (n : Noted) → Contains r.noted n → ¬ Contains r.placed n.index → LooksAsNoted s n → s.word (LocB n.index) ≡ 0
-  -- each body was noted at a place
+  -- each body was noted at a place, which is in a tree that the update replaces as long as it has not done with the body
   pub located : (n : Noted) → Contains r.noted n → n.location ≢ 0
+  pub in_old : (n : Noted) → Contains r.noted n → ¬ IsDone view r n.index → (a : ℕ) × (b : ℕ) × (b < 4) × (n.location ≡ place a b) × IsOldTree r (nodes.home a)
   -- one that was placed and stands in such a tree has its place in the new one
   pub placed : (i : ℕ) → Contains r.placed i → IsInOldTree nodes s r i → IsNoted r i (λ n. s.word (LocB i) ≡ n.place)
   -- and one that was given up stands in none

@@ -9,6 +9,8 @@ use Rattle.core_state.specs.Looking.{MayLook, look}
 use Rattle.core_state.specs.Locking.{MayLoadLock, load_lock, MayRead, take_read, MayWrite, take_write, MayRelease, release}
 use Rattle.core_state.specs.Lists.{MayLoadList, load_list, MayStoreLink, store_link, MayStoreHead, store_head}
 use Rattle.core_state.specs.Lives.{MayStoreField, store_field, MayCreate, create, MayDestroy, destroy, MayLoadBody, load_body, MaySetUser, set_user}
+use Rattle.core_state.specs.Batches.{MayLoadSlot, load_slot, MayReserve, reserve, MayMark, mark, MayStoreNode, store_node, MayPlace, place_body, MayAttach, attach, MayTakeBack, take_back, MayUnmark, unmark, MayLetSlotGo, let_slot_go}
+use Rattle.core_state.specs.Pool.{MayStorePoolLink, store_pool_link, MayStorePoolHead, store_pool_head, MayStorePoolCount, store_pool_count}
 
 -- one event leads from the one core to the other; docs/steps.md has the kinds by number
 pub data Event (before after : Core) : Type 0 where
@@ -28,6 +30,18 @@ pub data Event (before after : Core) : Type 0 where
   destroys : Steps MayDestroy destroy before after → Event before after
   loads_body : Steps MayLoadBody load_body before after → Event before after
   sets_user : Steps MaySetUser set_user before after → Event before after
+  loads_slot : Steps MayLoadSlot load_slot before after → Event before after
+  reserves : Steps MayReserve reserve before after → Event before after
+  marks : Steps MayMark mark before after → Event before after
+  stores_node : Steps MayStoreNode store_node before after → Event before after
+  places : Steps MayPlace place_body before after → Event before after
+  attaches : Steps MayAttach attach before after → Event before after
+  takes_back : Steps MayTakeBack take_back before after → Event before after
+  unmarks : Steps MayUnmark unmark before after → Event before after
+  lets_slot_go : Steps MayLetSlotGo let_slot_go before after → Event before after
+  stores_pool_link : Steps MayStorePoolLink store_pool_link before after → Event before after
+  stores_pool_head : Steps MayStorePoolHead store_pool_head before after → Event before after
+  stores_pool_count : Steps MayStorePoolCount store_pool_count before after → Event before after
 
 -- events one after the other
 pub data Run (first : Core) : Core → Type 0 where

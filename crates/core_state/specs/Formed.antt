@@ -1,7 +1,11 @@
 -- What the form of events alone keeps true.
 use Rattle.std.specs.Prelude.{◌≡◌, ◌≢◌, ◌⊎◌, ℕ, ◌+◌, ◌^◌, ◌<◌, List, All, IfSome, ⊤}
+use Rattle.scene_model.specs.declared.entry.Entry.{Entry}
+use Rattle.scene_model.specs.declared.entry.Entry.TheVariants.{Create, Destroy, Mark, Unmark, Join, Remove, Move, SetUser}
 use Rattle.word_map.specs.declared.config.Config.{Config}
 use Rattle.word_map.specs.Limits.{IsConfig}
+use Rattle.word_map.specs.declared.name.Name.{Name}
+use Rattle.word_map.specs.declared.name.Name.TheVariants.{State, Phase, User, BoxWord, Slot}
 use Rattle.word_map.specs.Names.{IsName}
 use Rattle.core_state.specs.declared.item.Item.{Item}
 use Rattle.core_state.specs.declared.view.Role.{Role}
@@ -10,11 +14,23 @@ use Rattle.core_state.specs.declared.view.View.{View}
 use Rattle.core_state.specs.Log.{IsPrefix}
 use Rattle.core_state.specs.Core.{Core, IsViewAt}
 
+-- an entry is made by a step on a word of the body of which it speaks, or on a slot of its layer
+abbrev pub IsMadeOn : Entry → Name → Type 0
+IsMadeOn (Create index layer bounds user) name = name ≡ State index
+IsMadeOn (Destroy index) name = name ≡ State index
+IsMadeOn (Mark index) name = name ≡ Phase index
+IsMadeOn (Unmark index) name = name ≡ Phase index
+IsMadeOn (Join layer indexes) name = (slot : ℕ) × (name ≡ Slot layer slot)
+IsMadeOn (Remove index) name = name ≡ Phase index
+IsMadeOn (Move index bounds) name = (k : ℕ) × (name ≡ BoxWord index k)
+IsMadeOn (SetUser index user) name = name ≡ User index
+
 -- a step stored a value that fits a word, in a word of the world, by one of its passes
 pub record IsSoundItem (c : Config) (item : Item) : Type 0 where
   pub pass : item.pass < c.passes
   pub named : IsName c item.name
   pub fits : item.value < 2 ^ 64
+  pub said : IfSome item.entry (λ entry. IsMadeOn entry item.name)
 
 -- the numbers of a pass are those of the world
 abbrev pub HasNumbers : ℕ → Role → Type 0

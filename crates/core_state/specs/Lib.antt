@@ -11,8 +11,6 @@ pub mod Encoding
 pub mod Boxes
 pub mod Lists
 pub mod Lives
-pub mod Event
-pub mod Formed
 pub mod Nodes
 pub mod Scope
 pub mod Frame
@@ -24,6 +22,10 @@ pub mod NodesInOnePlace
 pub mod TreesSound
 pub mod LocationsHold
 pub mod Space
+pub mod Batches
+pub mod Pool
+pub mod Event
+pub mod Formed
 pub mod BodiesCovered
 pub mod WalkRecord
 pub mod Walking
@@ -33,3 +35,4 @@ pub mod Invariants
 pub mod Unseen
 pub mod Guards
 pub mod Broken
+pub mod Quietly

@@ -1,8 +1,8 @@
 -- The locations hold: a location of a body leads to its entry, and all bounds from there up contain its box.
-use Rattle.std.specs.Prelude.{◌≡◌, ◌≢◌, ◌⊎◌, ℕ, ◌<◌, ◌≤◌, Bool, true, false, List, length, Contains, Some, IsNone}
+use Rattle.std.specs.Prelude.{◌≡◌, ◌≢◌, ◌⊎◌, ℕ, ◌<◌, ◌≤◌, Bool, true, false, List, length, Contains, Some, IsNone, ⊤}
 use Rattle.std.specs.List.{list_any}
 use Rattle.fixed_box.specs.FixBox.{words_of}
-use Rattle.scene_model.specs.declared.body_view.Phase.TheVariants.{Out, In}
+use Rattle.scene_model.specs.declared.body_view.Phase.TheVariants.{Out, Held, In}
 use Rattle.scene_model.specs.Scene.{Record, record_at}
 use Rattle.scene_model.specs.Step.{HasBody}
 use Rattle.word_map.specs.declared.name.Name.{Name}
@@ -135,13 +135,24 @@ IsStillWide s view = (n k q value : ℕ) → Contains view.call.stores (record {
 -- the places that it climbs from: the locations of the body that it moves, the planned place of the one that it places
 abbrev pub ClimbsFrom : Sight → View → Task → ℕ → ℕ → Type 0
 ClimbsFrom s view (Moving index target) n k = IsLocation s index n k
-ClimbsFrom s view (Placing index) n k = HasUpdate view (λ r. IsNoted r index (λ noted. noted.place ≡ place n k))
+ClimbsFrom s view (Placing index) n k = (k < 4) × HasUpdate view (λ r. IsNoted r index (λ noted. noted.place ≡ place n k))
 ClimbsFrom s view _ n k = ⊥
 
 -- each place that it has read of parent words is above one of those
 abbrev pub IsOnItsWay : Sight → View → Type 0
 IsOnItsWay s view = (m a b : ℕ) → b < 4 → Contains view.call.loads (record { name = Parent m; value = place a b }) →
     (n : ℕ) × (k : ℕ) × ClimbsFrom s view view.call.task n k × Above s.word n k a b
+
+-- and so is each place whose bound it has widened
+abbrev pub IsWidenedOnWay : Sight → View → Type 0
+IsWidenedOnWay s view = (a b q value : ℕ) → Contains view.call.stores (record { name = Bound a b q; value = value }) →
+    (n : ℕ) × (k : ℕ) × ClimbsFrom s view view.call.task n k × Above s.word n k a b
+
+-- who gives a body another box, or places it, has found it not held
+abbrev pub IsUnheld : Sight → Task → Type 0
+IsUnheld s (Moving index target) = ¬ HasBody (scene_in s) index (λ r. r.phase ≡ Held)
+IsUnheld s (Placing index) = ¬ HasBody (scene_in s) index (λ r. r.phase ≡ Held)
+IsUnheld s _ = ⊤
 
 pub record LocationsHoldIn (nodes : Nodes) (s : Sight) : Type 0 where
   pub at : (i : ℕ) (r : Record) (n k : ℕ) → record_at (scene_in s) i ≡ Some r → r.phase ≡ In → IsLocation s i n k → IsAt nodes s i r n k
@@ -153,6 +164,9 @@ pub record LocationsHoldIn (nodes : Nodes) (s : Sight) : Type 0 where
   -- and each body that it noted is planned at one of them, until the trees of its layer are exchanged
   pub planned : EachUpdate s (λ number view r. (noted : Noted) → Contains r.noted noted → r.is_planned ≡ true → length r.swapped ≤ noted.layer
       → IsPlannedAt nodes s number view r noted)
+  -- its place is in a node of a tree, also when these were exchanged
+  pub planned_stand : EachUpdate s (λ number view r. (noted : Noted) (n k : ℕ) → Contains r.noted noted → r.is_planned ≡ true → k < 4 → noted.place ≡ place n k
+      → Stands (nodes.home n))
   -- a first location is in the tree that the phase says
   pub first : (i : ℕ) (r : Record) (n k : ℕ) → record_at (scene_in s) i ≡ Some r → r.phase ≡ In → k < 4 → s.word (LocA i) ≡ place n k → IsWhere nodes s i r.layer n
   pub second : (i : ℕ) → s.word (LocB i) ≢ 0 → IsSecond s i
@@ -161,10 +175,14 @@ pub record LocationsHoldIn (nodes : Nodes) (s : Sight) : Type 0 where
   pub out : (i : ℕ) → HasBody (scene_in s) i (λ r. r.phase ≡ Out) → ¬ IsRemoved s i → (s.word (LocA i) ≡ 0) × (s.word (LocB i) ≡ 0)
   pub removed : EachPass s (λ number view. (i : ℕ) → Removes view.call.task i → HasBody (scene_in s) i (λ r. r.phase ≡ Out) × IsPartlyCleared nodes s view i)
   pub held : (batch : Batch) (m : Marked) → Contains (all_batches s) batch → Contains batch.marked m → IsPlannedIn s batch m × (s.word (LocB m.index) ≡ 0)
+  pub unheld : EachPass s (λ number view. IsUnheld s view.call.task)
   -- who gives a body another box has widened all bounds first
   pub widened : EachPass s (λ number view. IsWidened s view)
   pub still_wide : EachPass s (λ number view. IsStillWide s view)
+  -- who climbs begins at a node of a tree
+  pub climbs_from : EachPass s (λ number view. (n k : ℕ) → ClimbsFrom s view view.call.task n k → Stands (nodes.home n))
   pub on_its_way : EachPass s (λ number view. IsOnItsWay s view)
+  pub widened_on_way : EachPass s (λ number view. IsWidenedOnWay s view)
 
 abbrev pub LocationsHold : Nodes → Core → Type 0
 LocationsHold nodes core = LocationsHoldIn nodes (sight location_scope core)

@@ -13,7 +13,7 @@ use Rattle.core_state.specs.View.{Holds}
 use Rattle.core_state.specs.Core.{Core}
 use Rattle.core_state.specs.Scope.{Scope, Sight, sight, IsOnce, HasPass, EachPass}
 use Rattle.core_state.specs.Encoding.{IsInArena}
-use Rattle.core_state.specs.Nodes.{Nodes, free, spare, under, superseded, IsOwnedBy, nodes_of}
+use Rattle.core_state.specs.Nodes.{Nodes, free, spare, made, under, superseded, IsOwnedBy, nodes_of}
 use Rattle.core_state.specs.Bodies.{IsChain, all_batches}
 use Rattle.core_state.specs.Updates.{EachUpdate, arena_of}
 
@@ -72,6 +72,8 @@ pub record NodesInOnePlaceIn (nodes : Nodes) (s : Sight) : Type 0 where
   -- trees of slots are of batch nodes, main trees of nodes of one arena
   pub slot_trees : (n l t : ℕ) → nodes.home n ≡ under (Slot l t) → n < s.config.nodes
   pub main_trees : (n l : ℕ) → nodes.home n ≡ under (Main l) → IsInArena s.config (arena_of s (s.word Arena) l) n
+  -- and so are those that updates make
+  pub made_trees : (n number l : ℕ) → nodes.home n ≡ made number l → s.config.nodes ≤ n
   -- the word of the update names the pass that has one under way
   pub update : (number : ℕ) → (s.word Update ≡ suc number) ↔ HasPass s number (λ view. IsSome view.rebuild)
   pub superseded_by : (n number l : ℕ) → nodes.home n ≡ superseded number l → HasPass s number (λ view. IsSome view.rebuild)

@@ -68,9 +68,10 @@ IsAsStored word (made number l) (Child n k) value = (word (Child n k) ≡ value)
 IsAsStored word (made number l) (Bound n k q) value = (q < 3 → word (Bound n k q) ≤ value) × (3 ≤ q → value ≤ word (Bound n k q))
 IsAsStored word _ name value = ⊥
 
--- all below the roots of those parts is the pass's own, and a node below is where its parent word says
+-- all below the roots of those parts is the pass's own for its update, and a node below is where its parent word says
 pub record IsReturning (nodes : Nodes) (s : Sight) (number : ℕ) (r : Rebuild) : Type 0 where
   pub owned : (root n : ℕ) → Contains r.returning root → Below s.word root n → nodes.home n ≡ owned number
+  pub among : (root n : ℕ) → Contains r.returning root → Below s.word root n → Contains r.nodes n
   pub agree : (root n k m : ℕ) → Contains r.returning root → Below s.word root n → k < 4 → s.word (Child n k) ≡ node_child m → s.word (Parent m) ≡ place n k
   pub once : IsOnce r.returning
 

@@ -23,6 +23,7 @@ ghost use Rattle.core_state.specs.Looking.{MayLook, look};
 ghost use Rattle.core_state.specs.Locking.{MayLoadLock, load_lock};
 ghost use Rattle.core_state.specs.Lists.{MayLoadList, load_list};
 ghost use Rattle.core_state.specs.Lives.{MayLoadBody, load_body};
+ghost use Rattle.core_state.specs.Batches.{MayLoadSlot, load_slot};
 ghost use Rattle.core_state.specs.Formed.{IsFormed};
 ghost use Rattle.core_state.specs.Nodes.{Nodes};
 ghost use Rattle.core_state.specs.Space.{HadSince};
@@ -70,7 +71,7 @@ pub fn steps_outside_a_scope_are_not_seen()
 {}
 
 /// Events that no invariant sees keep all of them: so do the splitting and joining of a visitor, a look, and the loads
-/// of a lock word, of a word of a list and of a word of a body.
+/// of a lock word, of a word of a list, of a word of a body and of a slot.
 pub fn unseen_events_keep_all()
     ensures unseen { (before after : Core) → IsUnseen before after → Invariants before → Invariants after }
     ensures visits { (before after : Core) → Visits before after → Invariants before → Invariants after }
@@ -79,6 +80,7 @@ pub fn unseen_events_keep_all()
     ensures loads { (before after : Core) → Steps MayLoadLock load_lock before after → Invariants before → Invariants after }
     ensures lists { (before after : Core) → Steps MayLoadList load_list before after → Invariants before → Invariants after }
     ensures bodies { (before after : Core) → Steps MayLoadBody load_body before after → Invariants before → Invariants after }
+    ensures slots { (before after : Core) → Steps MayLoadSlot load_slot before after → Invariants before → Invariants after }
 {}
 
 /// Bit p of a lock word is set exactly where pass p holds the lock to read, bit 32 + p exactly where it holds it to

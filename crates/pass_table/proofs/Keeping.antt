@@ -15,7 +15,7 @@ use Rattle.core_state.specs.View.{known_alone, own_known, number_in, IsPass}
 use Rattle.core_state.specs.Core.{Core, IsViewAt, opening}
 use Rattle.core_state.specs.Kind.{Kind, Asking, Step, Steps, left_by, item_of, gained_by, view_after, after_step}
 use Rattle.core_state.specs.Seats.{Opens, Visits, Joins, after_split, visitor_of, joined_view, spent_view}
-use Rattle.core_state.specs.Event.{Event, opens_pass, splits_visitor, joins_visitor, looks, loads_lock, takes_read, takes_write, releases, loads_list, stores_link, stores_head, stores_field, creates, destroys, loads_body, sets_user}
+use Rattle.core_state.specs.Event.{Event, opens_pass, splits_visitor, joins_visitor, looks, loads_lock, takes_read, takes_write, releases, loads_list, stores_link, stores_head, stores_field, creates, destroys, loads_body, sets_user, loads_slot, reserves, marks, stores_node, places, attaches, takes_back, unmarks, lets_slot_go, stores_pool_link, stores_pool_head, stores_pool_count}
 use Rattle.core_state.specs.Formed.{AreApart, IsSoundView, IsFormed}
 use Rattle.core_state.proofs.Lookups.{at_set}
 use Rattle.core_state.proofs.Prefixes.{IsPrefix-refl, IsPrefix-trans}
@@ -23,7 +23,7 @@ use Rattle.core_state.proofs.Steps.{gains, nothing, its_item}
 use Rattle.core_state.proofs.Forming.{pass_role, unspent_pass, is_left, is_right, is_other, at_split, is_spent, is_joined, is_old, at_join, IsFormed-event, IsFormed-opening}
 use Rattle.core_state.proofs.Guarding.{GuardsHold-opening}
 use Rattle.core_state.proofs.Opening.{Invariants-opening}
-use Rattle.core_guard.proofs.Events.{Invariants-event, GuardsHold-event}
+use Rattle.pass_table.proofs.Events.{Invariants-event, GuardsHold-event}
 use Rattle.pass_table.specs.Standing.{HasNumber, AreForeign, OwnAreKnown, Stands}
 
 -- what holds of all of two lists holds of all of the second
@@ -198,6 +198,18 @@ OwnAreKnown-event before after (creates e) formed own = OwnAreKnown-steps _ _ be
 OwnAreKnown-event before after (destroys e) formed own = OwnAreKnown-steps _ _ before after e formed own
 OwnAreKnown-event before after (loads_body e) formed own = OwnAreKnown-steps _ _ before after e formed own
 OwnAreKnown-event before after (sets_user e) formed own = OwnAreKnown-steps _ _ before after e formed own
+OwnAreKnown-event before after (loads_slot e) formed own = OwnAreKnown-steps _ _ before after e formed own
+OwnAreKnown-event before after (reserves e) formed own = OwnAreKnown-steps _ _ before after e formed own
+OwnAreKnown-event before after (marks e) formed own = OwnAreKnown-steps _ _ before after e formed own
+OwnAreKnown-event before after (stores_node e) formed own = OwnAreKnown-steps _ _ before after e formed own
+OwnAreKnown-event before after (places e) formed own = OwnAreKnown-steps _ _ before after e formed own
+OwnAreKnown-event before after (attaches e) formed own = OwnAreKnown-steps _ _ before after e formed own
+OwnAreKnown-event before after (takes_back e) formed own = OwnAreKnown-steps _ _ before after e formed own
+OwnAreKnown-event before after (unmarks e) formed own = OwnAreKnown-steps _ _ before after e formed own
+OwnAreKnown-event before after (lets_slot_go e) formed own = OwnAreKnown-steps _ _ before after e formed own
+OwnAreKnown-event before after (stores_pool_link e) formed own = OwnAreKnown-steps _ _ before after e formed own
+OwnAreKnown-event before after (stores_pool_head e) formed own = OwnAreKnown-steps _ _ before after e formed own
+OwnAreKnown-event before after (stores_pool_count e) formed own = OwnAreKnown-steps _ _ before after e formed own
 
 pub Stands-event : (before after : Core) → Event before after → Stands before → Stands after
 Stands-event before after event stands = record {

@@ -6,20 +6,22 @@ use Rattle.std.proofs.lemmas.List.Elements.{All-head}
 use Rattle.std.proofs.lemmas.Option.{same_Some}
 use Rattle.word_map.specs.declared.config.Config.{Config}
 use Rattle.word_map.specs.declared.name.Name.{Name}
-use Rattle.word_map.specs.declared.name.Name.TheVariants.{Update}
+use Rattle.word_map.specs.declared.name.Name.TheVariants.{Lock, Update}
 use Rattle.core_state.specs.declared.item.Item.{Item}
 use Rattle.core_state.specs.declared.view.View.{View}
 use Rattle.core_state.specs.Log.{IsPrefix}
 use Rattle.core_state.specs.Looking.{MayLook, look}
 use Rattle.core_state.specs.Seats.{joined_view}
-use Rattle.core_state.specs.Kind.{Kind, Asking, Step, learned, found_by, gained_by, log_after}
+use Rattle.core_state.specs.Kind.{Kind, Asking, Step, learned, found_by, left_by, item_of, gained_by, log_after}
 use Rattle.core_state.proofs.Prefixes.{IsPrefix-trans}
 use Rattle.core_state.proofs.Forming.{unspent_pass}
 use Rattle.pass_table.specs.Stepping.{step_by, Stepped}
 use Rattle.core_state.specs.Guards.{IsQuiet}
 use Rattle.core_state.specs.Operation.{stores}
-use Rattle.core_state.proofs.Guarding.{joined-unquiet}
-use Rattle.core_state.proofs.Steps.{gained-unstored}
+use Rattle.core_state.specs.Quietly.{KnowsQuietly}
+use Rattle.core_state.proofs.Guarding.{joined-unquiet, lock-quiet}
+use Rattle.core_state.proofs.Quiet.{in_first, in_second, append_cut, one_cut, no_cut}
+use Rattle.core_state.proofs.Steps.{gained-unstored, Gains, nothing, its_item, gains}
 use Rattle.pass_table.specs.Knowing.{IsOthers, KnowsMore, Looked, MeetsWith}
 use Rattle.pass_table.proofs.Keeping.{All-second}
 
@@ -106,3 +108,25 @@ meets-with view other next look_made =
       theirs = IsPrefix-trans other.known joined.known next.known sound.joined.1 (look_made.more.since, look_made.more.known);
       looked = look_made;
     }
+
+-- what a step on a lock stores comes quietly
+pub lock-step-quiet : (asks : Asking) (kind : Kind) (view next : View) (lock first second found : ℕ) → Stepped asks kind view (Lock lock) first second found next → KnowsQuietly view next
+lock-step-quiet asks kind view next lock first second found stepped = record {
+  since = stepped.since ++ gained;
+  known = ap (λ (v : View). v.known) stepped.leaves ∙ (ap (λ (l : List Item). l ++ gained) stepped.learns ∙ append_assoc view.known stepped.since gained);
+  quiet = λ early later item parts.
+      elim (append_cut stepped.since gained early later item parts) [
+        | in_first rest p ↦ (came-others asks kind view next (Lock lock) first second found stepped early rest item p).quiet
+        | in_second front p q ↦ lock-quiet view.config view (view.known ++ early) item lock (own_name front later item q (gains kind stepped.before made))
+      ];
+}
+  where
+    made : Step
+    made = step_by stepped.seat view stepped.number (Lock lock) first second
+
+    gained : List Item
+    gained = gained_by kind stepped.before made
+
+    own_name : (front later : List Item) (item : Item) → gained ≡ front ++ item ∷ later → Gains kind stepped.before made → item.name ≡ Lock lock
+    own_name front later item q (nothing e f) = absurd (no_cut item front later (sym e ∙ q))
+    own_name front later item q (its_item stored e) = ap (λ (it : Item). it.name) (one_cut (item_of kind made (left_by kind stepped.before made)) item front later (sym e ∙ q))

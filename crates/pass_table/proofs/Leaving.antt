@@ -1,9 +1,6 @@
 -- What a step leaves of the view of its pass.
-use Rattle.std.proofs.lemmas.Bool.{cases_eq, eq-eqb, ne_eqb}
-use Rattle.std.proofs.lemmas.List.{get_or-set_same, get_or-set_other, length-set}
-use Rattle.std.proofs.lemmas.List.Sums.{fold-append}
-use Rattle.std.proofs.Common.{◌≡◌, ◌≢◌, inl, inr, cond, ℕ, ◌<◌, ◌^◌, ◌-◌, List, [], ◌∷◌, ◌++◌, Some, None, Option, Bool, true, false, eqb, length, refl, ap, sym, ◌∙◌, subst}
-use Rattle.std.specs.Prelude.{slice_set, slice_index_or}
+use Rattle.std.proofs.lemmas.Bool.{eq-eqb, ne_eqb}
+use Rattle.std.proofs.Common.{◌≡◌, ◌≢◌, cond, ℕ, ◌<◌, ◌^◌, ◌-◌, List, [], ◌∷◌, ◌++◌, Some, None, Option, Bool, true, false, eqb, refl, ap, sym, ◌∙◌, subst}
 use Rattle.atomic_table.specs.Table.{Me}
 use Rattle.atomic_table.specs.Seated.{TableId}
 use Rattle.word_map.specs.declared.config.Config.{Config}
@@ -11,15 +8,19 @@ use Rattle.word_map.specs.declared.name.Name.{Name}
 use Rattle.word_map.specs.declared.name.Name.TheVariants.{Lock}
 use Rattle.word_map.specs.Layout.{word_count, name_of}
 use Rattle.core_state.specs.declared.view.Mode.{Mode}
+use Rattle.core_state.specs.declared.view.Mode.TheVariants.{Read, Write}
 use Rattle.core_state.specs.declared.view.LockStep.{LockStep}
 use Rattle.core_state.specs.declared.view.LockStep.TheVariants.{Taken, Released}
 use Rattle.core_state.specs.declared.view.Task.TheVariants.{Nothing}
 use Rattle.core_state.specs.declared.view.View.{View}
-use Rattle.core_state.specs.View.{IsPass, number_of, mode_of, mode_after, Holds}
+use Rattle.core_state.specs.View.{IsPass, number_of, Holds}
 use Rattle.core_state.specs.Locking.{bit_of, take, MayRelease, release}
 use Rattle.core_state.specs.Kind.{Kind, Asking, found_by, view_after}
 use Rattle.pass_table.specs.Stepping.{step_by, Stepped, MayStep}
-use Rattle.pass_table.specs.Holding.{AreModes, IsStill}
+use Rattle.pass_table.specs.declared.lock_set.LockSet.{LockSet}
+use Rattle.pass_table.specs.LockSets.{bit_in, IsChanged}
+use Rattle.pass_table.specs.Holding.{mode_by, AreHeld, IsStill}
+use Rattle.core_guard.proofs.LockWords.{mode-push}
 
 -- what a step at the place of a name asks
 pub may-step : {S : Type 0} (asks : Asking) (key c : Config) (table : TableId) (me : Me S View) (place first second number : ℕ) (name : Name)
@@ -47,31 +48,38 @@ stepped-named asks kind same view next key c place first second found name keyed
 
 -- ---- how the locks are held
 
--- one lock more, or one less
-modes-set : (modes : List (Option Mode)) (steps : List LockStep) (lock : ℕ) (mode : Option Mode) (step : LockStep) → lock < length modes
-    → ((other : ℕ) (before : Option Mode) → mode_after other before step ≡ cond (eqb lock other) mode before) → AreModes modes steps
-    → AreModes (slice_set modes lock mode) (steps ++ step ∷ [])
-modes-set modes steps lock mode step below after are = record {
-  len = length-set modes lock mode ∙ are.len;
-  each = λ other. elim (cases_eq other lock) [
-    | inl same ↦
-        subst (λ (l : ℕ). slice_index_or (slice_set modes lock mode) l None ≡ mode_of (steps ++ step ∷ []) l) (sym same)
-        (get_or-set_same modes lock mode None below ∙ sym (pushed lock true (eq-eqb lock lock refl)))
-    | inr apart ↦ get_or-set_other modes lock other mode None apart ∙ (are.each other ∙ sym (pushed other false (ne_eqb lock other (λ e. apart (sym e)))))
-  ];
-}
-  where
-    pushed : (other : ℕ) (test : Bool) → eqb lock other ≡ test → mode_of (steps ++ step ∷ []) other ≡ cond test mode (mode_of steps other)
-    pushed other test e =
-        fold-append (mode_after other) None steps (step ∷ []) ∙ (after other (mode_of steps other) ∙ ap (λ (t : Bool). cond t mode (mode_of steps other)) e)
+-- the bit of a lock that was taken so, in the set of those last taken to write
+abbrev pub written_bit : Mode → ℕ
+written_bit Read = 0
+written_bit Write = 1
 
-pub modes-taken : (modes : List (Option Mode)) (steps : List LockStep) (lock : ℕ) (mode : Mode) → lock < length modes → AreModes modes steps
-    → AreModes (slice_set modes lock (Some mode)) (steps ++ Taken lock mode ∷ [])
-modes-taken modes steps lock mode below are = modes-set modes steps lock (Some mode) (Taken lock mode) below (λ other before. refl) are
+mode-taken : (t : Bool) (mode : Mode) (held written : ℕ) → mode_by (cond t 1 held) (cond t (written_bit mode) written) ≡ cond t (Some mode) (mode_by held written)
+mode-taken true Read held written = refl
+mode-taken true Write held written = refl
+mode-taken false mode held written = refl
 
-pub modes-released : (modes : List (Option Mode)) (steps : List LockStep) (lock : ℕ) → lock < length modes → AreModes modes steps
-    → AreModes (slice_set modes lock None) (steps ++ Released lock ∷ [])
-modes-released modes steps lock below are = modes-set modes steps lock None (Released lock) below (λ other before. refl) are
+abbrev no_mode : Option Mode
+no_mode = None
+
+mode-released : (t : Bool) (held written : ℕ) → mode_by (cond t 0 held) written ≡ cond t no_mode (mode_by held written)
+mode-released true held written = refl
+mode-released false held written = refl
+
+-- one lock more
+held-taken : (held written more last : LockSet) (steps : List LockStep) (lock : ℕ) (mode : Mode) → IsChanged held lock 1 more → IsChanged written lock (written_bit mode) last
+    → AreHeld held written steps → AreHeld more last (steps ++ Taken lock mode ∷ [])
+held-taken held written more last steps lock mode put noted are = λ other.
+    (λ i. mode_by (put other i) (noted other i)) ∙
+    (mode-taken (eqb lock other) mode (bit_in held other) (bit_in written other) ∙
+    (ap (λ (o : Option Mode). cond (eqb lock other) (Some mode) o) (are other) ∙ sym (mode-push steps (Taken lock mode) other)))
+
+-- one lock less
+held-released : (held written less : LockSet) (steps : List LockStep) (lock : ℕ) → IsChanged held lock 0 less → AreHeld held written steps
+    → AreHeld less written (steps ++ Released lock ∷ [])
+held-released held written less steps lock gone are = λ other.
+    ap (λ (h : ℕ). mode_by h (bit_in written other)) (gone other) ∙
+    (mode-released (eqb lock other) (bit_in held other) (bit_in written other) ∙
+    (ap (λ (o : Option Mode). cond (eqb lock other) no_mode o) (are other) ∙ sym (mode-push steps (Released lock) other)))
 
 -- ---- what is left of a view
 
@@ -82,10 +90,6 @@ module _ (asks : Asking) (kind : Kind) (view : View) (name : Name) (first second
 
   pub sizes-left : next.config ≡ view.config
   sizes-left = ap (λ (v : View). v.config) stepped.leaves
-
-  -- a kind that leaves the locks leaves them
-  pub modes-left : (modes : List (Option Mode)) → IsStill kind → AreModes modes view.locks → AreModes modes next.locks
-  modes-left modes still are = subst (AreModes modes) (sym (ap (λ (v : View). v.locks) stepped.leaves ∙ (still _ name _ first second).0)) are
 
   pub walk-left : IsStill kind → next.walk.is_on ≡ view.walk.is_on
   walk-left still = ap (λ (v : View). v.walk.is_on) stepped.leaves ∙ (still _ name _ first second).1
@@ -117,17 +121,16 @@ module _ (asks : Asking) (mode : Mode) (view next : View) (lock expected new fou
   pub took-walk : next.walk.is_on ≡ view.walk.is_on
   took-walk = left-walk
 
-  pub modes-took : (modes : List (Option Mode)) → found ≡ expected → lock < length modes → AreModes modes view.locks → AreModes (slice_set modes lock (Some mode)) next.locks
-  modes-took modes same below are = subst (AreModes (slice_set modes lock (Some mode))) (sym (took-locks same)) (modes-taken modes view.locks lock mode below are)
-
-  pub modes-missed : (modes : List (Option Mode)) → found ≢ expected → AreModes modes view.locks → AreModes modes next.locks
-  modes-missed modes other are = subst (AreModes modes) (sym (missed-locks other)) are
+  pub held-took : (held written more last : LockSet) → found ≡ expected → IsChanged held lock 1 more → IsChanged written lock (written_bit mode) last
+      → AreHeld held written view.locks → AreHeld more last next.locks
+  held-took held written more last same put noted are =
+      subst (AreHeld more last) (sym (took-locks same)) (held-taken held written more last view.locks lock mode put noted are)
 
 -- a release lets the lock go
 module _ (asks : Asking) (view next : View) (lock summand second found : ℕ) (stepped : Stepped asks release view (Lock lock) summand second found next) where
-  pub modes-let_go : (modes : List (Option Mode)) → lock < length modes → AreModes modes view.locks → AreModes (slice_set modes lock None) next.locks
-  modes-let_go modes below are =
-      subst (AreModes (slice_set modes lock None)) (sym (ap (λ (v : View). v.locks) stepped.leaves)) (modes-released modes view.locks lock below are)
+  pub held-let_go : (held written less : LockSet) → IsChanged held lock 0 less → AreHeld held written view.locks → AreHeld less written next.locks
+  held-let_go held written less gone are =
+      subst (AreHeld less written) (sym (ap (λ (v : View). v.locks) stepped.leaves)) (held-released held written less view.locks lock gone are)
 
   pub let_go-walk : next.walk.is_on ≡ view.walk.is_on
   let_go-walk = ap (λ (v : View). v.walk.is_on) stepped.leaves

@@ -1,4 +1,7 @@
+pub mod Events
+pub mod Widening
 pub mod Keeping
+pub mod LockSets
 pub mod Allowing
 pub mod Leaving
 pub mod Seating
@@ -7,3 +10,9 @@ pub mod Ruling
 pub mod Trying
 pub mod Turning
 pub mod Resting
+pub mod TakingTurns
+pub mod Calling
+pub mod OneBody
+pub mod OneNode
+pub mod OneTree
+pub mod Between

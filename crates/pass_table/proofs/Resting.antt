@@ -1,17 +1,13 @@
 -- A lock that was taken can be let go, and then the pass is at rest as before.
-use Rattle.std.proofs.Common.{◌≡◌, ℕ, List, [], ◌∷◌, ◌++◌, Bool, true, false, eqb, cond, Option, Some, None, refl, ap, ◌∙◌}
+use Rattle.std.proofs.Common.{◌≡◌, ℕ, Bool, true, false, eqb, cond, Option, Some, None, refl, ap, ◌∙◌}
 use Rattle.std.proofs.lemmas.Bool.{eq-eqb}
-use Rattle.std.proofs.lemmas.List.Sums.{fold-append}
 use Rattle.core_state.specs.declared.view.Mode.{Mode}
-use Rattle.core_state.specs.declared.view.LockStep.{LockStep}
 use Rattle.core_state.specs.declared.view.LockStep.TheVariants.{Taken, Released}
 use Rattle.core_state.specs.declared.view.View.{View}
 use Rattle.core_state.specs.View.{mode_of, mode_after}
 use Rattle.pass_table.specs.Holding.{MayLetGo, LetGo, IsAtRest}
 use Rattle.pass_table.specs.Trying.{Leaves, with_taken}
-
-mode-push : (steps : List LockStep) (step : LockStep) (lock : ℕ) → mode_of (steps ++ step ∷ []) lock ≡ mode_after lock (mode_of steps lock) step
-mode-push steps step lock = fold-append (mode_after lock) None steps (step ∷ [])
+use Rattle.core_guard.proofs.LockWords.{mode-push}
 
 abbrev no_mode : Option Mode
 no_mode = None

@@ -11,10 +11,11 @@ use Rattle.word_map.specs.Layout.{name_of, word_count}
 use Rattle.core_state.proofs.Reading.{length-words}
 use Rattle.pass_table.specs.declared.pass.Pass.{Pass}
 use Rattle.pass_table.specs.declared.world.World.{World}
-use Rattle.pass_table.specs.Holding.{AreModes}
+use Rattle.pass_table.specs.declared.lock_set.LockSet.{LockSet}
+use Rattle.pass_table.specs.LockSets.{bit_in}
+use Rattle.pass_table.specs.Holding.{mode_by, AreHeld}
 use Rattle.pass_table.specs.Opened.{IsFresh, AreFresh, AreAll}
 use Rattle.core_state.specs.declared.view.Role.TheVariants.{Pass as PassRole}
-use Rattle.core_state.specs.declared.view.Mode.{Mode}
 use Rattle.core_state.specs.Log.{opening_word, words}
 use Rattle.core_state.specs.View.{blank_view}
 use Rattle.pass_table.specs.Standing.{IsRuled}
@@ -35,16 +36,8 @@ pub opening-len : (c : Config) (ws : List ℕ) → ws ≡ words c [] → length 
 opening-len c ws same = ap length same ∙ length-words c []
 
 -- no lock is held
-abbrev no_mode : Option Mode
-no_mode = None
-
-modes-none : (n lock : ℕ) → slice_index_or (replicate n no_mode) lock no_mode ≡ no_mode
-modes-none zero lock = refl
-modes-none (suc n) zero = refl
-modes-none (suc n) (suc lock) = modes-none n lock
-
-pub fresh-modes : AreModes (replicate 66 no_mode) []
-fresh-modes = record { len = length-replicate 66 no_mode; each = λ lock. modes-none 66 lock }
+pub fresh-held : (held written : LockSet) → ((lock : ℕ) → bit_in held lock ≡ 0) → AreHeld held written []
+fresh-held held written none lock = ap (λ (h : ℕ). mode_by h (bit_in written lock)) (none lock)
 
 -- the last of a list
 get_or_last : {X : Type 0} (xs : List X) (x d : X) → slice_index_or (xs ++ x ∷ []) (length xs) d ≡ x

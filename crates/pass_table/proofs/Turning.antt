@@ -111,6 +111,10 @@ looked-step view next looked = one-step MayLook look view next Update 0 0 looked
 pub loaded-step : (view next : View) (lock found : ℕ) → LoadedLock view next lock found → AtMostOneStep view next
 loaded-step view next lock found step = one-step MayLoadLock load_lock view next (Lock lock) 0 0 found step (λ before after steps. loads_lock steps)
 
+-- it makes no entry
+pub loaded-made : (view next : View) (lock found : ℕ) → LoadedLock view next lock found → MadeBy view next None
+loaded-made view next lock found step = made-by-step MayLoadLock load_lock view next (Lock lock) 0 0 found step
+
 pub exchanged-step : (view next : View) (lock : ℕ) (mode : Mode) (expected found : ℕ) → ExchangedLock view next lock mode expected found → AtMostOneStep view next
 exchanged-step view next lock Read expected found made = one-step (MayTake Read) (take Read) view next (Lock lock) expected made.put found made.step (λ before after steps. takes_read steps)
 exchanged-step view next lock Write expected found made = one-step (MayTake Write) (take Write) view next (Lock lock) expected made.put found made.step (λ before after steps. takes_write steps)

@@ -1,6 +1,7 @@
--- How a pass keeps what its view says of locks: for each lock of the largest world, how it is held.
-use Rattle.std.specs.Prelude.{◌≡◌, ℕ, List, Option, None, length, slice_index_or}
+-- How a pass keeps what its view says of locks: as two sets of locks.
+use Rattle.std.specs.Prelude.{◌≡◌, ℕ, ◌==◌, if◌then◌else◌, List, Option, Some, None}
 use Rattle.core_state.specs.declared.view.Mode.{Mode}
+use Rattle.core_state.specs.declared.view.Mode.TheVariants.{Read, Write}
 use Rattle.core_state.specs.declared.view.LockStep.{LockStep}
 use Rattle.core_state.specs.declared.view.Task.TheVariants.{Nothing}
 use Rattle.core_state.specs.declared.view.View.{View}
@@ -9,12 +10,17 @@ use Rattle.core_state.specs.Kind.{Kind}
 use Rattle.core_state.specs.Locking.{MayRelease, release}
 use Rattle.word_map.specs.declared.name.Name.{Name}
 use Rattle.word_map.specs.declared.name.Name.TheVariants.{Lock}
+use Rattle.pass_table.specs.declared.lock_set.LockSet.{LockSet}
+use Rattle.pass_table.specs.LockSets.{bit_in}
 use Rattle.pass_table.specs.Stepping.{Stepped}
 
--- a lock with a higher number is not held
-pub record AreModes (modes : List (Option Mode)) (steps : List LockStep) : Type 0 where
-  pub len : length modes ≡ 66
-  pub each : (lock : ℕ) → slice_index_or modes lock None ≡ mode_of steps lock
+-- how a lock is held that has these bits in the set of locks held, and in that of locks last taken to write
+abbrev pub mode_by : ℕ → ℕ → Option Mode
+mode_by held written = if held == 0 then None else if written == 0 then Some Read else Some Write
+
+-- the sets are those of the locks that are held after these steps, and of those last taken to write
+abbrev pub AreHeld : LockSet → LockSet → List LockStep → Type 0
+AreHeld held written steps = (lock : ℕ) → mode_by (bit_in held lock) (bit_in written lock) ≡ mode_of steps lock
 
 -- steps of this kind leave the locks of the pass as they were, and whether it walks
 abbrev pub IsStill : Kind → Type 0

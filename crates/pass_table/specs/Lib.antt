@@ -1,6 +1,7 @@
 pub mod Standing
 pub mod Stepping
 pub mod Seating
+pub mod LockSets
 pub mod Holding
 pub mod Knowing
 pub mod Trying
@@ -8,3 +9,6 @@ pub mod Turning
 pub mod TakeTurns
 pub mod Passes
 pub mod Opened
+pub mod Numbered
+pub mod Calls
+pub mod OneBody

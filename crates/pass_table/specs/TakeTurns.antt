@@ -8,6 +8,8 @@ use Rattle.core_state.specs.declared.item.Item.{Item}
 use Rattle.core_state.specs.declared.view.Mode.{Mode}
 use Rattle.core_state.specs.declared.view.View.{View}
 use Rattle.core_state.specs.View.{HoldsNot, mode_of}
+use Rattle.core_state.specs.Quietly.{KnowsQuietly}
+use Rattle.core_state.proofs.Quiet.{KnowsQuietly-trans}
 use Rattle.pass_table.specs.Knowing.{KnowsMore}
 use Rattle.pass_table.specs.Trying.{Excludes, Leaves, Waited, with_taken}
 use Rattle.pass_table.specs.declared.take_op.TakeOp.{TakeOp}
@@ -33,10 +35,17 @@ pub record IsTaking (first : TakeOp) (start : View) (operation : TakeOp) (view :
   pub free : HoldsNot view operation.lock
   pub open_to : IfSome operation.loaded (λ word. ¬ Excludes operation.mode word)
   pub waited : Waited start view
+  pub quiet : KnowsQuietly start view
 
--- at the end the pass holds the lock, and all else but what it knows is as it was at the beginning
-abbrev pub HasTaken : TakeOp → View → View → Type 0
-HasTaken first start next = Leaves start next (with_taken start first.lock first.mode)
+-- at the end the pass holds the lock, and all else but what it knows is as it was at the beginning; nothing that it has
+-- for itself was stored meanwhile
+pub record HasTaken (first : TakeOp) (start next : View) : Type 0 where
+  pub left : Leaves start next (with_taken start first.lock first.mode)
+  pub quiet : KnowsQuietly start next
+
+-- what others stored came quietly
+pub more-quiet : (view next : View) → KnowsMore view next → KnowsQuietly view next
+more-quiet view next more = record { since = more.since; known = more.known; quiet = λ early later item parts. (more.others early later item parts).quiet }
 
 -- a look or a meeting between two turns does no harm
 pub taking-later : (first : TakeOp) (start : View) (operation : TakeOp) (view next : View) → KnowsMore view next → IsTaking first start operation view → IsTaking first start operation next
@@ -55,4 +64,5 @@ taking-later first start operation view next more taking = record {
         (ap (λ (v : View). record v { known = next.known; joined = None }) taking.waited.rest ∙
         (λ i. record start { known = next.known; joined = sym (ap (λ (v : View). v.joined) more.rest) i }));
   };
+  quiet = KnowsQuietly-trans start view next taking.waited.rest taking.quiet (more-quiet view next more);
 }

@@ -17,6 +17,6 @@ impl Pass {
     pub fn is_idle(&self) -> bool
         ensures { (result ≡ true) ↔ (((lock : ℕ) → HoldsNot (view_of self.now) lock) × ((view_of self.now).walk.is_on ≡ false)) }
     {
-        !self.walks && self.modes.iter().all(|mode| mode.is_none())
+        !self.walks && self.held.is_empty()
     }
 }

@@ -13,9 +13,14 @@
 mod calls;
 mod driving;
 mod kinds;
+mod kinds_batches;
 mod label;
+pub mod laws;
+mod lock_set;
 mod locks;
 mod looking;
+mod one_body;
+mod one_tree;
 mod open;
 mod opened;
 mod opening;
@@ -30,6 +35,7 @@ mod take_turns;
 mod taking;
 mod turn;
 mod typed;
+mod typed_batches;
 mod typed_bodies;
 mod typed_lists;
 mod world;
@@ -44,7 +50,11 @@ pub use pass::Pass;
 pub use take_op::TakeOp;
 pub use taking::Take;
 pub use turn::Turn;
-pub use typed::{step_5, step_6, step_7, step_8};
+pub use typed::{step_4, step_5, step_6, step_7, step_8};
+pub use typed_batches::{
+    step_17, step_18, step_19, step_20, step_21, step_22, step_23, step_24, step_25, step_26,
+    step_27,
+};
 pub use typed_bodies::{step_12, step_13, step_14, step_15, step_16};
 pub use typed_lists::{step_9, step_10, step_11};
 pub use world::World;

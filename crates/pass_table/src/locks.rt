@@ -151,10 +151,10 @@ fn take<R: Wait>(rt: &R, world: &World, pass: &mut Pass, lock: u32, mode: Mode)
 {
     let backoff = Backoff::new();
     for _ in rt.forever() {
-        if try_mode(world, pass, lock, mode) == Take::Taken {
-            return;
+        match try_mode(world, pass, lock, mode) {
+            Take::Taken => return,
+            Take::Busy { .. } | Take::Lost { .. } => backoff.snooze(),
         }
-        backoff.snooze();
     }
     unreachable!()
 }

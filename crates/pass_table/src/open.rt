@@ -5,9 +5,10 @@ ghost use Rattle.core_state.specs.View.{blank_view};
 ghost use Rattle.core_state.specs.declared.view.Role.TheVariants.{Pass as PassRole};
 ghost use Rattle.pass_table.specs.Opened.{IsFresh, AreAll, IsLast, IsFaultOf};
 
+use crate::lock_set::LockSet;
 use crate::opened::OpenFault;
 use crate::opening;
-use crate::pass::{MAX_LOCKS, Pass};
+use crate::pass::Pass;
 use crate::rule::Seat;
 use crate::seats::Open;
 use crate::world::World;
@@ -119,7 +120,8 @@ impl Pass {
         Pass {
             seat,
             number,
-            modes: [None; MAX_LOCKS],
+            held: LockSet::none(),
+            written: LockSet::none(),
             walks: false,
         }
     }

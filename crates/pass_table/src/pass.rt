@@ -1,13 +1,10 @@
 //! What a caller of a world is.
 ghost use Rattle.std.specs.Prelude.{◌≡◌, ◌<◌};
 ghost use Rattle.core_state.specs.View.{IsPass};
-ghost use Rattle.pass_table.specs.Holding.{AreModes};
+ghost use Rattle.pass_table.specs.Holding.{AreHeld};
 
+use crate::lock_set::LockSet;
 use crate::rule::Seat;
-use core_state::Mode;
-
-/// The most locks of a world: 64 stripes, the lock of the list of free indexes and that of the pool of batch nodes.
-pub(crate) const MAX_LOCKS: usize = 66;
 
 /// One of the callers of a world, who acts by single steps on its words.
 ///
@@ -17,11 +14,13 @@ pub(crate) const MAX_LOCKS: usize = 66;
 pub struct Pass {
     pub(crate) seat: Seat,
     pub(crate) number: u32,
-    /// How it holds each lock.
-    pub(crate) modes: [Option<Mode>; MAX_LOCKS],
+    /// The locks that it holds.
+    pub(crate) held: LockSet,
+    /// The locks that it took to write when it took them last.
+    pub(crate) written: LockSet,
     pub(crate) walks: bool,
     ghost few: { number < 32 },
     ghost numbered: { IsPass seat.me.0 number },
-    ghost holds: { AreModes modes seat.me.0.locks },
+    ghost holds: { AreHeld held written seat.me.0.locks },
     ghost walking: { walks ≡ seat.me.0.walk.is_on },
 }

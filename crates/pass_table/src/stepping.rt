@@ -55,6 +55,37 @@ impl Pass {
         step::store::<K>(&world.table.shared, &mut self.seat, place, value);
     }
 
+    /// A compare and exchange of a word, of a kind that leaves the locks of the pass as they are. The error is the word
+    /// that was found.
+    #[inline(always)]
+    pub(crate) fn exchange<K: StillKind>(
+        &mut self,
+        world: &World,
+        name: Name,
+        expected: u64,
+        new: u64,
+    ) -> Result<(), u64>
+        requires of { IsOf world.now self.old }
+        requires named { IsName world.now.map name }
+        requires exchanges { K.kind.operation ≡ compare_exchange }
+        requires asks { K.asks (view_of self.old) name expected new }
+        ensures of { IsOf world.now self.new }
+        ensures step { MatchResult result (λ _. Stepped K.asks K.kind (view_of self.old) name expected new expected (view_of self.new)) (λ found. (found ≢ expected) × Stepped K.asks K.kind (view_of self.old) name expected new found (view_of self.new)) }
+    {
+        let place = world.map.place(name);
+        let found = step::compare_exchange::<K>(
+            &world.table.shared,
+            &mut self.seat,
+            place,
+            expected,
+            new,
+        );
+        if found != expected {
+            return Err(found);
+        }
+        Ok(())
+    }
+
     /// A compare and exchange of a lock's word, which takes the lock where it finds the word expected.
     #[inline(always)]
     pub(crate) fn take<K: Kind>(
@@ -73,7 +104,6 @@ impl Pass {
         ensures step { MatchResult result (λ _. Stepped K.asks (take mode) (view_of self.old) (Lock lock) expected new expected (view_of self.new)) (λ found. (found ≢ expected) × Stepped K.asks (take mode) (view_of self.old) (Lock lock) expected new found (view_of self.new)) }
     {
         let place = world.map.place(Name::Lock(lock));
-        let index = world.lock_index(lock);
         let found = step::compare_exchange::<K>(
             &world.table.shared,
             &mut self.seat,
@@ -84,7 +114,11 @@ impl Pass {
         if found != expected {
             return Err(found);
         }
-        self.modes[index] = Some(mode);
+        self.held.insert(lock);
+        match mode {
+            Mode::Read => self.written.remove(lock),
+            Mode::Write => self.written.insert(lock),
+        }
         Ok(())
     }
 
@@ -97,27 +131,30 @@ impl Pass {
         ensures of { IsOf world.now self.new }
         ensures step { LetGo (view_of self.old) lock result (view_of self.new) }
     {
-        let index = world.lock_index(lock);
         let place = world.map.place(Name::Lock(lock));
-        let summand = self.taken_away(index);
+        let summand = self.taken_away(lock);
         let found = step::fetch_add::<Release>(&world.table.shared, &mut self.seat, place, summand);
-        self.modes[index] = None;
+        self.held.remove(lock);
         found
     }
 
     /// What is added to a lock's word so that the own bit goes: 2^64 less the bit.
-    fn taken_away(&self, lock: usize) -> u64
+    #[inline(always)]
+    fn taken_away(&self, lock: u32) -> u64
         requires lock { lock < 66 }
         requires holds { (mode : Mode) × Holds (view_of self.now) lock mode }
         ensures { (mode : Mode) × Holds (view_of self.now) lock mode × (result ≡ 2 ^ 64 - bit_of self.now.number mode) }
     {
-        match self.modes[lock] {
-            Some(mode) => u64::MAX - self.own_bit(mode) + 1,
-            None => unreachable!(),
-        }
+        let mode = if self.written.has(lock) {
+            Mode::Write
+        } else {
+            Mode::Read
+        };
+        u64::MAX - self.own_bit(mode) + 1
     }
 
     /// The bit of the pass in the word of a lock that it holds so.
+    #[inline(always)]
     pub(crate) fn own_bit(&self, mode: Mode) -> u64
         ensures value { result ≡ bit_of self.now.number mode }
         ensures some { 0 < result }
@@ -127,15 +164,5 @@ impl Pass {
             Mode::Read => 1u64 << self.number,
             Mode::Write => 1u64 << (32 + self.number),
         }
-    }
-}
-
-impl World {
-    /// A lock's number as an index.
-    fn lock_index(&self, lock: u32) -> usize
-        requires { IsName self.now.map (Lock lock) }
-        ensures { (result ≡ lock) × (result < 66) }
-    {
-        lock as usize
     }
 }

@@ -2,6 +2,7 @@
 ghost use Rattle.std.specs.Prelude.{◌≢◌, ◌≡◌, ℕ, MatchResult};
 ghost use Rattle.word_map.specs.declared.name.Name.TheVariants.{Lock};
 ghost use Rattle.word_map.specs.Names.{IsName};
+ghost use Rattle.core_state.specs.Looking.{MayLook, look};
 ghost use Rattle.core_state.specs.Locking.{MayLoadLock, load_lock, MayRead, take_read, MayWrite, take_write};
 ghost use Rattle.pass_table.specs.Stepping.{Stepped};
 ghost use Rattle.pass_table.specs.Holding.{MayLetGo, LetGo};
@@ -35,6 +36,17 @@ fn lock_of(name: Name) -> u32
         Name::Lock(lock) => lock,
         _ => unreachable!(),
     }
+}
+
+/// Kind 4, look: a load of any word.
+#[inline(always)]
+pub fn step_4(world: &World, pass: &mut Pass, name: Name) -> u64
+    requires of { IsOf world.now pass.old }
+    requires named { IsName world.now.map name }
+    ensures of { IsOf world.now pass.new }
+    ensures step { Stepped MayLook look (view_of pass.old) name 0 0 result (view_of pass.new) }
+{
+    pass.load::<Look>(world, name)
 }
 
 /// Kind 5, load a lock word.

@@ -1,11 +1,13 @@
 //! The typed calls on lists of free places, numbered as in docs/steps.md. Each is exactly one step, under the lock of
 //! its list.
 ghost use Rattle.word_map.specs.Names.{IsName};
-ghost use Rattle.core_state.specs.Lists.{MayLoadList, load_list, MayStoreLink, store_link, MayStoreHead, store_head};
-ghost use Rattle.pass_table.specs.Stepping.{Stepped, Stored};
+ghost use Rattle.core_state.specs.Lists.{MayLoadList, load_list};
+ghost use Rattle.pass_table.specs.Stepping.{Stepped};
+ghost use Rattle.pass_table.specs.Numbered.{MayLink, Linked, MayHead, Headed};
 ghost use Rattle.pass_table.specs.Passes.{view_of, IsOf};
 
 use crate::kinds::{LoadList, StoreHead, StoreLink};
+use crate::kinds_batches::{StorePoolCount, StorePoolHead, StorePoolLink};
 use crate::pass::Pass;
 use crate::stepping::StillKind;
 use crate::world::World;
@@ -29,6 +31,24 @@ impl StillKind for StoreHead {
     ghost still = { λ view name found first second. (refl, refl) };
 }
 
+impl StillKind for StorePoolLink {
+    ghost use Rattle.std.proofs.Common.{refl};
+
+    ghost still = { λ view name found first second. (refl, refl) };
+}
+
+impl StillKind for StorePoolHead {
+    ghost use Rattle.core_batch.proofs.LocksStay.{pool_head-still};
+
+    ghost still = { pool_head-still };
+}
+
+impl StillKind for StorePoolCount {
+    ghost use Rattle.std.proofs.Common.{refl};
+
+    ghost still = { λ view name found first second. (refl, refl) };
+}
+
 /// Kind 9, load a word of a list.
 #[inline(always)]
 pub fn step_9(world: &World, pass: &mut Pass, name: Name) -> u64
@@ -41,27 +61,37 @@ pub fn step_9(world: &World, pass: &mut Pass, name: Name) -> u64
     pass.load::<LoadList>(world, name)
 }
 
-/// Kind 10, store the link of an index that is put in front of the list of free ones: it becomes the head.
+/// Kind 10, store the link of an index or of a node that is put in front of its list: it becomes the head.
 #[inline(always)]
 pub fn step_10(world: &World, pass: &mut Pass, name: Name, value: u64)
     requires of { IsOf world.now pass.old }
     requires named { IsName world.now.map name }
-    requires asks { MayStoreLink (view_of pass.old) name value 0 }
+    requires asks { MayLink (view_of pass.old) name value }
     ensures of { IsOf world.now pass.new }
-    ensures step { Stored MayStoreLink store_link (view_of pass.old) name value (view_of pass.new) }
+    ensures step { Linked (view_of pass.old) name value (view_of pass.new) }
 {
-    pass.store::<StoreLink>(world, name, value);
+    match name {
+        Name::SlotNext(_) => pass.store::<StoreLink>(world, name, value),
+        Name::PoolNext(_) => pass.store::<StorePoolLink>(world, name, value),
+        _ => unreachable!(),
+    }
 }
 
-/// Kind 11, store the head of the list of free indexes: the link of the first one, which is taken off for a body that is
-/// to be created, or 1 more than the index of a live body, which is put in front and is to be destroyed.
+/// Kind 11, store the head of a list, or the number of free nodes. A head is the link of the first element, which is
+/// taken off: an index for a body that is to be created, a node for the newest batch. Or it is 1 more than an element
+/// that is put in front: the index of a live body, which is to be destroyed, or a node that the pass is to give back.
 #[inline(always)]
 pub fn step_11(world: &World, pass: &mut Pass, name: Name, value: u64)
     requires of { IsOf world.now pass.old }
     requires named { IsName world.now.map name }
-    requires asks { MayStoreHead (view_of pass.old) name value 0 }
+    requires asks { MayHead (view_of pass.old) name value }
     ensures of { IsOf world.now pass.new }
-    ensures step { Stored MayStoreHead store_head (view_of pass.old) name value (view_of pass.new) }
+    ensures step { Headed (view_of pass.old) name value (view_of pass.new) }
 {
-    pass.store::<StoreHead>(world, name, value);
+    match name {
+        Name::SlotHead => pass.store::<StoreHead>(world, name, value),
+        Name::PoolHead => pass.store::<StorePoolHead>(world, name, value),
+        Name::PoolFree => pass.store::<StorePoolCount>(world, name, value),
+        _ => unreachable!(),
+    }
 }

@@ -54,10 +54,38 @@ impl BareLoad {
 }
 
 impl Work for BareLoad {
+    #[inline(always)]
     fn round(&mut self, lock: u32) -> u64 {
         let bare = &mut self.bare;
         let table = &bare.table;
         table.shared.load::<Anything>(&mut bare.seat, lock as usize)
+    }
+}
+
+/// A store of a small number.
+#[derive(Drop)]
+pub(crate) struct BareStore {
+    bare: Bare,
+}
+
+impl BareStore {
+    /// `None` is want of memory.
+    pub(crate) fn open(alloc: Global) -> Option<BareStore> {
+        Some(BareStore {
+            bare: Bare::open(alloc, 0)?,
+        })
+    }
+}
+
+impl Work for BareStore {
+    #[inline(always)]
+    fn round(&mut self, lock: u32) -> u64 {
+        let bare = &mut self.bare;
+        let table = &bare.table;
+        table
+            .shared
+            .store::<Anything>(&mut bare.seat, 0, lock as u64);
+        lock as u64
     }
 }
 
@@ -77,6 +105,7 @@ impl BarePair {
 }
 
 impl Work for BarePair {
+    #[inline(always)]
     fn round(&mut self, lock: u32) -> u64 {
         let bare = &mut self.bare;
         let table = &bare.table;
@@ -87,5 +116,41 @@ impl Work for BarePair {
             return found;
         }
         words.fetch_add::<Anything>(&mut bare.seat, place, u64::MAX - BIT + 1)
+    }
+}
+
+/// A load, where the word is 0 a compare and exchange of 0 for a bit, and where that found 0 a fetch-add that takes the
+/// bit away.
+#[derive(Drop)]
+pub(crate) struct BareTry {
+    bare: Bare,
+}
+
+impl BareTry {
+    /// `None` is want of memory.
+    pub(crate) fn open(alloc: Global) -> Option<BareTry> {
+        Some(BareTry {
+            bare: Bare::open(alloc, 0)?,
+        })
+    }
+}
+
+impl Work for BareTry {
+    #[inline(always)]
+    fn round(&mut self, lock: u32) -> u64 {
+        let bare = &mut self.bare;
+        let table = &bare.table;
+        let words = &table.shared;
+        let place = lock as usize;
+        let loaded = words.load::<Anything>(&mut bare.seat, place);
+        if loaded != 0 {
+            return 0;
+        }
+        let found = words.compare_exchange::<Anything>(&mut bare.seat, place, 0, BIT);
+        if found != 0 {
+            return 0;
+        }
+        words.fetch_add::<Anything>(&mut bare.seat, place, u64::MAX - BIT + 1);
+        1
     }
 }

@@ -5,14 +5,16 @@
 #![tactic(auto)]
 
 mod bare;
+mod storing;
 mod typed;
 mod work;
 
-use bare::{BareLoad, BarePair};
+use bare::{BareLoad, BarePair, BareStore, BareTry};
 use std::io::Print;
 use std::time::{Clock, Instant};
 use std::{env, io};
-use typed::{TypedLoad, TypedPair};
+use storing::TypedStore;
+use typed::{TypedLoad, TypedPair, TypedTry};
 use work::{ROUNDS, Work, rounds};
 
 /// How many runs each side makes. The least counts.
@@ -26,11 +28,11 @@ struct Run {
 }
 
 /// One run, timed.
-fn measure<R: Clock, W: Work>(rt: &R, work: &mut W) -> io::Result<Run> {
+fn measure<R: Clock, W: Work + Drop>(rt: &R, work: W) -> io::Result<(Run, W)> {
     let start = Instant::now(rt)?;
-    let found = rounds(work);
+    let (found, work) = rounds(work);
     let nanos = start.elapsed(rt)?.as_nanos();
-    Ok(Run { found, nanos })
+    Ok((Run { found, nanos }, work))
 }
 
 /// The quicker of two runs.
@@ -61,18 +63,22 @@ fn report<R: Print>(rt: &R, name: &str, timed: bool, typed: Run, bare: Run) -> i
 }
 
 /// Both kinds of work in turn, several times.
-fn compare<R: Clock + Print, T: Work, B: Work>(
+fn compare<R: Clock + Print, T: Work + Drop, B: Work + Drop>(
     rt: &R,
     name: &str,
     timed: bool,
-    typed: &mut T,
-    bare: &mut B,
+    typed: T,
+    bare: B,
 ) -> io::Result<()> {
-    let mut best_typed = measure(rt, typed)?;
-    let mut best_bare = measure(rt, bare)?;
+    let (mut best_typed, mut typed) = measure(rt, typed)?;
+    let (mut best_bare, mut bare) = measure(rt, bare)?;
     for _ in 1..RUNS {
-        best_typed = quicker(best_typed, measure(rt, typed)?);
-        best_bare = quicker(best_bare, measure(rt, bare)?);
+        let (run_typed, next_typed) = measure(rt, typed)?;
+        let (run_bare, next_bare) = measure(rt, bare)?;
+        best_typed = quicker(best_typed, run_typed);
+        best_bare = quicker(best_bare, run_bare);
+        typed = next_typed;
+        bare = next_bare;
     }
     report(rt, name, timed, best_typed, best_bare)
 }
@@ -82,11 +88,17 @@ fn main(rt: HostRuntime) -> io::Result<()> {
     let _program = words.next();
     let timed = words.next().is_some_and(|word| word.as_str() == "time");
     let alloc = rt.alloc();
-    if let (Some(mut typed), Some(mut bare)) = (TypedLoad::open(alloc), BareLoad::open(alloc)) {
-        compare(&rt, "loads", timed, &mut typed, &mut bare)?;
+    if let (Some(typed), Some(bare)) = (TypedLoad::open(alloc), BareLoad::open(alloc)) {
+        compare(&rt, "loads", timed, typed, bare)?;
     }
-    if let (Some(mut typed), Some(mut bare)) = (TypedPair::open(alloc), BarePair::open(alloc)) {
-        compare(&rt, "takes and releases", timed, &mut typed, &mut bare)?;
+    if let (Some(typed), Some(bare)) = (TypedStore::open(alloc), BareStore::open(alloc)) {
+        compare(&rt, "stores", timed, typed, bare)?;
+    }
+    if let (Some(typed), Some(bare)) = (TypedPair::open(alloc), BarePair::open(alloc)) {
+        compare(&rt, "takes and releases", timed, typed, bare)?;
+    }
+    if let (Some(typed), Some(bare)) = (TypedTry::open(alloc), BareTry::open(alloc)) {
+        compare(&rt, "tries and releases", timed, typed, bare)?;
     }
     Ok(())
 }

@@ -6,7 +6,7 @@ ghost use Rattle.pass_table.specs.Opened.{IsFresh};
 ghost use Rattle.pass_table.specs.Passes.{view_of, IsOf};
 
 use crate::work::Work;
-use pass_table::{Pass, Take, World, open_world, step_5, step_7, step_8, try_take};
+use pass_table::{Pass, Take, World, open_world, release, step_5, step_7, step_8, try_take};
 use std::alloc::Global;
 use word_map::{Config, Name};
 
@@ -19,12 +19,11 @@ const SIZES: Config = Config {
     passes: 2,
 };
 
-/// A world and its first pass. `None` is want of memory.
-#[tactic(auto, using(crate::proofs::Pairs::first_fresh))]
-fn open(alloc: Global) -> Option<(World, Pass)>
+/// A world of these sizes and its first pass. `None` is want of memory.
+pub(crate) fn open(alloc: Global, sizes: Config) -> Option<(World, Pass)>
     ensures { IfSome result (λ opened. IsFresh opened.0 0 opened.1) }
 {
-    let Ok((world, mut list)) = open_world(alloc, SIZES) else {
+    let Ok((world, mut list)) = open_world(alloc, sizes) else {
         return None;
     };
     let pass = list.next()?;
@@ -42,7 +41,7 @@ pub(crate) struct TypedLoad {
 impl TypedLoad {
     /// `None` is want of memory.
     pub(crate) fn open(alloc: Global) -> Option<TypedLoad> {
-        let (world, mut pass) = open(alloc)?;
+        let (world, mut pass) = open(alloc, SIZES)?;
         if try_take(&world, &mut pass, 1, true) != Take::Taken {
             return None;
         }
@@ -51,6 +50,7 @@ impl TypedLoad {
 }
 
 impl Work for TypedLoad {
+    #[inline(always)]
     fn round(&mut self, lock: u32) -> u64 {
         step_5(&self.world, &mut self.pass, Name::Lock(lock))
     }
@@ -71,7 +71,7 @@ pub(crate) struct TypedPair {
 impl TypedPair {
     /// `None` is want of memory.
     pub(crate) fn open(alloc: Global) -> Option<TypedPair> {
-        let (world, pass) = open(alloc)?;
+        let (world, pass) = open(alloc, SIZES)?;
         let number = pass.number();
         if number >= 32 {
             return None;
@@ -85,6 +85,7 @@ impl TypedPair {
 }
 
 /// Takes a lock to write that the pass does not hold, and lets it go. Answers the word found last.
+#[inline(always)]
 fn pair(world: &World, pass: &mut Pass, number: u32, lock: u32) -> u64
     requires of { IsOf world.now pass.old }
     requires rest { IsAtRest (view_of pass.old) }
@@ -103,7 +104,50 @@ fn pair(world: &World, pass: &mut Pass, number: u32, lock: u32) -> u64
 }
 
 impl Work for TypedPair {
+    #[inline(always)]
     fn round(&mut self, lock: u32) -> u64 {
         pair(&self.world, &mut self.pass, self.number, lock)
+    }
+}
+
+/// Trying to take a lock to write, by one load and one exchange, and where it was taken letting it go.
+#[derive(Drop)]
+pub(crate) struct TypedTry {
+    world: World,
+    pass: Pass,
+    ghost of: { IsOf world pass },
+    ghost rest: { IsAtRest (view_of pass) },
+}
+
+impl TypedTry {
+    /// `None` is want of memory.
+    pub(crate) fn open(alloc: Global) -> Option<TypedTry> {
+        let (world, pass) = open(alloc, SIZES)?;
+        Some(TypedTry { world, pass })
+    }
+}
+
+/// Tries to take a lock to write that the pass does not hold, and lets it go. Answers 1 where it was taken.
+#[inline(always)]
+fn tried_pair(world: &World, pass: &mut Pass, lock: u32) -> u64
+    requires of { IsOf world.now pass.old }
+    requires rest { IsAtRest (view_of pass.old) }
+    requires lock { lock < 2 }
+    ensures of { IsOf world.now pass.new }
+    ensures rest { IsAtRest (view_of pass.new) }
+{
+    match try_take(world, pass, lock, true) {
+        Take::Taken => {
+            release(world, pass, lock);
+            1
+        }
+        _ => 0,
+    }
+}
+
+impl Work for TypedTry {
+    #[inline(always)]
+    fn round(&mut self, lock: u32) -> u64 {
+        tried_pair(&self.world, &mut self.pass, lock)
     }
 }

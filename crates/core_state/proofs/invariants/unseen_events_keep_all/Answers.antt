@@ -2,7 +2,8 @@ use Rattle.core_state.specs.Looking.{MayLook, look}
 use Rattle.core_state.specs.Locking.{MayLoadLock, load_lock}
 use Rattle.core_state.specs.Lists.{MayLoadList, load_list}
 use Rattle.core_state.specs.Lives.{MayLoadBody, load_body}
-use Rattle.core_state.proofs.Keeping.{Invariants-unseen, visits-unseen, joins-unseen, load-unseen, look-plain, load_lock-plain, load_list-plain, load_body-plain}
+use Rattle.core_state.specs.Batches.{MayLoadSlot, load_slot}
+use Rattle.core_state.proofs.Keeping.{Invariants-unseen, visits-unseen, joins-unseen, load-unseen, look-plain, load_lock-plain, load_list-plain, load_body-plain, load_slot-plain}
 use Rattle.core_state.proofs.invariants.unseen_events_keep_all.Goals as goal
 
 pub returns-clause-unseen : goal.returns-clause-unseen
@@ -25,3 +26,6 @@ returns-clause-lists c = λ before after steps. Invariants-unseen before after (
 
 pub returns-clause-bodies : goal.returns-clause-bodies
 returns-clause-bodies c = λ before after steps. Invariants-unseen before after (load-unseen MayLoadBody load_body before after load_body-plain steps)
+
+pub returns-clause-slots : goal.returns-clause-slots
+returns-clause-slots c = λ before after steps. Invariants-unseen before after (load-unseen MayLoadSlot load_slot before after load_slot-plain steps)

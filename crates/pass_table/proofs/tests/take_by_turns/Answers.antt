@@ -4,4 +4,4 @@ use Rattle.pass_table.proofs.tests.take_by_turns.Goals as goal
 
 pub returns-clause-left : goal.returns-clause-left
 returns-clause-left g c =
-    c.drive.ensures.answers (taking_of c.args.lock c.args.mode) (view_of c.args.pass.now) c.new-taking.ensures.under_way
+    (c.drive.ensures.answers (taking_of c.args.lock c.args.mode) (view_of c.args.pass.now) c.new-taking.ensures.under_way).left

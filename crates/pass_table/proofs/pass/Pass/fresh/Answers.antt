@@ -1,8 +1,8 @@
 use Rattle.std.proofs.Common.{ap, sym, subst, arith}
 use Rattle.core_state.specs.declared.view.View.{View}
 use Rattle.core_state.specs.View.{number_of}
-use Rattle.pass_table.specs.Holding.{AreModes}
-use Rattle.pass_table.proofs.Ruling.{fresh-modes}
+use Rattle.pass_table.specs.Holding.{AreHeld}
+use Rattle.pass_table.proofs.Ruling.{fresh-held}
 use Rattle.pass_table.proofs.pass.Pass.fresh.Goals as goal
 
 pub invariant_of-result-clause-few : goal.invariant_of-result-clause-few
@@ -12,7 +12,7 @@ pub invariant_of-result-clause-numbered : goal.invariant_of-result-clause-number
 invariant_of-result-clause-numbered c = ap (λ (v : View). number_of v) c.requires.view
 
 pub invariant_of-result-clause-holds : goal.invariant_of-result-clause-holds
-invariant_of-result-clause-holds c = subst (λ (v : View). AreModes _ v.locks) (sym c.requires.view) fresh-modes
+invariant_of-result-clause-holds c = subst (λ (v : View). AreHeld c.none.result c.none-2.result v.locks) (sym c.requires.view) (fresh-held c.none.result c.none-2.result c.none.ensures)
 
 pub invariant_of-result-clause-walking : goal.invariant_of-result-clause-walking
 invariant_of-result-clause-walking c = ap (λ (v : View). v.walk.is_on) (sym c.requires.view)

@@ -1,8 +1,7 @@
-use Rattle.std.proofs.Common.{ℕ, None, set, refl, sym, ◌∙◌, subst, arith}
+use Rattle.std.proofs.Common.{refl, sym, ◌∙◌}
 use Rattle.word_map.specs.declared.name.Name.TheVariants.{Lock}
 use Rattle.core_state.specs.Locking.{release}
-use Rattle.pass_table.specs.Holding.{AreModes}
-use Rattle.pass_table.proofs.Leaving.{stepped-named, modes-let_go, let_go-walk}
+use Rattle.pass_table.proofs.Leaving.{stepped-named, held-let_go, let_go-walk}
 use Rattle.pass_table.proofs.pass.Pass.let_go.Goals as goal
 
 pub invariant_of-self-clause-holds : goal.invariant_of-self-clause-holds
@@ -10,12 +9,9 @@ invariant_of-self-clause-holds c =
     let a = c.args in
     let world = a.world.now in
     let pass = a.self.now in
-    let len = pass.holds.len in
-    let index = c.lock_index-index.ensures in
-    subst (λ (i : ℕ). AreModes (set pass.modes i None) c.fetch_add-found.new.seat.me.0.locks) (sym index.0)
-    (modes-let_go _ pass.seat.me.0 _ a.lock _ _ c.fetch_add-found.result
+    held-let_go _ pass.seat.me.0 _ a.lock _ _ c.fetch_add-found.result
     (stepped-named _ _ release _ _ _ world.map _ _ _ _ (Lock a.lock) world.sized.0 c.place-place.ensures.name refl c.fetch_add-found.ensures.step)
-    pass.modes (omega arith) pass.holds)
+    pass.held pass.written _ c.remove.ensures pass.holds
 
 pub invariant_of-self-clause-walking : goal.invariant_of-self-clause-walking
 invariant_of-self-clause-walking c =

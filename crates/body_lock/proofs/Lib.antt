@@ -1,0 +1,14 @@
+pub mod Going
+pub mod Standing
+pub mod Telling
+pub mod Phases
+pub mod Boxes
+pub mod Seeing
+pub mod Letting
+pub mod StateWord
+pub mod Locking
+pub mod Staying
+pub mod Stripes
+pub mod Guards
+pub mod TakingAll
+pub mod ReadingAll

@@ -1,0 +1,104 @@
+-- What a pass guards stands still while others act.
+use Rattle.std.proofs.Common.{◌≡◌, ℕ, ◌<◌, List, [], ◌∷◌, Some, None, refl, ap, sym, ◌∙◌, subst}
+use Rattle.std.proofs.lemmas.Option.{same_Some}
+use Rattle.body_ident.specs.Id.{Id}
+use Rattle.word_map.specs.declared.config.Config.{Config}
+use Rattle.word_map.specs.declared.name.Name.{Name}
+use Rattle.word_map.specs.declared.name.Name.TheVariants.{State, Phase, User}
+use Rattle.word_map.specs.Names.{stripe_of}
+use Rattle.scene_model.specs.declared.entry.Entry.TheVariants.{SetUser}
+use Rattle.core_state.specs.declared.item.Item.{Item}
+use Rattle.core_state.specs.declared.view.Mode.TheVariants.{Write}
+use Rattle.core_state.specs.declared.view.Mode.{Mode}
+use Rattle.core_state.specs.declared.view.View.{View}
+use Rattle.core_state.specs.View.{IsPass, mode_of, number_of}
+use Rattle.core_state.specs.Guards.{by_lock}
+use Rattle.core_state.specs.Lives.{IsOfBody, MayLoadBody, under_stripe, load_body, MaySetUser, set_user}
+use Rattle.core_state.specs.Batches.{MayLoadSlot, load_slot}
+use Rattle.core_state.specs.Quietly.{IsSteady, of_pass}
+use Rattle.pass_table.specs.Knowing.{KnowsMore}
+use Rattle.pass_table.specs.Stepping.{Stepped}
+use Rattle.pass_table.specs.Calls.{Adds, Advances}
+use Rattle.pass_table.proofs.Turning.{made-entry}
+use Rattle.pass_table.proofs.Calling.{Adds-refl, adds-more, adds-made, stored-steady, stepped-stores}
+use Rattle.body_lock.specs.Guarding.{IsGuarding, IsGuarded, IsAlone, guarded-steady, guarding-more}
+use Rattle.body_lock.specs.Seeing.{Loaded, user_item, HasSetUser}
+use Rattle.body_lock.proofs.Going.{stepped-current, stepped-loaded}
+
+module _ (number : ℕ) (id : Id) (mode : Mode) (view : View) (guarding : IsGuarding number id mode view) where
+  -- its phase word, which the stripe guards
+  pub phase-steady : IsSteady view (Phase id.index)
+  phase-steady = of_pass (by_lock (stripe_of view.config id.index) mode guarding.stripe refl)
+
+  -- what others did added nothing
+  pub guarding-adds : (next : View) → KnowsMore view next → Adds view next []
+  guarding-adds next more = adds-more view view next [] refl (Adds-refl view number guarding.pass) more
+
+  -- a word of the body may be loaded
+  pub may-load : (name : Name) → IsOfBody id.index name → MayLoadBody view name 0 0
+  may-load name of_body = under_stripe id.index mode of_body guarding.stripe
+
+pub alone-more : (number : ℕ) (id : Id) (mode : Mode) (view next : View) → IsAlone number id mode view → KnowsMore view next → IsAlone number id mode next
+alone-more number id mode view next alone more = record {
+  guarding = guarding-more number id mode view alone.guarding next more;
+  only = λ lock other.
+      ap (λ (v : View). mode_of v.locks lock) more.rest
+      ∙ alone.only lock (λ same. other (same ∙ ap (λ (v : View). stripe_of v.config id.index) (sym more.rest)));
+}
+
+pub guarded-more : (id : Id) (view next : View) → IsGuarded id view → KnowsMore view next → IsGuarded id next
+guarded-more id view next guarded more = (guarded.0, guarded.1, guarding-more guarded.0 id guarded.1 view guarded.2 next more)
+
+-- what a load of a word tells
+pub loaded-body : (view next : View) (name : Name) (found : ℕ) → Stepped MayLoadBody load_body view name 0 0 found next → Loaded view next name found
+loaded-body view next name found stepped = stepped-loaded MayLoadBody load_body view next name 0 0 found stepped (λ v n f a b. refl) (λ word operand. refl)
+
+pub loaded-slot : (view next : View) (name : Name) (found : ℕ) → Stepped MayLoadSlot load_slot view name 0 0 found next → Loaded view next name found
+loaded-slot view next name found stepped = stepped-loaded MayLoadSlot load_slot view next name 0 0 found stepped (λ v n f a b. refl) (λ word operand. refl)
+
+-- what giving the body another user number tells
+pub user-set : (view next : View) (found at index value user : ℕ) → at ≡ index → value ≡ user → Stepped MaySetUser set_user view (User at) value 0 found next → (number : ℕ) → IsPass view number
+    → HasSetUser view next number index user
+user-set view next found at index value user same_index same_user made number pass =
+    let stepped : Stepped MaySetUser set_user view (User index) user 0 found next =
+    subst (λ (i : ℕ). Stepped MaySetUser set_user view (User i) user 0 found next) same_index (subst (λ (n : ℕ). Stepped MaySetUser set_user view (User at) n 0 found next) same_user made)
+    in
+    let same : stepped.number ≡ number = same_Some stepped.number number (sym stepped.allowed.pass ∙ pass) in
+    let item : Item = user_item stepped.number index user in
+    record {
+      stored = subst (λ (n : ℕ). Advances view next (user_item n index user ∷ [])) same (stepped-stores MaySetUser set_user view next (User index) user 0 found stepped item refl refl);
+      made = made-entry MaySetUser set_user view next (User index) user 0 found stepped number user pass refl;
+      now = stepped-current MaySetUser set_user view next (User index) user 0 found stepped;
+      rest = stepped.leaves ∙ ap (λ (l : List Item). record view { known = l; joined = None }) (sym (ap (λ (v : View). v.known) stepped.leaves));
+    }
+
+-- what is guarded is guarded after it
+module _ (number : ℕ) (id : Id) (mode : Mode) (view next : View) (pass index user : ℕ) (old : IsGuarding number id mode view) (set : HasSetUser view next pass index user) where
+  user-sizes : next.config ≡ view.config
+  user-sizes = ap (λ (v : View). v.config) set.rest
+
+  user-locks : (lock : ℕ) → mode_of next.locks lock ≡ mode_of view.locks lock
+  user-locks lock = ap (λ (v : View). mode_of v.locks lock) set.rest
+
+  pub user-guarding : IsGuarding number id mode next
+  user-guarding = record {
+    pass = ap (λ (v : View). number_of v) set.rest ∙ old.pass;
+    stripe = user-locks (stripe_of next.config id.index) ∙ (ap (λ (c : Config). mode_of view.locks (stripe_of c id.index)) user-sizes ∙ old.stripe);
+    below = subst (λ (c : Config). id.index < c.bodies) (sym user-sizes) old.below;
+    state =
+        stored-steady view next (user_item pass index user) set.stored user-sizes (State id.index) (λ e. absurd (cc)) (guarded-steady number id mode view old (State id.index) refl)
+        ∙ old.state;
+    done = ap (λ (v : View). v.call.task) set.rest ∙ old.done;
+  }
+
+  -- and the pass has added the new number
+  pub user-adds : Adds view next (SetUser index user ∷ [])
+  user-adds = adds-made view view next [] (Some (record { pass = pass; entry = SetUser index user })) refl (Adds-refl view number old.pass) set.made
+
+pub user-alone : (number : ℕ) (id : Id) (view next : View) (user : ℕ) → IsAlone number id Write view → HasSetUser view next number id.index user → IsAlone number id Write next
+user-alone number id view next user alone set = record {
+  guarding = user-guarding number id Write view next number id.index user alone.guarding set;
+  only = λ lock other.
+      ap (λ (v : View). mode_of v.locks lock) set.rest
+      ∙ alone.only lock (λ same. other (same ∙ ap (λ (v : View). stripe_of v.config id.index) (sym set.rest)));
+}

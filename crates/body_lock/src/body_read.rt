@@ -1,0 +1,63 @@
+//! The guard of a body that is locked to read.
+ghost use Rattle.std.specs.Prelude.{◌≡◌, []};
+ghost use Rattle.pass_table.specs.Knowing.{KnowsMore};
+ghost use Rattle.pass_table.specs.Calls.{Adds, AtPoint, RestsAgain};
+ghost use Rattle.pass_table.specs.Passes.{view_of, IsOf};
+ghost use Rattle.body_lock.specs.Guarding.{IsReading, IsCurrent};
+ghost use Rattle.body_lock.specs.Staying.{BodyStays};
+ghost use Rattle.body_lock.specs.Seeing.{IsSeenAt};
+
+use crate::viewing::read_body;
+use crate::words::unlock;
+use body_ident::BodyId;
+use pass_table::{Pass, World};
+use scene_model::BodyView;
+
+/// A body is locked to read: no other pass changes it until it is unlocked, but that a batch which holds it may bring it
+/// into the broad phase.
+///
+/// It is good for the pass that locked the body, and has to be unlocked.
+#[must_use]
+pub struct BodyRead {
+    pub(crate) number: u32,
+    pub(crate) id: BodyId,
+}
+
+impl BodyRead {
+    /// The number of the pass that locked the body.
+    pub fn pass_number(&self) -> u32
+        ensures { result ≡ self.now.number }
+    {
+        self.number
+    }
+
+    /// The body as it is at a point of the call. Another view shows the same but for the phase, where it was held.
+    pub fn view(&self, world: &World, pass: &mut Pass) -> BodyView
+        requires of { IsOf world.now pass.old }
+        requires good { IsReading self.now (view_of pass.old) }
+        ensures of { IsOf world.now pass.new }
+        ensures good { IsReading self.now (view_of pass.new) }
+        ensures now { IsCurrent (view_of pass.new) }
+        ensures more { KnowsMore (view_of pass.old) (view_of pass.new) }
+        ensures stays { BodyStays self.now.id.index (view_of pass.old) (view_of pass.new) }
+        ensures adds { Adds (view_of pass.old) (view_of pass.new) [] }
+        ensures seen { AtPoint (view_of pass.old) (view_of pass.new) (IsSeenAt (view_of pass.old).config (view_of pass.old).known self.now.id result) }
+    {
+        read_body(world, pass, self.id)
+    }
+
+    /// Lets the body go, in one step.
+    pub fn unlock(self, world: &World, pass: &mut Pass)
+        requires of { IsOf world.now pass.old }
+        requires good { IsReading self (view_of pass.old) }
+        ensures of { IsOf world.now pass.new }
+        ensures adds { Adds (view_of pass.old) (view_of pass.new) [] }
+        ensures rests { RestsAgain (view_of pass.old) (view_of pass.new) }
+    {
+        let BodyRead {
+            number: _number,
+            id,
+        } = self;
+        unlock(world, pass, id);
+    }
+}

@@ -1,0 +1,257 @@
+-- What each turn of a creation leaves.
+use Rattle.std.specs.Prelude.{slice_index}
+use Rattle.std.proofs.Common.{◌≡◌, ◌≢◌, ℕ, zero, suc, ◌+◌, ◌^◌, ◌<◌, ◌≤◌, List, [], None, Err, Result, inl, inr, refl, ap, sym, ◌∙◌, subst, arith}
+use Rattle.std.proofs.lemmas.Bool.{cases_lt}
+use Rattle.fixed_box.specs.declared.fix_box.FixBox.{FixBox}
+use Rattle.fixed_box.specs.FixBox.{words_of}
+use Rattle.fixed_box.proofs.Words.{on_axis_in_range, word_of-range}
+use Rattle.body_ident.specs.Id.{Id}
+use Rattle.scene_model.specs.declared.entry.Entry.{Entry}
+use Rattle.word_map.specs.declared.config.Config.{Config}
+use Rattle.word_map.specs.declared.name.Name.{Name}
+use Rattle.word_map.specs.declared.name.Name.TheVariants.{SlotHead, SlotNext, State, Layer, User, BoxWord}
+use Rattle.core_state.specs.declared.view.LockStep.{LockStep}
+use Rattle.core_state.specs.declared.view.Task.{Task}
+use Rattle.core_state.specs.declared.view.Task.TheVariants.{Nothing, Creating}
+use Rattle.core_state.specs.declared.view.View.{View}
+use Rattle.core_state.specs.View.{IsPass, known_word, number_in}
+use Rattle.core_state.specs.Event.{loads_list, stores_head, loads_body, stores_field}
+use Rattle.core_state.specs.Lists.{MayLoadList, load_list, MayStoreHead, store_head}
+use Rattle.core_state.specs.Lives.{MayLoadBody, load_body, IsCreating, IsFieldOf, MayStoreField, store_field}
+use Rattle.pass_table.specs.declared.turn.Turn.{Turn}
+use Rattle.pass_table.specs.declared.turn.Turn.TheVariants.{More}
+use Rattle.pass_table.specs.Stepping.{Stepped, Stored}
+use Rattle.pass_table.specs.Knowing.{KnowsMore}
+use Rattle.pass_table.specs.Turning.{AtMostOneStep, MadeBy}
+use Rattle.pass_table.specs.Holding.{IsAtRest}
+use Rattle.pass_table.specs.Calls.{StoresWord, IsCalling}
+use Rattle.pass_table.proofs.Knowing.{knows-more}
+use Rattle.pass_table.proofs.Turning.{one-step, made-by-step}
+use Rattle.pass_table.proofs.Calling.{point-now, loaded-word, stores-word, stored-made, word-now, word-beside, calling-role, calling-sizes, calling-more, calling-on, steady-more}
+use Rattle.free_list.specs.Heads.{LoadedHead, LoadedLink, IsDoing, TookOff}
+use Rattle.body_slots.specs.declared.answers.Full.{Full}
+use Rattle.body_slots.specs.declared.create_op.CreateStage.{CreateStage}
+use Rattle.body_slots.specs.declared.create_op.CreateStage.TheVariants.{Locked, First, Linked, Taken, Fields, Filled, Leaving}
+use Rattle.body_slots.specs.declared.create_op.CreateOp.{CreateOp}
+use Rattle.body_slots.specs.Answers.{IsFullAt}
+use Rattle.body_slots.specs.Creating.{field_name, field_values, field_value, HasFieldsOf, list_taken, IsTakenOff, AtCreate, IsBegun, stage_left, IsCreateTurn}
+use Rattle.body_slots.specs.Later.{list-held, listed-steady, created-steady, field_of}
+
+-- ---- turns
+
+-- a turn that made no entry and goes on to a stage
+pub went-on : (turn : Turn (Result Id Full)) (before new : CreateOp) (stage after : CreateStage) (view next : View) → turn ≡ More → new ≡ record before { stage = after; made = None } → before.stage ≡ stage
+    → AtMostOneStep view next → MadeBy view next None → stage_left after < stage_left stage
+    → ((first : CreateOp) (start : View) → IsBegun first start before.layer before.bounds before.user → AtCreate first start view stage → AtCreate first start next after)
+    → IsCreateTurn turn before new view next
+went-on turn before new stage after view next goes is at step made less keeps =
+    subst (λ (t : Turn (Result Id Full)). IsCreateTurn t before new view next) (sym goes)
+    (subst (λ (o : CreateOp). IsCreateTurn More before o view next) (sym is) (record {
+      step = step;
+      made = made;
+      turned = inl (subst (λ (s : CreateStage). stage_left after < stage_left s) (sym at) less);
+      keeps = λ first start making. (making.0, keeps first start making.0 (subst (AtCreate first start view) at making.1));
+      answered = λ first start making. tt;
+    }))
+
+-- ---- calls under way
+
+module _ (start view : View) (steps : List LockStep) (task : Task) (entries : List Entry) (calling : IsCalling start view steps task entries) where
+  pub calling-pass : IsPass view calling.adds.number
+  calling-pass = ap number_in (calling-role start view view steps task entries calling) ∙ calling.adds.pass
+
+-- what a begun task leaves
+pub doing-left : (view next : View) (task : Task) → IsDoing view next task → next ≡ record view { known = next.known; joined = next.joined; call = next.call }
+doing-left view next task doing =
+    doing.rest ∙ (λ i. record view { known = next.known; joined = sym (ap (λ (v : View). v.joined) doing.rest) i; call = sym (ap (λ (v : View). v.call) doing.rest) i })
+
+-- ---- the head
+
+pub head-step : (view next : View) (head : ℕ) → LoadedHead view next head → AtMostOneStep view next
+head-step view next head loaded = one-step MayLoadList load_list view next SlotHead 0 0 head loaded.step (λ before after steps. loads_list steps)
+
+pub head-made : (view next : View) (head : ℕ) → LoadedHead view next head → MadeBy view next None
+head-made view next head loaded = made-by-step MayLoadList load_list view next SlotHead 0 0 head loaded.step
+
+module _ (first : CreateOp) (start view next : View) (head : ℕ) (loaded : LoadedHead view next head) (at : AtCreate first start view Locked) where
+  head_calling : IsCalling start next (list_taken start.config) Nothing []
+  head_calling = calling-more start view next _ _ _ at loaded.more
+
+  head_sizes : next.config ≡ start.config
+  head_sizes = calling-sizes start next next _ _ _ head_calling
+
+  pub head-first : (index : ℕ) → head ≡ suc index → AtCreate first start next (First index)
+  head-first index names = (head_calling, subst (λ (c : Config). index < c.bodies) head_sizes (loaded.some index names).below, loaded.is ∙ names)
+
+  pub head-none : head ≡ 0 → AtCreate first start next (Leaving (Err (record { head = head })))
+  head-none none = (
+    [],
+    head_calling,
+    record {
+      adds = head_calling.adds;
+      at =
+          point-now start next [] (IsFullAt start.config head) head_calling.adds
+          (subst (λ (c : Config). IsFullAt c head next.known) head_sizes (record { zero = none; is = sym loaded.is; every = loaded.none none }));
+    },
+  )
+
+-- ---- the link, and the head's store
+
+pub link-step : (view next : View) (index link : ℕ) → LoadedLink view next index link → AtMostOneStep view next
+link-step view next index link loaded = one-step MayLoadList load_list view next (SlotNext index) 0 0 link loaded.step (λ before after steps. loads_list steps)
+
+pub link-made : (view next : View) (index link : ℕ) → LoadedLink view next index link → MadeBy view next None
+link-made view next index link loaded = made-by-step MayLoadList load_list view next (SlotNext index) 0 0 link loaded.step
+
+pub link-loaded : (first : CreateOp) (start view next : View) (index link : ℕ) → IsAtRest start → LoadedLink view next index link → AtCreate first start view (First index) → AtCreate first start next (Linked index link)
+link-loaded first start view next index link rest loaded at = (
+  calling-more start view next _ _ _ at.0 loaded.more,
+  at.1,
+  steady-more view next SlotHead loaded.more (listed-steady view SlotHead (list-held start view _ _ rest at.0) refl) ∙ at.2,
+  loaded.is,
+)
+
+pub took-step : (view next : View) (index link : ℕ) → TookOff view next index link → AtMostOneStep view next
+took-step view next index link took = one-step MayStoreHead store_head view next SlotHead link 0 took.step.0 took.step.1 (λ before after steps. stores_head steps)
+
+pub took-made : (view next : View) (number index link : ℕ) → IsPass view number → TookOff view next index link → MadeBy view next None
+took-made view next number index link pass took = stored-made MayStoreHead store_head view next SlotHead link refl took.step number pass
+
+pub took-index : (first : CreateOp) (start view next : View) (index link : ℕ) → TookOff view next index link → AtCreate first start view (Linked index link) → AtCreate first start next (Taken index)
+took-index first start view next index link took at = record {
+  calling =
+      calling-on start view next _ _ _ at.0 (Creating index) (took-made view next at.0.adds.number index link (calling-pass start view _ _ _ at.0) took)
+      (doing-left view next (Creating index) took.doing) (ap (λ (v : View). v.call.task) took.doing.rest);
+  below = at.1;
+}
+
+-- ---- the state
+
+module _ (view next : View) (index state : ℕ) (stepped : Stepped MayLoadBody load_body view (State index) 0 0 state next) where
+  pub state-step : AtMostOneStep view next
+  state-step = one-step MayLoadBody load_body view next (State index) 0 0 state stepped (λ before after steps. loads_body steps)
+
+  pub state-made : MadeBy view next None
+  state-made = made-by-step MayLoadBody load_body view next (State index) 0 0 state stepped
+
+  pub state-more : KnowsMore view next
+  state-more = knows-more MayLoadBody load_body view next (State index) 0 0 state stepped (λ v n f a b. refl) (λ word operand. refl)
+
+  pub state-is : known_word next (State index) ≡ state
+  state-is = loaded-word MayLoadBody load_body view next (State index) 0 0 state stepped (λ word operand. refl)
+
+  pub state-loaded : (first : CreateOp) (start : View) → AtCreate first start view (Taken index) → AtCreate first start next (Fields index state 0)
+  state-loaded first start at = (
+    record { calling = calling-more start view next _ _ _ at.calling state-more; below = at.below },
+    state-is,
+    omega arith,
+    λ number below. absurd (omega arith),
+  )
+
+-- ---- the words of the body
+
+-- sides of boxes are words of coordinates
+side-range : (bounds : FixBox) (side : ℕ) → side < 6 → (1 ≤ slice_index (words_of bounds) side) × (slice_index (words_of bounds) side ≤ 16777216)
+side-range bounds zero below = word_of-range _ (on_axis_in_range bounds.lo 0)
+side-range bounds (suc zero) below = word_of-range _ (on_axis_in_range bounds.lo 1)
+side-range bounds (suc (suc zero)) below = word_of-range _ (on_axis_in_range bounds.lo 2)
+side-range bounds (suc (suc (suc zero))) below = word_of-range _ (on_axis_in_range bounds.hi 0)
+side-range bounds (suc (suc (suc (suc zero)))) below = word_of-range _ (on_axis_in_range bounds.hi 1)
+side-range bounds (suc (suc (suc (suc (suc zero))))) below = word_of-range _ (on_axis_in_range bounds.hi 2)
+side-range bounds (suc (suc (suc (suc (suc (suc side)))))) below = absurd (omega arith)
+
+-- each value is one for its word
+is-field : (c : Config) (layer : ℕ) (bounds : FixBox) (user index number : ℕ) → layer < c.layers → user < 2 ^ 32 → number < 8
+    → IsFieldOf c index (field_name index number) (slice_index (field_values layer bounds user) number)
+is-field c layer bounds user index zero in_layers fits below = (refl, in_layers)
+is-field c layer bounds user index (suc zero) in_layers fits below = (refl, fits)
+is-field c layer bounds user index (suc (suc side)) in_layers fits below = let range = side-range bounds side (omega arith) in (refl, range.0, range.1)
+
+-- the pass has the index
+pub is-creating : (start view : View) (index : ℕ) → IsAtRest start → IsTakenOff start view index → IsCreating view index
+is-creating start view index rest taken = record { lock = list-held start view _ _ rest taken.calling; task = taken.calling.doing }
+
+pub may-field : (first operation : CreateOp) (start view : View) (index number : ℕ) → IsBegun first start operation.layer operation.bounds operation.user → IsTakenOff start view index → number < 8
+    → MayStoreField view (field_name index number) (field_value operation number) 0
+may-field first operation start view index number begun taken below = record {
+  index = index;
+  creating = is-creating start view index begun.rest taken;
+  field =
+      is-field view.config operation.layer operation.bounds operation.user index number
+      (subst (λ (c : Config). operation.layer < c.layers) (sym (calling-sizes start view view _ _ _ taken.calling)) (subst (λ (l : ℕ). l < start.config.layers) (sym begun.layer_as) begun.in_layers))
+      (subst (λ (u : ℕ). u < 2 ^ 32) (sym begun.user_as) begun.fits) below;
+}
+
+-- the number of a field
+abbrev field_number : Name → ℕ
+field_number (Layer i) = 0
+field_number (User i) = 1
+field_number (BoxWord i k) = suc (suc k)
+field_number _ = 0
+
+number-back : (index number : ℕ) → field_number (field_name index number) ≡ number
+number-back index zero = refl
+number-back index (suc zero) = refl
+number-back index (suc (suc side)) = refl
+
+no-state : (index number : ℕ) → field_name index number ≢ State index
+no-state index zero same = absurd cc
+no-state index (suc zero) same = absurd cc
+no-state index (suc (suc side)) same = absurd cc
+
+module _ (view next : View) (index number value : ℕ) (stored : Stored MayStoreField store_field view (field_name index number) value next) where
+  pub field-step : AtMostOneStep view next
+  field-step = one-step MayStoreField store_field view next (field_name index number) value 0 stored.0 stored.1 (λ before after steps. stores_field steps)
+
+  pub field-made : (own : ℕ) → IsPass view own → MadeBy view next None
+  field-made own pass = stored-made MayStoreField store_field view next (field_name index number) value refl stored own pass
+
+  field_left : next ≡ record view { known = next.known; joined = None }
+  field_left = stored.1.leaves ∙ (λ i. record view { known = sym (ap (λ (v : View). v.known) stored.1.leaves) i; joined = None })
+
+  field_word : StoresWord view next (field_name index number) value
+  field_word = stores-word MayStoreField store_field view next (field_name index number) value refl stored
+
+  module _ (first : CreateOp) (start : View) (state : ℕ) (at : AtCreate first start view (Fields index state number)) (is : value ≡ field_value first number) where
+    field_task : view.call.task ≡ Creating index
+    field_task = at.0.calling.doing
+
+    field_sizes : next.config ≡ view.config
+    field_sizes = ap (λ (v : View). v.config) field_left
+
+    pub field-taken : IsTakenOff start next index
+    field-taken = record {
+      calling =
+          calling-on start view next _ _ _ at.0.calling (Creating index) (field-made at.0.calling.adds.number (calling-pass start view _ _ _ at.0.calling))
+          (field_left ∙ (λ i. record view { known = next.known; joined = sym (ap (λ (v : View). v.joined) field_left) i; call = sym (ap (λ (v : View). v.call) field_left) i }))
+          (ap (λ (v : View). v.call.task) field_left ∙ field_task);
+      below = at.0.below;
+    }
+
+    pub field-state : known_word next (State index) ≡ state
+    field-state = word-beside view next (field_name index number) value field_word field_sizes (State index) (no-state index number) (created-steady view index (State index) field_task refl) ∙ at.1
+
+    pub fields-stored : HasFieldsOf first next index (suc number)
+    fields-stored other below =
+        elim (cases_lt other number) [
+          | inl before ↦
+              word-beside view next (field_name index number) value field_word field_sizes (field_name index other)
+              (λ same. let same_number = sym (number-back index number) ∙ (ap field_number same ∙ number-back index other) in absurd (omega arith))
+              (created-steady view index (field_name index other) field_task (field_of index other))
+              ∙ at.3 other before
+          | inr past ↦
+              let last : other ≡ number = omega arith in
+              subst (λ (n : ℕ). known_word next (field_name index n) ≡ field_value first n) (sym last) (word-now view next (field_name index number) value field_word field_sizes ∙ is)
+        ]
+
+    -- one more is stored
+    pub field-next : number + 1 < 8 → AtCreate first start next (Fields index state (number + 1))
+    field-next below = (field-taken, field-state, below, λ other inside. fields-stored other (omega arith))
+
+    -- or all of them
+    pub field-last : number + 1 ≡ 8 → AtCreate first start next (Filled index state)
+    field-last all = (field-taken, field-state, λ other inside. fields-stored other (omega arith))
+
+-- the values are those with which the creation was begun
+pub value-begun : (first operation : CreateOp) (start : View) (number : ℕ) → IsBegun first start operation.layer operation.bounds operation.user → field_value operation number ≡ field_value first number
+value-begun first operation start number begun = λ i. slice_index (field_values (begun.layer_as i) (begun.bounds_as i) (begun.user_as i)) number

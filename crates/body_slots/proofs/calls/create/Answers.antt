@@ -1,0 +1,21 @@
+use Rattle.std.specs.Prelude.{MatchResult, IfErr}
+use Rattle.std.proofs.Common.{Ok, Err, Result}
+use Rattle.body_ident.specs.Id.{Id}
+use Rattle.pass_table.specs.Passes.{view_of}
+use Rattle.body_slots.specs.declared.answers.Full.{Full}
+use Rattle.body_slots.proofs.calls.create.Goals as goal
+
+-- what is so of an answer either way is so of a refusal
+of_refusal : (P : Id → Type 0) (Q : Full → Type 0) (answer : Result Id Full) → MatchResult answer P Q → IfErr answer Q
+of_refusal P Q (Ok id) h = tt
+of_refusal P Q (Err refused) h = h
+
+pub returns-clause-ended : goal.returns-clause-ended
+returns-clause-ended g c =
+    let made = c.drive.ensures.answers c.new-creating.result (view_of c.args.pass.now) c.new-creating.ensures.under_way in
+    made.0
+
+pub returns-clause-full : goal.returns-clause-full
+returns-clause-full g c =
+    let made = c.drive.ensures.answers c.new-creating.result (view_of c.args.pass.now) c.new-creating.ensures.under_way in
+    of_refusal _ _ c.drive.result made.1

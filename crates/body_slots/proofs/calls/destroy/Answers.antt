@@ -1,0 +1,35 @@
+use Rattle.std.specs.Prelude.{MatchResult, IfErr, OnOk}
+use Rattle.std.proofs.Common.{Ok, Err, Result, subst}
+use Rattle.body_ident.specs.Id.{Id}
+use Rattle.pass_table.specs.Passes.{view_of}
+use Rattle.body_slots.specs.declared.answers.DestroyRefused.{DestroyRefused}
+use Rattle.body_slots.specs.Destroying.{IsDestroyAnswer}
+use Rattle.body_slots.proofs.calls.destroy.Goals as goal
+
+-- what is so of an answer either way is so of each
+of_done : (P : Type 0) (Q : DestroyRefused → Type 0) (answer : Result (Unit {0}) DestroyRefused) → MatchResult answer (λ _. P) Q → OnOk answer P
+of_done P Q (Ok done) h = h
+of_done P Q (Err refused) h = tt
+
+of_refusal : (P : Type 0) (Q : DestroyRefused → Type 0) (answer : Result (Unit {0}) DestroyRefused) → MatchResult answer (λ _. P) Q → IfErr answer Q
+of_refusal P Q (Ok done) h = tt
+of_refusal P Q (Err refused) h = h
+
+pub returns-clause-ended : goal.returns-clause-ended
+returns-clause-ended g c =
+    let made = c.drive.ensures.answers c.new-destroying.result (view_of c.args.pass.now) c.new-destroying.ensures.under_way in
+    made.0
+
+pub returns-clause-destroyed : goal.returns-clause-destroyed
+returns-clause-destroyed g c =
+    let view = view_of c.args.pass.now in
+    let next = view_of c.drive.new.pass in
+    let made = c.drive.ensures.answers c.new-destroying.result view c.new-destroying.ensures.under_way in
+    of_done _ _ c.drive.result (subst (λ (i : Id). IsDestroyAnswer i view next c.drive.result) c.new-destroying.ensures.begun made.1)
+
+pub returns-clause-refused : goal.returns-clause-refused
+returns-clause-refused g c =
+    let view = view_of c.args.pass.now in
+    let next = view_of c.drive.new.pass in
+    let made = c.drive.ensures.answers c.new-destroying.result view c.new-destroying.ensures.under_way in
+    of_refusal _ _ c.drive.result (subst (λ (i : Id). IsDestroyAnswer i view next c.drive.result) c.new-destroying.ensures.begun made.1)

@@ -1,0 +1,45 @@
+use Rattle.std.proofs.Common.{ℕ, ◌+◌, Err, sym, ◌∙◌, ap, subst, arith}
+use Rattle.body_ident.specs.Id.{Id}
+use Rattle.word_map.specs.declared.name.Name.TheVariants.{State}
+use Rattle.core_state.specs.declared.view.Mode.TheVariants.{Write}
+use Rattle.core_state.specs.Lives.{MayLoadBody, load_body, under_stripe}
+use Rattle.pass_table.specs.Stepping.{Stepped}
+use Rattle.pass_table.specs.Passes.{view_of}
+use Rattle.body_slots.specs.declared.answers.DestroyRefused.TheVariants.{Gone}
+use Rattle.body_slots.specs.declared.destroy_op.DestroyStage.TheVariants.{Held, Live, Leaving}
+use Rattle.body_slots.specs.Destroying.{AtDestroy}
+use Rattle.body_slots.specs.DestroyLater.{stripe-held}
+use Rattle.body_slots.proofs.DestroyTurns.{went-on, body-step, body-made, state-live, state-gone}
+use Rattle.body_slots.proofs.destroy_op.DestroyOp.load_state.Goals as goal
+
+pub step_15-state-requires-clause-asks : goal.step_15-state-requires-clause-asks
+step_15-state-requires-clause-asks c =
+    let view = view_of c.args.pass.now in
+    let under_way = c.requires.under_way in
+    let id = under_way.first.id in
+    let at = subst (AtDestroy id under_way.start view) c.requires.stage under_way.goes.2 in
+    under_stripe id.index Write (c.index.ensures.value ∙ ap (λ (i : Id). i.index) under_way.goes.0) (stripe-held id under_way.start view _ _ under_way.goes.1.rest at)
+
+pub returns-then-state-from-clause-turn : goal.returns-then-state-from-clause-turn
+returns-then-state-from-clause-turn c =
+    let view = view_of c.args.pass.now in
+    let next = view_of c.step_15-state.new.pass in
+    let state = c.step_15-state.result in
+    let stepped = c.step_15-state.ensures.step in
+    went-on c.go_on.result c.args.self.now c.go_on.new.self Held Live view next c.go_on.ensures.more c.go_on.ensures.stage c.requires.stage
+    (body-step view next (State c.index.result) state stepped) (body-made view next (State c.index.result) state stepped) (omega arith)
+    (λ id start same begun at.
+    state-live id start view next state (subst (λ (n : ℕ). Stepped MayLoadBody load_body view (State n) 0 0 state next) (c.index.ensures.value ∙ ap (λ (i : Id). i.index) same) stepped)
+    (c.if-state-from.true ∙ ap (λ (n : ℕ). 256 + n) (c.from.ensures ∙ (c.seq.ensures ∙ ap (λ (i : Id). i.seq) same))) at)
+
+pub returns-clause-turn : goal.returns-clause-turn
+returns-clause-turn c =
+    let view = view_of c.args.pass.now in
+    let next = view_of c.step_15-state.new.pass in
+    let state = c.step_15-state.result in
+    let stepped = c.step_15-state.ensures.step in
+    went-on c.go_on-2.result c.args.self.now c.go_on-2.new.self Held (Leaving (Err (Gone state))) view next c.go_on-2.ensures.more c.go_on-2.ensures.stage c.requires.stage
+    (body-step view next (State c.index.result) state stepped) (body-made view next (State c.index.result) state stepped) (omega arith)
+    (λ id start same begun at.
+    state-gone id start view next state begun (subst (λ (n : ℕ). Stepped MayLoadBody load_body view (State n) 0 0 state next) (c.index.ensures.value ∙ ap (λ (i : Id). i.index) same) stepped)
+    (λ says. c.if-state-from.false (says ∙ ap (λ (n : ℕ). 256 + n) (sym (c.from.ensures ∙ (c.seq.ensures ∙ ap (λ (i : Id). i.seq) same))))) at)

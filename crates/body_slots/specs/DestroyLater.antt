@@ -1,0 +1,154 @@
+-- What others' steps between two turns of a destruction leave as it was.
+use Rattle.std.proofs.Common.{◌≡◌, ℕ, ◌<◌, ◌≤◌, List, [], ◌∷◌, Bool, true, false, Option, Some, None, Ok, Err, Result, eqb, cond, refl, ap, sym, ◌∙◌, subst, arith}
+use Rattle.std.proofs.lemmas.Bool.{eq-eqb, ne_eqb}
+use Rattle.body_ident.specs.Id.{Id}
+use Rattle.scene_model.specs.declared.entry.Entry.{Entry}
+use Rattle.word_map.specs.declared.config.Config.{Config}
+use Rattle.word_map.specs.declared.name.Name.{Name}
+use Rattle.word_map.specs.declared.name.Name.TheVariants.{SlotHead, SlotNext, State, Phase, Layer}
+use Rattle.word_map.specs.Names.{index_lock, stripe_of}
+use Rattle.core_state.specs.declared.view.Mode.{Mode}
+use Rattle.core_state.specs.declared.view.Mode.TheVariants.{Write}
+use Rattle.core_state.specs.declared.view.LockStep.{LockStep}
+use Rattle.core_state.specs.declared.view.LockStep.TheVariants.{Taken as TakenStep}
+use Rattle.core_state.specs.declared.view.Task.{Task}
+use Rattle.core_state.specs.declared.view.View.{View}
+use Rattle.core_state.specs.Log.{IsPrefix}
+use Rattle.core_state.specs.View.{Holds, HoldsNot, mode_of}
+use Rattle.core_state.specs.Guards.{by_lock, IsBodyWord}
+use Rattle.core_state.specs.Quietly.{IsSteady, of_pass, of_live}
+use Rattle.pass_table.specs.Knowing.{KnowsMore}
+use Rattle.pass_table.specs.Holding.{IsAtRest}
+use Rattle.pass_table.specs.TakeTurns.{taking-later}
+use Rattle.pass_table.specs.Calls.{Adds, IsCalling}
+use Rattle.pass_table.proofs.Calling.{adds-more, point-later, calling-role, calling-sizes, calling-mode, calling-more, steady-more}
+use Rattle.pass_table.proofs.TakingTurns.{taking-anew}
+use Rattle.body_slots.specs.declared.answers.DestroyRefused.{DestroyRefused}
+use Rattle.body_slots.specs.declared.answers.DestroyRefused.TheVariants.{Gone, InUse}
+use Rattle.body_slots.specs.declared.destroy_op.DestroyStage.{DestroyStage}
+use Rattle.body_slots.specs.declared.destroy_op.DestroyStage.TheVariants.{TakingStripe, Held, Live, Joining, Placed, TakingList, Locked, Headed, Linked, InFront, Destroyed, Leaving}
+use Rattle.body_slots.specs.declared.destroy_op.DestroyOp.{DestroyOp}
+use Rattle.body_slots.specs.Later.{makes-later, listed-steady}
+use Rattle.body_slots.specs.Destroying.{HasDestroyed, IsDestroyAnswer, stripe_taken, both_taken, KnowsLive, KnowsOut, AtDestroy, IsUnmaking}
+
+-- ---- locks
+
+-- one lock that was taken is held, and of two both
+pub one-taken : (a : ℕ) → mode_of (TakenStep a Write ∷ []) a ≡ Some Write
+one-taken a = ap (λ (t : Bool). cond {A = Option Mode} t (Some Write) None) (eq-eqb a a refl)
+
+pub first-taken : (a b : ℕ) → mode_of (TakenStep a Write ∷ TakenStep b Write ∷ []) a ≡ Some Write
+first-taken a b = ap (λ (o : Option Mode). cond (eqb b a) (Some Write) o) (one-taken a) ∙ go (eqb b a)
+  where
+    go : (t : Bool) → cond {A = Option Mode} t (Some Write) (Some Write) ≡ Some Write
+    go true = refl
+    go false = refl
+
+second-taken : (a b : ℕ) → mode_of (TakenStep a Write ∷ TakenStep b Write ∷ []) b ≡ Some Write
+second-taken a b = ap (λ (t : Bool). cond {A = Option Mode} t (Some Write) (mode_of (TakenStep a Write ∷ []) b)) (eq-eqb b b refl)
+
+module _ (id : Id) (start view : View) (task : Task) (entries : List Entry) (rest : IsAtRest start) where
+  held_by : (steps : List LockStep) (lock : Config → ℕ) → IsCalling start view steps task entries → mode_of steps (lock start.config) ≡ Some Write → Holds view (lock view.config) Write
+  held_by steps lock calling taken =
+      subst (λ (c : Config). Holds view (lock c) Write) (sym (calling-sizes start view view steps task entries calling))
+      (calling-mode start view view steps task entries calling rest (lock start.config) ∙ taken)
+
+  -- the stripe, and both locks
+  pub stripe-held : IsCalling start view (stripe_taken start.config id) task entries → Holds view (stripe_of view.config id.index) Write
+  stripe-held calling = held_by (stripe_taken start.config id) (λ c. stripe_of c id.index) calling (one-taken (stripe_of start.config id.index))
+
+  pub both-stripe : IsCalling start view (both_taken start.config id) task entries → Holds view (stripe_of view.config id.index) Write
+  both-stripe calling = held_by (both_taken start.config id) (λ c. stripe_of c id.index) calling (first-taken (stripe_of start.config id.index) (index_lock start.config))
+
+  pub both-list : IsCalling start view (both_taken start.config id) task entries → Holds view (index_lock view.config) Write
+  both-list calling = held_by (both_taken start.config id) index_lock calling (second-taken (stripe_of start.config id.index) (index_lock start.config))
+
+  -- with the stripe alone the lock of the list is free
+  pub list-free : stripe_of start.config id.index < index_lock start.config → IsCalling start view (stripe_taken start.config id) task entries → HoldsNot view (index_lock start.config)
+  list-free apart calling =
+      calling-mode start view view (stripe_taken start.config id) task entries calling rest (index_lock start.config)
+      ∙ ap (λ (t : Bool). cond {A = Option Mode} t (Some Write) None) (ne_eqb (stripe_of start.config id.index) (index_lock start.config) (λ same. absurd (omega arith)))
+
+-- ---- words
+
+-- words of the live body, and its phase
+pub live-steady : (id : Id) (view : View) (name : Name) → Holds view (stripe_of view.config id.index) Write → KnowsLive id view → IsBodyWord id.index name → IsSteady view name
+live-steady id view name holds live own = of_live id.index Write holds (subst (λ (n : ℕ). 256 ≤ n) (sym live) (omega arith)) own
+
+pub phase-steady : (id : Id) (view : View) → Holds view (stripe_of view.config id.index) Write → IsSteady view (Phase id.index)
+phase-steady id view holds = of_pass (by_lock (stripe_of view.config id.index) Write holds refl)
+
+pub live-more : (id : Id) (view next : View) → KnowsMore view next → Holds view (stripe_of view.config id.index) Write → KnowsLive id view → KnowsLive id next
+live-more id view next more holds live = steady-more view next (State id.index) more (live-steady id view (State id.index) holds live refl) ∙ live
+
+pub out-more : (id : Id) (view next : View) → KnowsMore view next → Holds view (stripe_of view.config id.index) Write → KnowsOut id view → KnowsOut id next
+out-more id view next more holds out = (live-more id view next more holds out.0, steady-more view next (Phase id.index) more (phase-steady id view holds) ∙ out.1)
+
+-- ---- answers
+
+pub destroyed-later : (id : Id) (start view next : View) → IsPrefix view.known next.known → ((entries : List Entry) → Adds start view entries → Adds start next entries) → HasDestroyed id start view
+    → HasDestroyed id start next
+destroyed-later id start view next later adds destroyed = record { adds = adds _ destroyed.adds; at = makes-later start view next _ _ later destroyed.at }
+
+pub answer-later : (id : Id) (start view next : View) (answer : Result (Unit {0}) DestroyRefused) → IsPrefix view.known next.known → ((entries : List Entry) → Adds start view entries → Adds start next entries)
+    → IsDestroyAnswer id start view answer → IsDestroyAnswer id start next answer
+answer-later id start view next (Ok done) later adds destroyed = destroyed-later id start view next later adds destroyed
+answer-later id start view next (Err (Gone state)) later adds was = record { adds = adds _ was.adds; at = point-later start view next _ later was.at }
+answer-later id start view next (Err (InUse phase)) later adds was = record { adds = adds _ was.adds; at = point-later start view next _ later was.at }
+
+-- ---- a destruction
+
+module _ (id : Id) (start view next : View) (rest : IsAtRest start) (more : KnowsMore view next) where
+  stage-later : (stage : DestroyStage) → AtDestroy id start view stage → AtDestroy id start next stage
+  stage-later (TakingStripe taking) h = (calling-more start view next _ _ _ h.0 more, taking-anew _ view taking next (taking-later _ view taking view next more h.1))
+  stage-later Held h = calling-more start view next _ _ _ h more
+  stage-later Live h = (calling-more start view next _ _ _ h.0 more, live-more id view next more (stripe-held id start view _ _ rest h.0) h.1)
+  stage-later (Joining slot) h =
+      let holds = stripe-held id start view _ _ rest h.0 in (
+        calling-more start view next _ _ _ h.0 more,
+        live-more id view next more holds h.1,
+        steady-more view next (Phase id.index) more (phase-steady id view holds) ∙ h.2,
+        h.3,
+      )
+  stage-later (Placed slot layer) h =
+      let holds = stripe-held id start view _ _ rest h.0 in (
+        calling-more start view next _ _ _ h.0 more,
+        live-more id view next more holds h.1,
+        steady-more view next (Phase id.index) more (phase-steady id view holds) ∙ h.2,
+        h.3,
+        steady-more view next (Layer id.index) more (live-steady id view (Layer id.index) holds h.1 refl) ∙ h.4,
+        h.5,
+      )
+  stage-later (TakingList taking) h = (
+    calling-more start view next _ _ _ h.0 more,
+    out-more id view next more (stripe-held id start view _ _ rest h.0) h.1,
+    taking-anew _ view taking next (taking-later _ view taking view next more h.2),
+  )
+  stage-later Locked h = (calling-more start view next _ _ _ h.0 more, out-more id view next more (both-stripe id start view _ _ rest h.0) h.1)
+  stage-later (Headed head) h = (
+    calling-more start view next _ _ _ h.0 more,
+    out-more id view next more (both-stripe id start view _ _ rest h.0) h.1,
+    steady-more view next SlotHead more (listed-steady view SlotHead (both-list id start view _ _ rest h.0) refl) ∙ h.2,
+  )
+  stage-later Linked h =
+      let held = both-list id start view _ _ rest h.0 in (
+        calling-more start view next _ _ _ h.0 more,
+        out-more id view next more (both-stripe id start view _ _ rest h.0) h.1,
+        steady-more view next (SlotNext id.index) more (listed-steady view (SlotNext id.index) held refl)
+            ∙ (h.2 ∙ sym (steady-more view next SlotHead more (listed-steady view SlotHead held refl))),
+      )
+  stage-later InFront h = (calling-more start view next _ _ _ h.0 more, out-more id view next more (both-stripe id start view _ _ rest h.0) h.1)
+  stage-later Destroyed h = (
+    calling-more start view next _ _ _ h.0 more,
+    destroyed-later id start view next (more.since, more.known) (λ entries adds. adds-more start view next entries (calling-role start view view _ _ _ h.0) adds more) h.1,
+  )
+  stage-later (Leaving answer) h = (
+    h.0,
+    h.1,
+    calling-more start view next _ _ _ h.2 more,
+    h.3,
+    answer-later id start view next answer (more.since, more.known) (λ entries adds. adds-more start view next entries (calling-role start view view _ _ _ h.2) adds more) h.4,
+  )
+
+pub destroying-later : (first : DestroyOp) (start : View) (operation : DestroyOp) (view next : View) → KnowsMore view next → IsUnmaking first start operation view → IsUnmaking first start operation next
+destroying-later first start operation view next more making = (making.0, making.1, stage-later first.id start view next making.1.rest more operation.stage making.2)

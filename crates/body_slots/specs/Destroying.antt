@@ -1,0 +1,145 @@
+-- How destroying a body goes, turn by turn, and what it answers.
+use Rattle.std.specs.Prelude.{◌≡◌, ◌≢◌, ◌⊎◌, ℕ, ◌+◌, ◌%◌, ◌<◌, List, [], ◌∷◌, ◌++◌, Result, MatchResult, Some, None}
+use Rattle.body_ident.specs.Id.{Id}
+use Rattle.scene_model.specs.declared.body_view.Phase.{Phase as BodyPhase}
+use Rattle.scene_model.specs.declared.body_view.Phase.TheVariants.{Out}
+use Rattle.scene_model.specs.declared.entry.Entry.{Entry}
+use Rattle.scene_model.specs.declared.entry.Entry.TheVariants.{Destroy}
+use Rattle.scene_model.specs.Cause.{HasIdBody, IsCauseAt, gone, in_use}
+use Rattle.word_map.specs.declared.config.Config.{Config}
+use Rattle.word_map.specs.declared.name.Name.TheVariants.{SlotHead, SlotNext, State, Phase, Layer}
+use Rattle.word_map.specs.Names.{index_lock, stripe_of}
+use Rattle.core_state.specs.declared.item.Item.{Item}
+use Rattle.core_state.specs.declared.view.Mode.TheVariants.{Write}
+use Rattle.core_state.specs.declared.view.LockStep.{LockStep}
+use Rattle.core_state.specs.declared.view.LockStep.TheVariants.{Taken as TakenStep, Released}
+use Rattle.core_state.specs.declared.view.Task.TheVariants.{Nothing, Destroying}
+use Rattle.core_state.specs.declared.view.View.{View}
+use Rattle.core_state.specs.Log.{word}
+use Rattle.core_state.specs.View.{known_word, mode_of}
+use Rattle.core_state.specs.Guards.{scene_at}
+use Rattle.core_state.specs.Encoding.{phase_out, phase_join}
+use Rattle.pass_table.specs.declared.turn.Turn.{Turn}
+use Rattle.pass_table.specs.TakeTurns.{taking_of, IsTaking, turns_left}
+use Rattle.pass_table.specs.Holding.{IsAtRest}
+use Rattle.pass_table.specs.Calls.{Adds, AtPoint, MakesAt, IsCalling, IsTurn}
+use Rattle.body_slots.specs.declared.answers.DestroyRefused.{DestroyRefused}
+use Rattle.body_slots.specs.declared.answers.DestroyRefused.TheVariants.{Gone, InUse}
+use Rattle.body_slots.specs.declared.destroy_op.DestroyStage.{DestroyStage}
+use Rattle.body_slots.specs.declared.destroy_op.DestroyStage.TheVariants.{TakingStripe, Held, Live, Joining, Placed, TakingList, Locked, Headed, Linked, InFront, Destroyed, Leaving}
+use Rattle.body_slots.specs.declared.destroy_op.DestroyOp.{DestroyOp}
+use Rattle.body_slots.specs.Answers.{HasEnded}
+
+-- ---- answers
+
+-- the id's body was destroyed, by the one entry that the call made: just before it, it is live and out
+pub record HasDestroyed (id : Id) (start next : View) : Type 0 where
+  pub adds : Adds start next (Destroy id.index ∷ [])
+  pub at : MakesAt start next (Destroy id.index) (λ log. HasIdBody (scene_at start.config log) id (λ r. r.phase ≡ Out))
+
+-- the id names no live body, and the state word of its index says so
+pub record IsGoneAt (c : Config) (id : Id) (state : ℕ) (log : List Item) : Type 0 where
+  pub is : state ≡ word c log (State id.index)
+  pub cause : IsCauseAt (gone id) (scene_at c log)
+  pub tells : (state < 256) ⊎ (state % 256 ≢ id.seq)
+
+-- nothing was destroyed: so it was at a point of the call
+pub record WasGone (id : Id) (start next : View) (state : ℕ) : Type 0 where
+  pub adds : Adds start next []
+  pub at : AtPoint start next (IsGoneAt start.config id state)
+
+-- the id's body is live, and in this phase, in which it is held or in the broad phase
+pub record IsInUseAt (c : Config) (id : Id) (phase : BodyPhase) (log : List Item) : Type 0 where
+  pub cause : IsCauseAt (in_use id) (scene_at c log)
+  pub is : HasIdBody (scene_at c log) id (λ r. r.phase ≡ phase)
+
+pub record WasInUse (id : Id) (start next : View) (phase : BodyPhase) : Type 0 where
+  pub adds : Adds start next []
+  pub at : AtPoint start next (IsInUseAt start.config id phase)
+
+-- why it was refused
+abbrev pub WasRefused : Id → View → View → DestroyRefused → Type 0
+WasRefused id start next (Gone state) = WasGone id start next state
+WasRefused id start next (InUse phase) = WasInUse id start next phase
+
+-- what a destruction answers is so
+abbrev pub IsDestroyAnswer : Id → View → View → Result (Unit {0}) DestroyRefused → Type 0
+IsDestroyAnswer id start next answer = MatchResult answer (λ _. HasDestroyed id start next) (WasRefused id start next)
+
+-- ---- stages
+
+-- the stripe of the body, taken; and then the lock of the list
+abbrev pub stripe_taken : Config → Id → List LockStep
+stripe_taken c id = TakenStep (stripe_of c id.index) Write ∷ []
+
+abbrev pub both_taken : Config → Id → List LockStep
+both_taken c id = TakenStep (stripe_of c id.index) Write ∷ TakenStep (index_lock c) Write ∷ []
+
+-- the pass knows the body as live
+abbrev pub KnowsLive : Id → View → Type 0
+KnowsLive id view = known_word view (State id.index) ≡ 256 + id.seq
+
+-- and out
+abbrev pub KnowsOut : Id → View → Type 0
+KnowsOut id view = KnowsLive id view × (known_word view (Phase id.index) ≡ phase_out)
+
+-- it is left to let the stripe go
+pub record HasStripeAlone (c : Config) (id : Id) (steps : List LockStep) : Type 0 where
+  pub held : mode_of steps (stripe_of c id.index) ≡ Some Write
+  pub alone : (lock : ℕ) → mode_of (steps ++ Released (stripe_of c id.index) ∷ []) lock ≡ None
+
+-- what holds at a stage, of a destruction of this id's body that was begun at this view
+abbrev pub AtDestroy : Id → View → View → DestroyStage → Type 0
+AtDestroy id start view (TakingStripe taking) = IsCalling start view [] Nothing [] × IsTaking (taking_of (stripe_of start.config id.index) Write) view taking view
+AtDestroy id start view Held = IsCalling start view (stripe_taken start.config id) Nothing []
+AtDestroy id start view Live = IsCalling start view (stripe_taken start.config id) Nothing [] × KnowsLive id view
+AtDestroy id start view (Joining slot) =
+    IsCalling start view (stripe_taken start.config id) Nothing [] × KnowsLive id view × (known_word view (Phase id.index) ≡ phase_join slot) × (slot < start.config.slots)
+AtDestroy id start view (Placed slot layer) =
+    IsCalling start view (stripe_taken start.config id) Nothing [] × KnowsLive id view × (known_word view (Phase id.index) ≡ phase_join slot) × (slot < start.config.slots)
+    × (known_word view (Layer id.index) ≡ layer) × (layer < start.config.layers)
+AtDestroy id start view (TakingList taking) =
+    IsCalling start view (stripe_taken start.config id) Nothing [] × KnowsOut id view × IsTaking (taking_of (index_lock start.config) Write) view taking view
+AtDestroy id start view Locked = IsCalling start view (both_taken start.config id) Nothing [] × KnowsOut id view
+AtDestroy id start view (Headed head) = IsCalling start view (both_taken start.config id) Nothing [] × KnowsOut id view × (known_word view SlotHead ≡ head)
+AtDestroy id start view Linked =
+    IsCalling start view (both_taken start.config id) Nothing [] × KnowsOut id view × (known_word view (SlotNext id.index) ≡ known_word view SlotHead)
+AtDestroy id start view InFront = IsCalling start view (both_taken start.config id) (Destroying id.index) [] × KnowsOut id view
+AtDestroy id start view Destroyed = IsCalling start view (both_taken start.config id) Nothing (Destroy id.index ∷ []) × HasDestroyed id start view
+AtDestroy id start view (Leaving answer) =
+    (steps : List LockStep) × (entries : List Entry) × IsCalling start view steps Nothing entries × HasStripeAlone start.config id steps × IsDestroyAnswer id start view answer
+
+-- the destruction was begun so, by a pass at rest
+pub record IsBegunFor (id : Id) (start : View) : Type 0 where
+  pub below : id.index < start.config.bodies
+  pub striped : stripe_of start.config id.index < index_lock start.config
+  pub rest : IsAtRest start
+
+abbrev pub IsUnmaking : DestroyOp → View → DestroyOp → View → Type 0
+IsUnmaking first start operation view = (operation.id ≡ first.id) × IsBegunFor first.id start × AtDestroy first.id start view operation.stage
+
+-- at its end
+abbrev pub HasUnmade : DestroyOp → View → View → Result (Unit {0}) DestroyRefused → Type 0
+HasUnmade first start next answer = HasEnded start next × IsDestroyAnswer first.id start next answer
+
+-- ---- turns
+
+abbrev pub stage_left : DestroyStage → ℕ
+stage_left (TakingStripe taking) = 12 + turns_left taking
+stage_left Held = 12
+stage_left Live = 11
+stage_left (Joining slot) = 3
+stage_left (Placed slot layer) = 2
+stage_left (TakingList taking) = 7 + turns_left taking
+stage_left Locked = 7
+stage_left (Headed head) = 6
+stage_left Linked = 5
+stage_left InFront = 4
+stage_left Destroyed = 2
+stage_left (Leaving answer) = 1
+
+abbrev pub destroy_left : DestroyOp → ℕ
+destroy_left operation = stage_left operation.stage
+
+abbrev pub IsDestroyTurn : Turn (Result (Unit {0}) DestroyRefused) → DestroyOp → DestroyOp → View → View → Type 0
+IsDestroyTurn turn before after view next = IsTurn IsUnmaking HasUnmade destroy_left (λ operation. operation.made) Write turn before after view next

@@ -1,0 +1,5 @@
+pub mod Answers
+pub mod Creating
+pub mod Later
+pub mod Destroying
+pub mod DestroyLater

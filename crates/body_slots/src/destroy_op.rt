@@ -1,0 +1,43 @@
+//! What a destruction by turns keeps.
+use crate::answers::DestroyRefused;
+use body_ident::BodyId;
+use pass_table::TakeOp;
+use scene_model::Made;
+
+/// How far a destruction is.
+#[derive(Clone, Copy, Debug, PartialEq, Eq)]
+pub(crate) enum DestroyStage {
+    /// The stripe of the body is being taken.
+    TakingStripe { taking: TakeOp },
+    /// The stripe is held.
+    Held,
+    /// The body is live.
+    Live,
+    /// Its phase word names this slot.
+    Joining { slot: u32 },
+    /// It is that slot of this layer.
+    Placed { slot: u32, layer: u32 },
+    /// The body is out, and the lock of the list is being taken.
+    TakingList { taking: TakeOp },
+    /// Both locks are held.
+    Locked,
+    /// The head of the list is this.
+    Headed { head: u64 },
+    /// It is the link of the index.
+    Linked,
+    /// The index is in front.
+    InFront,
+    /// The body is destroyed.
+    Destroyed,
+    /// The call answers this, once the stripe is let go.
+    Leaving { answer: Result<(), DestroyRefused> },
+}
+
+/// Destroying a body by turns.
+#[derive(Drop)]
+pub struct DestroyOp {
+    pub(crate) id: BodyId,
+    pub(crate) stage: DestroyStage,
+    /// The entry that the last turn made.
+    pub(crate) made: Option<Made>,
+}

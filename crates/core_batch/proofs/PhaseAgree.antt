@@ -1,0 +1,155 @@
+-- The bodies agree after a step that stores the phase of a body, with an entry that says so: what is left is batches.
+use Rattle.std.proofs.Common.{◌≡◌, ◌≢◌, ℕ, ◌-◌, ◌+◌, ◌<◌, List, [], ◌∷◌, ◌++◌, Option, Some, None, option_map, is_some, IsSomeAnd, Bool, true, false, refl, ap, sym, ◌∙◌, subst, inl, inr}
+use Rattle.std.proofs.lemmas.Bool.{false≢true, cases_eq}
+use Rattle.std.proofs.lemmas.Option.{same_Some}
+use Rattle.scene_model.specs.declared.body_view.Phase.{Phase as BodyPhase}
+use Rattle.scene_model.specs.declared.body_view.Phase.TheVariants.{Held}
+use Rattle.scene_model.specs.declared.entry.Entry.{Entry}
+use Rattle.scene_model.specs.declared.entry.Made.{Made}
+use Rattle.scene_model.specs.Scene.{Record, Scene, Place, place_at, record_at}
+use Rattle.scene_model.specs.Step.{HasBody, IsLawful, after_entry, with_phase, in_phase}
+use Rattle.scene_model.proofs.Places.{place_at-with_change_same, place_at-with_body_other}
+use Rattle.word_map.specs.declared.name.Name.{Name}
+use Rattle.word_map.specs.declared.name.Name.TheVariants.{SlotHead, SlotNext, State, Phase, Layer, User, BoxWord, Slot}
+use Rattle.core_state.specs.declared.view.Call.{Call}
+use Rattle.core_state.specs.declared.view.LockStep.{LockStep}
+use Rattle.core_state.specs.declared.view.Marked.{Marked}
+use Rattle.core_state.specs.declared.view.Batch.{Batch}
+use Rattle.core_state.specs.Log.{word, history}
+use Rattle.core_state.specs.View.{IsPass}
+use Rattle.core_state.specs.Core.{Core, word_of, IsViewAt}
+use Rattle.core_state.specs.Operation.{store}
+use Rattle.core_state.specs.Kind.{Kind, Step, left_by, log_after, view_after, after_step}
+use Rattle.core_state.specs.Scope.{Sight, sight, scene_in}
+use Rattle.core_state.specs.Bodies.{state_word, phase_by, free_indexes, IsBetweenBoxes}
+use Rattle.core_state.specs.BodiesAgree.{BodiesAgree, body_scope, HasWordsOf, IsUnderStripe, IsHeldFor}
+use Rattle.core_state.proofs.Steps.{word-step}
+use Rattle.core_guard.proofs.FreeIndexes.{free-change}
+use Rattle.core_guard.proofs.Scenes.{record_live}
+use Rattle.core_guard.proofs.OneBody.{history-made, scene-made, lawful-made}
+use Rattle.core_guard.proofs.BodiesStep.{new_sight, unstored, bodies-agree, WordsPart, together, whole-back, words-kept, list-stays, stripe-part, stripe-moved, BatchPart}
+
+-- whether a body is live, and how often one was created, is no matter of its phase
+state-phase : (phase : BodyPhase) (p : Place) → state_word (record p { body = option_map (in_phase phase) p.body }) ≡ state_word p
+state-phase phase p = go p.body refl
+  where
+    go : (o : Option Record) → p.body ≡ o → state_word (record p { body = option_map (in_phase phase) p.body }) ≡ state_word p
+    go None e = rw e refl
+    go (Some r) e = rw e refl
+
+abbrev phase_index : Name → ℕ
+phase_index (Phase i) = i
+phase_index _ = 0
+
+abbrev pub is_phase : Name → Bool
+is_phase (Phase i) = true
+is_phase _ = false
+
+module _ (kind : Kind) (core : Core) (step : Step) (at : IsViewAt core step.seat step.view) (pass : IsPass step.view step.number) (h : BodiesAgree core)
+    (index : ℕ) (names : step.name ≡ Phase index) (entry : Entry) (target : BodyPhase) (alters : (scene : Scene) → after_entry scene entry ≡ with_phase target scene index)
+    (r : Record) (live : record_at (scene_in (sight body_scope core)) index ≡ Some r)
+    (call : (view_after kind core step).call ≡ step.view.call) (locks : (view_after kind core step).locks ≡ step.view.locks) where
+  abbrev pub phase_past : List Made
+  phase_past = history core.log ++ record { pass = step.number; entry = entry } ∷ []
+
+  abbrev Old : Sight
+  Old = sight body_scope core
+
+  abbrev pub phase_sight : Sight
+  phase_sight = new_sight kind core step at pass phase_past
+
+  -- other words stay
+  pub other_word : (name : Name) → is_phase name ≡ false → phase_sight.word name ≡ Old.word name
+  other_word name none = unstored kind core step at pass name (λ same. false≢true (sym none ∙ ap is_phase (same ∙ names)))
+
+  pub other_phase : (i : ℕ) → i ≢ index → phase_sight.word (Phase i) ≡ Old.word (Phase i)
+  other_phase i apart = unstored kind core step at pass (Phase i) (λ same. apart (ap phase_index (same ∙ names)))
+
+  -- and so do other bodies
+  scene : scene_in phase_sight ≡ with_phase target (scene_in Old) index
+  scene = scene-made core.config.bodies step.number (history core.log) entry ∙ alters (scene_in Old)
+
+  pub place_other : (i : ℕ) → i ≢ index → place_at (scene_in phase_sight) i ≡ place_at (scene_in Old) i
+  place_other i apart = ap (λ (s : Scene). place_at s i) scene ∙ place_at-with_body_other (scene_in Old) index i _ apart
+
+  pub record_other : (i : ℕ) → i ≢ index → record_at (scene_in phase_sight) i ≡ record_at (scene_in Old) i
+  record_other i apart = ap (λ (p : Place). p.body) (place_other i apart)
+
+  place_here : place_at (scene_in phase_sight) index ≡ record (place_at (scene_in Old) index) { body = option_map (in_phase target) (record_at (scene_in Old) index) }
+  place_here = ap (λ (s : Scene). place_at s index) scene ∙ place_at-with_change_same (in_phase target) (scene_in Old) index
+
+  -- the body has its new phase
+  pub record_here : record_at (scene_in phase_sight) index ≡ Some (in_phase target r)
+  record_here = ap (λ (p : Place). p.body) place_here ∙ ap (option_map (in_phase target)) live
+
+  state_here : (i : ℕ) → state_word (place_at (scene_in phase_sight) i) ≡ state_word (place_at (scene_in Old) i)
+  state_here i =
+      elim (cases_eq i index) [
+        | inl same ↦ subst (λ (k : ℕ). state_word (place_at (scene_in phase_sight) k) ≡ state_word (place_at (scene_in Old) k)) (sym same) (ap state_word place_here ∙ state-phase target (place_at (scene_in Old) index))
+        | inr apart ↦ ap state_word (place_other i apart)
+      ]
+
+  -- a mark of another body stays what it was
+  pub held-other : (b : Batch) (m : Marked) → m.index ≢ index → IsHeldFor Old b m → IsHeldFor phase_sight b m
+  held-other b m apart was = record {
+    held = subst (λ (o : Option Record). IsSomeAnd o (λ q. (q.phase ≡ Held) × (q.layer ≡ b.layer))) (sym (record_other m.index apart)) was.held;
+    phase = other_phase m.index apart ∙ was.phase;
+    bounds = λ k below. other_word (BoxWord m.index k) refl ∙ was.bounds k below;
+  }
+
+  -- and so is another body that is held
+  pub held-was : (i : ℕ) → i ≢ index → HasBody (scene_in phase_sight) i (λ q. q.phase ≡ Held) → HasBody (scene_in Old) i (λ q. q.phase ≡ Held)
+  held-was i apart h = subst (λ (o : Option Record). IsSomeAnd o (λ q. q.phase ≡ Held)) (record_other i apart) h
+
+  module _ (left : left_by kind core step ≡ step.first) where
+    pub phase_here : phase_sight.word (Phase index) ≡ step.first
+    phase_here = ap (λ (n : Name). word core.config (log_after kind core step) n) (sym names) ∙ (word-step kind core step ∙ left)
+
+    module _ (says : phase_by step.first (word_of core (Slot r.layer (step.first - 2))) ≡ Some target) (fits : step.first < 2 + core.config.slots) where
+      between : (i : ℕ) → IsBetweenBoxes step.view i → IsBetweenBoxes (view_after kind core step) i
+      between i was = subst (λ (c : Call). IsBetweenBoxes (record step.view { call = c }) i) (sym call) was
+
+      words_here : HasWordsOf phase_sight index (in_phase target r)
+      words_here =
+          let was = h.live index r live in
+          record {
+            layer = other_word (Layer index) refl ∙ was.layer;
+            user = other_word (User index) refl ∙ was.user;
+            user_fits = was.user_fits;
+            bounds = λ whole k below. other_word (BoxWord index k) refl ∙ was.bounds (whole-back kind core step at pass phase_past index (between index) whole) k below;
+            phase = (λ j. phase_by (phase_here j) (other_word (Slot r.layer (phase_here j - 2)) refl j)) ∙ says;
+            slot = subst (λ (n : ℕ). n < 2 + core.config.slots) (sym phase_here) fits;
+          }
+
+      words : IsLawful core.config.layers (scene_in Old) entry → WordsPart phase_sight
+      words lawful = record {
+        lawful = lawful-made core.config.layers core.config.bodies step.number (history core.log) entry h.lawful lawful;
+        state = λ i below. other_word (State i) refl ∙ (h.state i below ∙ sym (state_here i));
+        live = λ i q e.
+            elim (cases_eq i index) [
+              | inl same ↦
+                  subst (λ (k : ℕ). HasWordsOf phase_sight k q) (sym same)
+                  (subst (HasWordsOf phase_sight index) (same_Some (in_phase target r) q (sym record_here ∙ subst (λ (k : ℕ). record_at (scene_in phase_sight) k ≡ Some q) same e)) words_here)
+              | inr apart ↦
+                  words-kept kind core step at pass phase_past i q (between i) (other_word (Layer i) refl) (other_word (User i) refl) (λ k. other_word (BoxWord i k) refl) (other_phase i apart)
+                  (λ l t. other_word (Slot l t) refl) (h.live i q (sym (record_other i apart) ∙ e))
+            ];
+        dead = λ i none.
+            elim (cases_eq i index) [
+              | inl same ↦ absurd (false≢true (sym none ∙ subst (λ (k : ℕ). is_some (record_at (scene_in phase_sight) k) ≡ true) (sym same) (record_live (record_at (scene_in phase_sight) index) (in_phase target r) record_here)))
+              | inr apart ↦ other_phase i apart ∙ h.dead i (ap is_some (sym (record_other i apart)) ∙ none)
+            ];
+      }
+
+      stripes-own : IsUnderStripe Old step.view step.view.call.task → IsUnderStripe phase_sight (view_after kind core step) (view_after kind core step).call.task
+      stripes-own was =
+          subst (λ (c : Call). IsUnderStripe phase_sight (view_after kind core step) c.task) (sym call)
+          (subst (λ (l : List LockStep). IsUnderStripe phase_sight (record step.view { locks = l }) step.view.call.task) (sym locks)
+          (stripe-moved kind core step at pass phase_past step.view step.view.call.task was))
+
+      pub phase-agree : kind.operation ≡ store → kind.entry step.view step.name step.first ≡ Some entry → IsLawful core.config.layers (scene_in Old) entry → BatchPart phase_sight → BodiesAgree (after_step kind core step)
+      phase-agree stores made lawful batches =
+          bodies-agree kind core step at pass phase_past (history-made kind core step entry stores made)
+          (together phase_sight (words lawful)
+          (list-stays kind core step at pass phase_past h call locks (other_word SlotHead refl) (λ i. other_word (SlotNext i) refl) (ap free_indexes scene ∙ free-change (in_phase target) (scene_in Old) index))
+          (stripe-part kind core step at pass phase_past h stripes-own) batches)

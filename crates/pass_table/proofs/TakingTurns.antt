@@ -1,0 +1,53 @@
+-- How taking a lock by turns begins, goes on and ends.
+use Rattle.std.proofs.Common.{ℕ, Option, IfSome, refl, ap, sym, ◌∙◌, subst}
+use Rattle.word_map.specs.declared.config.Config.{Config}
+use Rattle.word_map.specs.declared.name.Name.TheVariants.{Lock}
+use Rattle.word_map.specs.Names.{IsName}
+use Rattle.core_state.specs.declared.view.Mode.{Mode}
+use Rattle.core_state.specs.declared.view.View.{View}
+use Rattle.core_state.specs.View.{HoldsNot, mode_of}
+use Rattle.core_state.specs.Quietly.{KnowsQuietly}
+use Rattle.core_state.proofs.Quiet.{KnowsQuietly-refl, KnowsQuietly-trans}
+use Rattle.pass_table.specs.Trying.{Excludes, Leaves, with_taken}
+use Rattle.pass_table.specs.TakeTurns.{taking_of, IsTaking, HasTaken}
+use Rattle.pass_table.specs.declared.take_op.TakeOp.{TakeOp}
+use Rattle.pass_table.proofs.Trying.{Waited-refl, Waited-more, Waited-taken}
+
+pub taking-begun : (lock : ℕ) (mode : Mode) (view : View) → IsName view.config (Lock lock) → HoldsNot view lock → IsTaking (taking_of lock mode) view (taking_of lock mode) view
+taking-begun lock mode view named free =
+    record { lock = refl; mode = refl; named = named; free = free; open_to = tt; waited = Waited-refl view; quiet = KnowsQuietly-refl view }
+
+-- a turn that takes nothing, and after which this word is loaded or none
+pub taking-on : (first : TakeOp) (start : View) (operation : TakeOp) (view next : View) (loaded : Option ℕ) → Leaves view next view.locks → KnowsQuietly view next
+    → IfSome loaded (λ word. ¬ Excludes operation.mode word) → IsTaking first start operation view → IsTaking first start (record operation { loaded = loaded }) next
+taking-on first start operation view next loaded left quiet open_to taking = record {
+  lock = taking.lock;
+  mode = taking.mode;
+  named = subst (λ (c : Config). IsName c (Lock operation.lock)) (sym (ap (λ (v : View). v.config) left.rest)) taking.named;
+  free = ap (λ (v : View). mode_of v.locks operation.lock) left.rest ∙ taking.free;
+  open_to = open_to;
+  waited = Waited-more start view next taking.waited left;
+  quiet = KnowsQuietly-trans start view next taking.waited.rest taking.quiet quiet;
+}
+
+-- the turn that takes the lock
+pub taking-done : (first : TakeOp) (start : View) (operation : TakeOp) (view next : View) → Leaves view next (with_taken view operation.lock operation.mode) → KnowsQuietly view next
+    → IsTaking first start operation view → HasTaken first start next
+taking-done first start operation view next left quiet taking = record {
+  left =
+      Waited-taken start view next first.lock first.mode taking.waited
+      (subst (λ (m : Mode). Leaves view next (with_taken view first.lock m)) taking.mode (subst (λ (l : ℕ). Leaves view next (with_taken view l operation.mode)) taking.lock left));
+  quiet = KnowsQuietly-trans start view next taking.waited.rest taking.quiet quiet;
+}
+
+-- it might as well be begun now
+pub taking-anew : (first : TakeOp) (start : View) (operation : TakeOp) (view : View) → IsTaking first start operation view → IsTaking (taking_of first.lock first.mode) view operation view
+taking-anew first start operation view taking = record {
+  lock = taking.lock;
+  mode = taking.mode;
+  named = taking.named;
+  free = taking.free;
+  open_to = taking.open_to;
+  waited = Waited-refl view;
+  quiet = KnowsQuietly-refl view;
+}

@@ -3,22 +3,13 @@ use Rattle.std.proofs.Common.{◌≡◌, ◌≢◌, ℕ, zero, suc, ◌<◌, Lis
 use Rattle.fixed_box.specs.FixBox.{words_of}
 use Rattle.fixed_box.specs.declared.fix_box.FixBox.{FixBox}
 use Rattle.body_ident.specs.Id.{Id}
-use Rattle.word_map.specs.declared.name.Name.{Name}
 use Rattle.word_map.specs.declared.name.Name.TheVariants.{BoxWord}
 use Rattle.core_state.specs.declared.view.View.{View}
 use Rattle.core_state.specs.View.{known_word}
-use Rattle.core_state.specs.Guards.{IsBodyWord}
 use Rattle.pass_table.specs.Knowing.{KnowsMore}
-use Rattle.pass_table.proofs.Calling.{steady-more}
-use Rattle.body_lock.specs.Guarding.{IsGuarded}
-use Rattle.body_lock.specs.Seeing.{Loaded, IsTold}
+use Rattle.pass_table.specs.Bodies.{IsGuarded, Loaded, IsTold}
+use Rattle.pass_table.proofs.LockedBodies.{word-stays, guarded-tells}
 use Rattle.pass_table.proofs.Between.{more-trans}
-use Rattle.body_lock.specs.Guarding.{guarded-steady}
-use Rattle.body_lock.proofs.Phases.{guarded-tells}
-
--- a word of a guarded body is later as it was
-pub later-word : (id : Id) (view next : View) (name : Name) → IsGuarded id view → KnowsMore view next → IsBodyWord id.index name → known_word next name ≡ known_word view name
-later-word id view next name guarded more of_body = steady-more view next name more (guarded-steady guarded.0 id guarded.1 view guarded.2 name of_body)
 
 -- six numbers, one by one
 six : (f : ℕ → ℕ) (a b c d e g : ℕ) → f 0 ≡ a → f 1 ≡ b → f 2 ≡ c → f 3 ≡ d → f 4 ≡ e → f 5 ≡ g → (k : ℕ) → k < 6 → f k ≡ slice_index (a ∷ b ∷ c ∷ d ∷ e ∷ g ∷ []) k
@@ -54,19 +45,19 @@ module _ (id : Id) (v0 v1 v2 v3 v4 v5 v6 : View) (w0 w1 w2 w3 w4 w5 : ℕ)
   side k = known_word v6 (BoxWord id.index k)
 
   s0 : side 0 ≡ w0
-  s0 = later-word id v1 v6 (BoxWord id.index 0) g1 m1 refl ∙ l0.word
+  s0 = word-stays id v1 v6 g1 m1 (BoxWord id.index 0) refl ∙ l0.word
 
   s1 : side 1 ≡ w1
-  s1 = later-word id v2 v6 (BoxWord id.index 1) g2 m2 refl ∙ l1.word
+  s1 = word-stays id v2 v6 g2 m2 (BoxWord id.index 1) refl ∙ l1.word
 
   s2 : side 2 ≡ w2
-  s2 = later-word id v3 v6 (BoxWord id.index 2) g3 m3 refl ∙ l2.word
+  s2 = word-stays id v3 v6 g3 m3 (BoxWord id.index 2) refl ∙ l2.word
 
   s3 : side 3 ≡ w3
-  s3 = later-word id v4 v6 (BoxWord id.index 3) g4 m4 refl ∙ l3.word
+  s3 = word-stays id v4 v6 g4 m4 (BoxWord id.index 3) refl ∙ l3.word
 
   s4 : side 4 ≡ w4
-  s4 = later-word id v5 v6 (BoxWord id.index 4) g5 l5.more refl ∙ l4.word
+  s4 = word-stays id v5 v6 g5 l5.more (BoxWord id.index 4) refl ∙ l4.word
 
   -- the words as they are after the last load
   pub six-words : (k : ℕ) → k < 6 → known_word v6 (BoxWord id.index k) ≡ slice_index (w0 ∷ w1 ∷ w2 ∷ w3 ∷ w4 ∷ w5 ∷ []) k

@@ -13,11 +13,11 @@ use Rattle.body_lock.specs.declared.multi_guard.MultiEntry.{MultiEntry}
 use Rattle.body_lock.specs.declared.multi_guard.MultiEntry.TheVariants.{Reached, Gone}
 use Rattle.body_lock.specs.declared.multi_guard.LockedBody.{LockedBody}
 use Rattle.body_lock.specs.declared.multi_guard.MultiGuard.{MultiGuard}
-use Rattle.body_lock.specs.Guarding.{IsGuarding, IsCurrent}
+use Rattle.pass_table.specs.Bodies.{IsGuarding, IsCurrent}
+use Rattle.pass_table.proofs.LockedBodies.{guarding-more}
 use Rattle.body_lock.specs.Seeing.{IsSeenAt, HasSetUser}
 use Rattle.body_lock.specs.Stripes.{HoldsAll}
 use Rattle.body_lock.specs.Multi.{IsReachGood, IsEntryGood, IsMultiGood, SeesBody}
-use Rattle.body_lock.specs.Guarding.{guarding-more}
 use Rattle.body_lock.proofs.Standing.{guarding-adds, user-guarding}
 use Rattle.body_lock.proofs.Staying.{guarded-stays}
 

@@ -1,14 +1,13 @@
-pub mod Going
 pub mod Standing
-pub mod Telling
-pub mod Phases
 pub mod Boxes
 pub mod Seeing
 pub mod Letting
-pub mod StateWord
 pub mod Locking
 pub mod Staying
+pub mod Bits
 pub mod Stripes
 pub mod Guards
 pub mod TakingAll
+pub mod StayingGone
+pub mod Settling
 pub mod ReadingAll

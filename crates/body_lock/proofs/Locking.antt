@@ -1,5 +1,6 @@
 -- The turns of locking a body.
-use Rattle.std.proofs.Common.{◌≡◌, ◌≢◌, ◌⊎◌, inl, inr, ℕ, suc, ◌<◌, List, [], ◌∷◌, Bool, true, false, eqb, cond, Option, Some, None, refl, ap, sym, ◌∙◌, subst, arith}
+use Rattle.std.proofs.Common.{◌≡◌, ◌≢◌, inl, inr, ℕ, suc, ◌<◌, List, [], ◌∷◌, Bool, true, false, eqb, cond, Option, Some, None, refl, ap, sym, ◌∙◌, subst, arith}
+use Rattle.std.specs.Prelude.{Ok, Err}
 use Rattle.std.proofs.lemmas.Bool.{eq-eqb, ne_eqb}
 use Rattle.std.proofs.lemmas.List.{append-nil}
 use Rattle.body_ident.specs.Id.{Id}
@@ -18,23 +19,23 @@ use Rattle.core_state.specs.Event.{loads_body}
 use Rattle.pass_table.specs.Stepping.{Stepped}
 use Rattle.pass_table.specs.Knowing.{KnowsMore}
 use Rattle.pass_table.specs.Holding.{MayLetGo, LetGo, IsAtRest}
-use Rattle.pass_table.specs.Turning.{IsUnderWay, LostLock, AtMostOneStep, MadeBy}
+use Rattle.pass_table.specs.Turning.{IsUnderWay, Turned, LostLock, IsHeldUp, AtMostOneStep, MadeBy}
+use Rattle.pass_table.specs.declared.turn.Turn.TheVariants.{Done, More, Again}
 use Rattle.pass_table.specs.Trying.{Waited, with_taken}
 use Rattle.pass_table.specs.TakeTurns.{taking_of, IsTaking, HasTaken, turns_left}
 use Rattle.pass_table.specs.declared.take_op.TakeOp.{TakeOp}
 use Rattle.pass_table.specs.Calls.{IsCalling}
-use Rattle.pass_table.proofs.Turning.{one-step}
-use Rattle.pass_table.proofs.Calling.{calling-begun, adds-none, point-now, point-later, calling-role, calling-sizes, calling-more, calling-mode}
+use Rattle.pass_table.proofs.Turning.{one-step, made-by-step}
+use Rattle.pass_table.proofs.Calling.{some-left, calling-begun, adds-none, point-now, point-later, calling-role, calling-sizes, calling-more, calling-mode}
 use Rattle.pass_table.proofs.Knowing.{known-more}
-use Rattle.body_lock.specs.Guarding.{live_state, IsAlone, IsCurrent}
-use Rattle.body_lock.specs.Seeing.{Loaded, IsGoneAt}
+use Rattle.body_lock.specs.Guarding.{IsAlone}
+use Rattle.pass_table.specs.Bodies.{live_state, IsCurrent, Loaded, IsGoneAt}
+use Rattle.pass_table.proofs.Bodies.{loaded-body, gone-now}
 use Rattle.body_lock.specs.declared.lock_op.LockOp.{LockOp}
 use Rattle.body_lock.specs.declared.lock_op.LockStage.{LockStage}
 use Rattle.body_lock.specs.declared.lock_op.LockStage.TheVariants.{Taking, Held, Leaving}
-use Rattle.body_lock.specs.Locking.{turns_from, lock_left, HasStripe, TakesStripe, FoundGone, IsAtStage, IsLocking, IsLockingSo, HasLocked, HasReadLock, HasWriteLock, WasGone}
-use Rattle.body_lock.proofs.Standing.{loaded-body}
-use Rattle.body_lock.proofs.Letting.{let-go-calling, calling-rests}
-use Rattle.body_lock.proofs.StateWord.{gone-now}
+use Rattle.body_lock.specs.Locking.{turns_from, lock_left, HasStripe, TakesStripe, FoundGone, IsAtStage, IsLocking, IsLockingSo, HasLocked, HasReadLock, HasWriteLock, WasGone, IsLockTurn}
+use Rattle.body_lock.proofs.Letting.{let-go-step, let-go-made, let-go-calling, calling-rests}
 
 -- ---- one lock
 
@@ -157,20 +158,50 @@ module _ (operation : LockOp) (taking : TakeOp) (view next : View) (stage : oper
         stage = stripe-taken first.id first.mode start view next locking.rest at.calling (answers (taking_of (stripe_of start.config first.id.index) first.mode) start at.goes) by;
       }
 
-  -- a turn of taking the stripe leaves less to do, or its exchange was lost
-  pub take-turned : (after : TakeOp) → IsUnderWay IsLocking operation view → (turns_left after < turns_left taking) ⊎ ((turns_left after ≡ suc (turns_left taking)) × LostLock view next taking.mode)
-      → (suc (suc (turns_left after)) < lock_left operation) ⊎ ((suc (suc (turns_left after)) ≡ suc (lock_left operation)) × LostLock view next operation.mode)
-  take-turned after under_way turned =
-      let left : lock_left operation ≡ suc (suc (turns_left taking)) = ap turns_from stage in
-      let locking = under_way.goes in
-      let at : TakesStripe under_way.first.id under_way.first.mode under_way.start taking view =
-      subst (λ (s : LockStage). IsAtStage under_way.first.id under_way.first.mode under_way.start s view) stage locking.stage
-      in
-      let modes : taking.mode ≡ operation.mode = at.goes.mode ∙ sym locking.mode in
-      elim turned [
-        | inl less ↦ inl (omega arith)
-        | inr more ↦ inr (let one = more.0 in omega arith, subst (LostLock view next) modes more.1)
-      ]
+  take-at : (under_way : IsUnderWay IsLocking operation view) → TakesStripe under_way.first.id under_way.first.mode under_way.start taking view
+  take-at under_way =
+      subst (λ (s : LockStage). IsAtStage under_way.first.id under_way.first.mode under_way.start s view) stage under_way.goes.stage
+
+  take-mode : IsUnderWay IsLocking operation view → taking.mode ≡ operation.mode
+  take-mode under_way = (take-at under_way).goes.mode ∙ sym under_way.goes.mode
+
+  take-left : lock_left operation ≡ suc (suc (turns_left taking))
+  take-left = ap turns_from stage
+
+  -- the turn that takes the stripe
+  pub take-taken : AtMostOneStep view next → ((first : TakeOp) (start : View) → IsTaking first start taking view → HasTaken first start next) → IsLockTurn More operation (record operation { stage = Held }) view next
+  take-taken step answers = record {
+    step = step;
+    made = by;
+    turned = inl (let left = take-left in let some = some-left taking in omega arith);
+    keeps = take-done answers;
+    answered = λ first start locking. tt;
+  }
+
+  module _ (after : TakeOp) (step : AtMostOneStep view next) (under_way : IsUnderWay IsLocking operation view) (keeps : (first : TakeOp) (start : View) → IsTaking first start taking view → IsTaking first start after next) where
+    -- one after which less is to do, or whose exchange was lost
+    pub take-goes : Turned {T = Unit {0}} More view next taking.mode (turns_left taking) (turns_left after) → IsLockTurn More operation (record operation { stage = Taking after }) view next
+    take-goes turned = record {
+      step = step;
+      made = by;
+      turned = elim turned [
+        | inl less ↦ inl (let left = take-left in omega arith)
+        | inr more ↦ inr (let left = take-left in let one = more.0 in omega arith, subst (LostLock view next) (take-mode under_way) more.1)
+      ];
+      keeps = take-keeps after keeps;
+      answered = λ first start locking. tt;
+    }
+
+    -- one that found a holder
+    pub take-waits : (lock found : ℕ) → Turned {T = Unit {0}} (Again lock found) view next taking.mode (turns_left taking) (turns_left after)
+        → IsLockTurn (Again lock found) operation (record operation { stage = Taking after }) view next
+    take-waits lock found turned = record {
+      step = step;
+      made = by;
+      turned = (let left = take-left in let same = turned.0 in omega arith, subst (λ (m : Mode). IsHeldUp view next m lock found) (take-mode under_way) turned.1);
+      keeps = take-keeps after keeps;
+      answered = λ first start locking. tt;
+    }
 
 -- the load of the state word
 module _ (id : Id) (mode : Mode) (start view next : View) (rest : IsAtRest start) (stripe : HasStripe id mode start view) (below : id.index < start.config.bodies) (state : ℕ)
@@ -213,7 +244,7 @@ gone-leaves id mode start view next state found rest gone go =
 
 module _ (operation : LockOp) (view next : View) (stage : operation.stage ≡ Held) (state index : ℕ) (names : index ≡ operation.id.index)
     (step : Stepped MayLoadBody load_body view (State index) 0 0 state next) where
-  pub state-step : AtMostOneStep view next
+  state-step : AtMostOneStep view next
   state-step = one-step MayLoadBody load_body view next (State index) 0 0 state step (λ before after steps. loads_body steps)
 
   state-loaded : (first : LockOp) (start : View) → IsLocking first start operation view → Loaded view next (State first.id.index) state
@@ -223,14 +254,21 @@ module _ (operation : LockOp) (view next : View) (stage : operation.stage ≡ He
   state-held : (first : LockOp) (start : View) → IsLocking first start operation view → HasStripe first.id first.mode start view
   state-held first start locking = subst (λ (s : LockStage). IsAtStage first.id first.mode start s view) stage locking.stage
 
+  state-made : MadeBy view next None
+  state-made = made-by-step MayLoadBody load_body view next (State index) 0 0 state step
+
   -- the body is live
-  pub state-answers : (seq : ℕ) → seq ≡ operation.id.seq → state ≡ live_state seq → (first : LockOp) (start : View) → IsLocking first start operation view → HasLocked first.id first.mode start next
+  state-answers : (seq : ℕ) → seq ≡ operation.id.seq → state ≡ live_state seq → (first : LockOp) (start : View) → IsLocking first start operation view → HasLocked first.id first.mode start next
   state-answers seq same live first start locking =
       live-locks first.id first.mode start view next locking.rest (state-held first start locking) locking.below state (state-loaded first start locking)
       (live ∙ ap live_state (same ∙ ap (λ (i : Id). i.seq) locking.id))
 
+  pub state-live : (seq : ℕ) → seq ≡ operation.id.seq → state ≡ live_state seq → IsLockTurn (Done (Ok tt)) operation operation view next
+  state-live seq same live =
+      record { step = state-step; made = state-made; turned = tt; keeps = λ first start locking. tt; answered = state-answers seq same live }
+
   -- it is gone
-  pub state-keeps : (seq : ℕ) → seq ≡ operation.id.seq → state ≢ live_state seq
+  state-keeps : (seq : ℕ) → seq ≡ operation.id.seq → state ≢ live_state seq
       → (first : LockOp) (start : View) → IsLocking first start operation view → IsLocking first start (record operation { stage = Leaving state }) next
   state-keeps seq same other first start locking = record {
     id = locking.id;
@@ -240,6 +278,15 @@ module _ (operation : LockOp) (view next : View) (stage : operation.stage ≡ He
     stage =
         other-gone first.id first.mode start view next locking.rest (state-held first start locking) locking.below state (state-loaded first start locking)
         (λ e. other (e ∙ sym (ap live_state (same ∙ ap (λ (i : Id). i.seq) locking.id))));
+  }
+
+  pub state-gone : (seq : ℕ) → seq ≡ operation.id.seq → state ≢ live_state seq → IsLockTurn More operation (record operation { stage = Leaving state }) view next
+  state-gone seq same other = record {
+    step = state-step;
+    made = state-made;
+    turned = inl (let left : lock_left operation ≡ 2 = ap turns_from stage in omega arith);
+    keeps = state-keeps seq same other;
+    answered = λ first start locking. tt;
   }
 
 -- the state word may be loaded
@@ -261,12 +308,21 @@ module _ (operation : LockOp) (view : View) (c : Config) (sizes : view.config �
       subst (λ (l : ℕ). MayLetGo view l) (λ i. stripe_of (sizes i) (sym (ap (λ (k : Id). k.index) locking.id) i))
       (may-let-go under_way.first.id under_way.first.mode under_way.start view locking.rest (leaves-from under_way.first under_way.start locking).calling)
 
-  pub leave-answers : (next : View) (found : ℕ) → LetGo view (stripe_of c operation.id.index) found next → (first : LockOp) (start : View) → IsLocking first start operation view → WasGone first.id start next state
+  leave-answers : (next : View) (found : ℕ) → LetGo view (stripe_of c operation.id.index) found next → (first : LockOp) (start : View) → IsLocking first start operation view → WasGone first.id start next state
   leave-answers next found go first start locking =
       let gone = leaves-from first start locking in
       let start_sizes : view.config ≡ start.config = calling-sizes start view view (Taken (stripe_of start.config first.id.index) first.mode ∷ []) Nothing [] gone.calling in
       gone-leaves first.id first.mode start view next state found locking.rest gone
       (subst (λ (l : ℕ). LetGo view l found next) (λ i. stripe_of ((sym sizes ∙ start_sizes) i) (ap (λ (k : Id). k.index) locking.id i)) go)
+
+  pub leave-turn : (next : View) (found : ℕ) → LetGo view (stripe_of c operation.id.index) found next → IsLockTurn (Done (Err (record { state = state }))) operation operation view next
+  leave-turn next found go = record {
+    step = let-go-step view next (stripe_of c operation.id.index) found go;
+    made = let-go-made view next (stripe_of c operation.id.index) found go;
+    turned = tt;
+    keeps = λ first start locking. tt;
+    answered = leave-answers next found go;
+  }
 
 -- ---- the guards
 

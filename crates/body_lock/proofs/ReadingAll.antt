@@ -1,5 +1,5 @@
 -- How locking several bodies begins, and how their state words are read.
-use Rattle.std.proofs.Common.{◌≡◌, ℕ, ◌+◌, ◌<◌, ◌≤◌, List, [], ◌∷◌, ◌++◌, length, get_or, take, true, refl, ap, sym, ◌∙◌, subst, arith}
+use Rattle.std.proofs.Common.{◌≡◌, ℕ, ◌+◌, ◌-◌, ◌<◌, ◌≤◌, List, [], ◌∷◌, ◌++◌, length, get_or, take, true, refl, ap, sym, ◌∙◌, subst, arith}
 use Rattle.std.specs.Prelude.{All, Contains}
 use Rattle.std.proofs.lemmas.Bool.{false≢true}
 use Rattle.std.proofs.lemmas.Option.{same_Some}
@@ -36,14 +36,14 @@ use Rattle.body_lock.specs.declared.multi_op.MultiStage.TheVariants.{Taking, Hel
 use Rattle.body_lock.specs.declared.multi_op.LockMultiOp.{LockMultiOp}
 use Rattle.body_lock.specs.declared.stripe_set.StripeSet.{StripeSet}
 use Rattle.arrayvec.specs.ArrayVec.{ArrayVec}
-use Rattle.body_lock.specs.Guarding.{IsGuarding}
-use Rattle.body_lock.specs.Seeing.{Loaded, IsGoneAt}
+use Rattle.pass_table.specs.Bodies.{IsGuarding, Loaded, IsGoneAt}
+use Rattle.pass_table.proofs.Bodies.{loaded-body, gone-now}
 use Rattle.body_lock.specs.Stripes.{has_stripe, IsNext, HasNone, AreStripesOf, HoldsAll}
 use Rattle.body_lock.specs.Multi.{IsReachGood, IsEntryGood}
-use Rattle.body_lock.specs.LockingAll.{wanted_ids, body_ids, IsEntryRight, IsReachRight, HeldSince, ReadsStates, IsAtMulti, IsLockingAll, HasMultiLock, SaysEntry, MayLoadState, ReadsEntry, entries-later, held-later}
-use Rattle.body_lock.proofs.Standing.{loaded-body}
+use Rattle.body_lock.specs.Settled.{IsEntrySettled}
+use Rattle.body_lock.specs.LockingAll.{wanted_ids, body_ids, turns_of, multi_left, IsEntryRight, IsReachRight, HeldSince, ReadsStates, IsAtMulti, IsLockingAll, HasMultiLock, SaysEntry, MayLoadState, ReadsEntry, entries-later, held-later}
 use Rattle.body_lock.proofs.Guards.{holds-more}
-use Rattle.body_lock.proofs.StateWord.{gone-now}
+use Rattle.body_lock.proofs.Settling.{entry-settled}
 use Rattle.pass_table.proofs.Calling.{calling-begun}
 
 -- ---- the beginning
@@ -120,6 +120,15 @@ entry-reads id wanted view next index state entry same names step says = record 
 }
 
 -- ---- the states of all
+
+-- one body less is to be looked at
+pub read-less : (operation : LockMultiOp) (bodies : List LockedBody) → operation.stage ≡ Held → (body : LockedBody) → bodies ≡ operation.bodies.items ++ body ∷ [] → length bodies < length operation.wanted.items
+    → turns_of (length operation.wanted.items) (length bodies) operation.stage < multi_left operation
+read-less operation bodies stage body is left =
+    let before : multi_left operation ≡ length operation.wanted.items - length operation.bodies.items = ap (turns_of (length operation.wanted.items) (length operation.bodies.items)) stage in
+    let after : turns_of (length operation.wanted.items) (length bodies) operation.stage ≡ length operation.wanted.items - length bodies = ap (turns_of (length operation.wanted.items) (length bodies)) stage in
+    let count : length bodies ≡ length operation.bodies.items + 1 = ap length is ∙ length-append operation.bodies.items (body ∷ []) in
+    omega arith
 
 module _ (operation : LockMultiOp) (view : View) (stage : operation.stage ≡ Held) (first : LockMultiOp) (start : View) (locking : IsLockingAll first start operation view) where
   reading : ReadsStates locking.number first.stripes.bits first.mode first.wanted.items operation.bodies.items start view
@@ -276,6 +285,10 @@ module _ (operation : LockMultiOp) (view : View) (stage : operation.stage ≡ He
           held = reading.held;
           holds = since;
           each = subst (λ (n : ℕ). All (IsEntryRight n first.mode reading.held next) bodies.items) (sym same) (all-right bodies.items is);
+          settled =
+              All-weaker (IsEntryRight locking.number first.mode reading.held next) (IsEntrySettled start.config start.known next.known)
+              (λ b. entry-settled start reading.held next since.reached found.loaded.now (same_sizes ∙ sizes) held_sizes (since.since.since, since.since.known) locking.number first.mode b)
+              bodies.items (all-right bodies.items is);
           now = found.loaded.now;
           steps = locking.steps;
           calling = next-calling;

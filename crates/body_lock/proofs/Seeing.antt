@@ -23,17 +23,17 @@ use Rattle.core_state.specs.Guards.{scene_at}
 use Rattle.core_state.proofs.Boxes.{box_of-words}
 use Rattle.pass_table.specs.Knowing.{KnowsMore}
 use Rattle.pass_table.specs.Calls.{AtPoint}
-use Rattle.body_lock.specs.Guarding.{IsGuarded}
-use Rattle.body_lock.specs.Seeing.{HasKnownBody, IsTold, IsSeenAt}
-use Rattle.body_lock.proofs.Boxes.{later-word}
+use Rattle.pass_table.specs.Bodies.{IsGuarded, HasKnownBody, IsTold}
+use Rattle.body_lock.specs.Seeing.{IsSeenAt}
+use Rattle.pass_table.proofs.LockedBodies.{word-stays}
 
 -- ---- creations
 
-history-append : (first since : List Item) → history (first ++ since) ≡ history first ++ history since
+pub history-append : (first since : List Item) → history (first ++ since) ≡ history first ++ history since
 history-append first since = filter_map-append made_by first since
 
 -- a log that goes on has no fewer of them
-creations-more : (index : ℕ) (first since : List Item) → creations_in index (history first) ≤ creations_in index (history (first ++ since))
+pub creations-more : (index : ℕ) (first since : List Item) → creations_in index (history first) ≤ creations_in index (history (first ++ since))
 creations-more index first since =
     let parts : creations_in index (history (first ++ since)) ≡ creations_in index (history first ++ history since) = ap (creations_in index) (history-append first since) in
     let sum : creations_in index (history first ++ history since) ≡ creations_in index (history first) + creations_in index (history since) =
@@ -56,21 +56,21 @@ of-record o r P e h = subst (λ (p : Option Record). IsSomeAnd p P) e h
 module _ (id : Id) (start view next : View) (more : KnowsMore start view) (later : KnowsMore view next) (guarded : IsGuarded id view) (told : IsTold id view)
     (layer user : ℕ) (bounds : FixBox) (phase : Phase) (lies : known_word view (Layer id.index) ≡ layer) (has_user : known_word next (User id.index) ≡ user)
     (has_box : (mid : View) × KnowsMore view mid × ((k : ℕ) → k < 6 → known_word mid (BoxWord id.index k) ≡ slice_index (words_of bounds) k))
-    (has_phase : HasKnownBody id.index view (λ r. r.phase ≡ phase)) where
+    (has_phase : HasKnownBody id view (λ r. r.phase ≡ phase)) where
   abbrev shown : BodyView
   shown = record { id = id; layer = layer; bounds = bounds; user = user; phase = phase }
 
   same-bounds : told.body.bounds ≡ bounds
   same-bounds =
       same-boxes told.body.bounds bounds (λ k. known_word view (BoxWord id.index k)) told.bounds
-      (λ k below. sym (later-word id view has_box.0 (BoxWord id.index k) guarded has_box.1 refl) ∙ has_box.2 k below)
+      (λ k below. sym (word-stays id view has_box.0 guarded has_box.1 (BoxWord id.index k) refl) ∙ has_box.2 k below)
 
   same-user : told.body.user ≡ user
-  same-user = sym told.user ∙ (sym (later-word id view next (User id.index) guarded later refl) ∙ has_user)
+  same-user = sym told.user ∙ (sym (word-stays id view next guarded later (User id.index) refl) ∙ has_user)
 
   shows-body : view_of id.index told.body ≡ shown
   shows-body =
-      let phases = of-record (record_at (scene_at view.config view.known) id.index) told.body (λ r. r.phase ≡ phase) told.live has_phase in
+      let phases = (of-record (record_at (scene_at view.config view.known) id.index) told.body (λ r. (r.generation % 256 ≡ id.seq) × (r.phase ≡ phase)) told.live has_phase).1 in
       let layers : told.body.layer ≡ layer = sym told.layer ∙ lies in
       λ i. record { id = record { index = id.index; seq = told.sequence i }; layer = layers i; bounds = same-bounds i; user = same-user i; phase = phases i }
 

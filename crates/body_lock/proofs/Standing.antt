@@ -1,10 +1,10 @@
--- What a pass guards stands still while others act.
+-- A guarded body and the guards of it: while others act, and when the pass gives it another user number.
 use Rattle.std.proofs.Common.{◌≡◌, ℕ, ◌<◌, List, [], ◌∷◌, Some, None, refl, ap, sym, ◌∙◌, subst}
 use Rattle.std.proofs.lemmas.Option.{same_Some}
 use Rattle.body_ident.specs.Id.{Id}
 use Rattle.word_map.specs.declared.config.Config.{Config}
 use Rattle.word_map.specs.declared.name.Name.{Name}
-use Rattle.word_map.specs.declared.name.Name.TheVariants.{State, Phase, User}
+use Rattle.word_map.specs.declared.name.Name.TheVariants.{State, User}
 use Rattle.word_map.specs.Names.{stripe_of}
 use Rattle.scene_model.specs.declared.entry.Entry.TheVariants.{SetUser}
 use Rattle.core_state.specs.declared.item.Item.{Item}
@@ -12,24 +12,19 @@ use Rattle.core_state.specs.declared.view.Mode.TheVariants.{Write}
 use Rattle.core_state.specs.declared.view.Mode.{Mode}
 use Rattle.core_state.specs.declared.view.View.{View}
 use Rattle.core_state.specs.View.{IsPass, mode_of, number_of}
-use Rattle.core_state.specs.Guards.{by_lock}
-use Rattle.core_state.specs.Lives.{IsOfBody, MayLoadBody, under_stripe, load_body, MaySetUser, set_user}
-use Rattle.core_state.specs.Batches.{MayLoadSlot, load_slot}
-use Rattle.core_state.specs.Quietly.{IsSteady, of_pass}
+use Rattle.core_state.specs.Lives.{IsOfBody, MayLoadBody, under_stripe, MaySetUser, set_user}
 use Rattle.pass_table.specs.Knowing.{KnowsMore}
 use Rattle.pass_table.specs.Stepping.{Stepped}
 use Rattle.pass_table.specs.Calls.{Adds, Advances}
 use Rattle.pass_table.proofs.Turning.{made-entry}
 use Rattle.pass_table.proofs.Calling.{Adds-refl, adds-more, adds-made, stored-steady, stepped-stores}
-use Rattle.body_lock.specs.Guarding.{IsGuarding, IsGuarded, IsAlone, guarded-steady, guarding-more}
-use Rattle.body_lock.specs.Seeing.{Loaded, user_item, HasSetUser}
-use Rattle.body_lock.proofs.Going.{stepped-current, stepped-loaded}
+use Rattle.body_lock.specs.Guarding.{IsAlone}
+use Rattle.pass_table.specs.Bodies.{IsGuarding}
+use Rattle.pass_table.proofs.LockedBodies.{live-steady, guarding-more}
+use Rattle.pass_table.proofs.Bodies.{stepped-current}
+use Rattle.body_lock.specs.Seeing.{user_item, HasSetUser}
 
 module _ (number : ℕ) (id : Id) (mode : Mode) (view : View) (guarding : IsGuarding number id mode view) where
-  -- its phase word, which the stripe guards
-  pub phase-steady : IsSteady view (Phase id.index)
-  phase-steady = of_pass (by_lock (stripe_of view.config id.index) mode guarding.stripe refl)
-
   -- what others did added nothing
   pub guarding-adds : (next : View) → KnowsMore view next → Adds view next []
   guarding-adds next more = adds-more view view next [] refl (Adds-refl view number guarding.pass) more
@@ -45,16 +40,6 @@ alone-more number id mode view next alone more = record {
       ap (λ (v : View). mode_of v.locks lock) more.rest
       ∙ alone.only lock (λ same. other (same ∙ ap (λ (v : View). stripe_of v.config id.index) (sym more.rest)));
 }
-
-pub guarded-more : (id : Id) (view next : View) → IsGuarded id view → KnowsMore view next → IsGuarded id next
-guarded-more id view next guarded more = (guarded.0, guarded.1, guarding-more guarded.0 id guarded.1 view guarded.2 next more)
-
--- what a load of a word tells
-pub loaded-body : (view next : View) (name : Name) (found : ℕ) → Stepped MayLoadBody load_body view name 0 0 found next → Loaded view next name found
-loaded-body view next name found stepped = stepped-loaded MayLoadBody load_body view next name 0 0 found stepped (λ v n f a b. refl) (λ word operand. refl)
-
-pub loaded-slot : (view next : View) (name : Name) (found : ℕ) → Stepped MayLoadSlot load_slot view name 0 0 found next → Loaded view next name found
-loaded-slot view next name found stepped = stepped-loaded MayLoadSlot load_slot view next name 0 0 found stepped (λ v n f a b. refl) (λ word operand. refl)
 
 -- what giving the body another user number tells
 pub user-set : (view next : View) (found at index value user : ℕ) → at ≡ index → value ≡ user → Stepped MaySetUser set_user view (User at) value 0 found next → (number : ℕ) → IsPass view number
@@ -86,7 +71,7 @@ module _ (number : ℕ) (id : Id) (mode : Mode) (view next : View) (pass index u
     stripe = user-locks (stripe_of next.config id.index) ∙ (ap (λ (c : Config). mode_of view.locks (stripe_of c id.index)) user-sizes ∙ old.stripe);
     below = subst (λ (c : Config). id.index < c.bodies) (sym user-sizes) old.below;
     state =
-        stored-steady view next (user_item pass index user) set.stored user-sizes (State id.index) (λ e. absurd (cc)) (guarded-steady number id mode view old (State id.index) refl)
+        stored-steady view next (user_item pass index user) set.stored user-sizes (State id.index) (λ e. absurd (cc)) (live-steady id mode view (State id.index) old.stripe old.state refl)
         ∙ old.state;
     done = ap (λ (v : View). v.call.task) set.rest ∙ old.done;
   }

@@ -32,11 +32,9 @@ use Rattle.core_state.proofs.Reading.{word-other}
 use Rattle.core_guard.proofs.Scenes.{place_at-created_other, place_at-destroyed_other}
 use Rattle.pass_table.specs.Knowing.{IsOthers, KnowsMore}
 use Rattle.pass_table.proofs.Keeping.{All-second}
-use Rattle.body_lock.specs.Guarding.{IsGuarding, IsCurrent}
-use Rattle.body_lock.specs.Seeing.{IsTold}
+use Rattle.pass_table.specs.Bodies.{IsGuarding, IsCurrent, IsTold}
+use Rattle.pass_table.proofs.LockedBodies.{tells, guarding-more}
 use Rattle.body_lock.specs.Staying.{IsSameBody, StaysLive, BodyStays}
-use Rattle.body_lock.proofs.Telling.{tells}
-use Rattle.body_lock.specs.Guarding.{guarding-more}
 
 -- ---- one body
 

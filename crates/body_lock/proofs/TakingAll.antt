@@ -1,5 +1,5 @@
 -- The turns of locking several bodies.
-use Rattle.std.proofs.Common.{◌≡◌, ◌≢◌, ◌⊎◌, inl, inr, ℕ, suc, ◌+◌, ◌-◌, ◌*◌, ◌<◌, List, [], ◌∷◌, ◌++◌, length, take, Bool, true, false, eqb, cond, Some, None, refl, ap, sym, ◌∙◌, subst, arith}
+use Rattle.std.proofs.Common.{◌≡◌, ◌≢◌, inl, inr, ℕ, suc, ◌+◌, ◌-◌, ◌*◌, ◌<◌, ◌≤◌, List, [], ◌∷◌, ◌++◌, length, take, Bool, true, false, eqb, cond, Option, Some, None, refl, ap, sym, ◌∙◌, subst, arith}
 use Rattle.std.specs.Prelude.{All}
 use Rattle.std.proofs.lemmas.Bool.{cases_eq, cases_lt, eq-eqb, ne_eqb, false≢true}
 use Rattle.std.proofs.lemmas.List.Elements.{All-nil, Contains-append_left, Contains-push, Contains-push_cases}
@@ -14,12 +14,13 @@ use Rattle.core_state.specs.declared.view.View.{View}
 use Rattle.core_state.specs.Log.{IsPrefix}
 use Rattle.core_state.specs.View.{mode_of, mode_after}
 use Rattle.pass_table.specs.declared.take_op.TakeOp.{TakeOp}
-use Rattle.pass_table.specs.TakeTurns.{taking_of, IsTaking, HasTaken, turns_left}
+use Rattle.pass_table.specs.TakeTurns.{taking_of, IsTaking, HasTaken, turns_after, turns_left}
 use Rattle.pass_table.specs.Trying.{Leaves, with_taken}
-use Rattle.pass_table.specs.Turning.{IsUnderWay, LostLock, MadeBy}
+use Rattle.pass_table.specs.Turning.{IsUnderWay, Turned, LostLock, IsHeldUp, AtMostOneStep, MadeBy}
+use Rattle.pass_table.specs.declared.turn.Turn.TheVariants.{More, Again}
 use Rattle.pass_table.specs.Calls.{IsCalling}
 use Rattle.pass_table.proofs.TakingTurns.{taking-anew}
-use Rattle.pass_table.proofs.Calling.{calling-made, calling-on}
+use Rattle.pass_table.proofs.Calling.{some-left, calling-made, calling-on}
 use Rattle.pass_table.proofs.Between.{more-refl}
 use Rattle.body_lock.specs.declared.multi_guard.LockedBody.{LockedBody}
 use Rattle.body_lock.specs.declared.multi_op.Wanted.{Wanted}
@@ -28,7 +29,7 @@ use Rattle.body_lock.specs.declared.multi_op.MultiStage.TheVariants.{Taking, Hel
 use Rattle.body_lock.specs.declared.multi_op.LockMultiOp.{LockMultiOp}
 use Rattle.body_lock.specs.declared.stripe_set.StripeSet.{StripeSet}
 use Rattle.body_lock.specs.Stripes.{has_stripe, IsNext, HasNone, AreStripesOf, HoldsBelow, HoldsAll}
-use Rattle.body_lock.specs.LockingAll.{wanted_ids, body_ids, turns_of, multi_left, IsEntryRight, TakesNext, IsAtMulti, IsLockingAll, ComesAfter}
+use Rattle.body_lock.specs.LockingAll.{wanted_ids, body_ids, turns_of, multi_left, IsEntryRight, TakesNext, IsAtMulti, IsLockingAll, IsMultiTurn, ComesAfter}
 
 -- ---- the stripes of ids
 
@@ -102,6 +103,11 @@ holds-whole view bits mode from holds none = record {
 }
 
 -- ---- the turns that take stripes
+
+-- a lock takes two turns at most
+few-turns : (loaded : Option ℕ) → turns_after loaded ≤ 2
+few-turns None = omega arith
+few-turns (Some word) = omega arith
 
 module _ (operation : LockMultiOp) (stripe : ℕ) (taking : TakeOp) (view next : View) (stage : operation.stage ≡ Taking stripe taking) (by : MadeBy view next None) where
   at-taking : (first : LockMultiOp) (start : View) → IsLockingAll first start operation view → TakesNext first.stripes.bits first.mode operation.bodies.items stripe taking view
@@ -202,16 +208,62 @@ module _ (operation : LockMultiOp) (stripe : ℕ) (taking : TakeOp) (view next :
             (calling.adds.since, calling.adds.known) locking.begun.some at.none (all-taken answers first start locking) comes_first;
       })
 
-  -- a turn of taking a stripe leaves less to do, or its exchange was lost
-  pub all-turned : (after : TakeOp) → IsUnderWay IsLockingAll operation view → (turns_left after < turns_left taking) ⊎ ((turns_left after ≡ suc (turns_left taking)) × LostLock view next taking.mode)
-      → (turns_left after + (2 * (64 - stripe) + length operation.wanted.items) < multi_left operation)
-      ⊎ ((turns_left after + (2 * (64 - stripe) + length operation.wanted.items) ≡ suc (multi_left operation)) × LostLock view next operation.mode)
-  all-turned after under_way turned =
-      let left : multi_left operation ≡ turns_left taking + (2 * (64 - stripe) + length operation.wanted.items) = ap (turns_of (length operation.wanted.items) (length operation.bodies.items)) stage in
-      let locking = under_way.goes in
-      let at = at-taking under_way.first under_way.start locking in
-      let modes : taking.mode ≡ operation.mode = at.goes.mode ∙ sym locking.mode in
-      elim turned [
-        | inl less ↦ inl (omega arith)
-        | inr more ↦ inr (let one = more.0 in omega arith, subst (LostLock view next) modes more.1)
-      ]
+  -- ---- what these turns owe
+
+  module _ (step : AtMostOneStep view next) (under_way : IsUnderWay IsLockingAll operation view) where
+    take-at : TakesNext under_way.first.stripes.bits under_way.first.mode operation.bodies.items stripe taking view
+    take-at = at-taking under_way.first under_way.start under_way.goes
+
+    take-mode : taking.mode ≡ operation.mode
+    take-mode = take-at.goes.mode ∙ sym under_way.goes.mode
+
+    all-left : multi_left operation ≡ turns_left taking + (2 * (64 - stripe) + length operation.wanted.items)
+    all-left = ap (turns_of (length operation.wanted.items) (length operation.bodies.items)) stage
+
+    -- what comes once it is taken takes fewer turns
+    after-less : (bits : ℕ) (mode : Mode) (after : MultiStage) → ComesAfter bits mode (suc stripe) next after
+        → turns_of (length operation.wanted.items) (length operation.bodies.items) after < turns_left taking + (2 * (64 - stripe) + length operation.wanted.items)
+    after-less bits mode (Taking s t) comes =
+        let above = comes.0.above in
+        let below = comes.0.below in
+        let few = few-turns t.loaded in
+        let some = some-left taking in
+        omega arith
+    after-less bits mode Held comes = let some = some-left taking in omega arith
+
+    pub all-took : ((first : TakeOp) (start : View) → IsTaking first start taking view → HasTaken first start next) → (after : MultiStage) (last : View) → last ≡ next
+        → ComesAfter operation.stripes.bits operation.mode (suc stripe) next after → IsMultiTurn More operation (record operation { stage = after }) view last
+    all-took answers after last same comes =
+        subst (IsMultiTurn More operation (record operation { stage = after }) view) (sym same)
+        (record {
+          step = step;
+          made = by;
+          turned = inl (let left = all-left in let less = after-less operation.stripes.bits operation.mode after comes in omega arith);
+          keeps = all-done answers after next refl comes;
+          answered = λ first start locking. tt;
+        })
+
+    module _ (after : TakeOp) (keeps : (first : TakeOp) (start : View) → IsTaking first start taking view → IsTaking first start after next) where
+      -- one after which less is to do, or whose exchange was lost
+      pub all-goes : Turned {T = Unit {0}} More view next taking.mode (turns_left taking) (turns_left after) → IsMultiTurn More operation (record operation { stage = Taking stripe after }) view next
+      all-goes turned = record {
+        step = step;
+        made = by;
+        turned = elim turned [
+          | inl less ↦ inl (let left = all-left in omega arith)
+          | inr more ↦ inr (let left = all-left in let one = more.0 in omega arith, subst (LostLock view next) take-mode more.1)
+        ];
+        keeps = all-keeps after keeps;
+        answered = λ first start locking. tt;
+      }
+
+      -- one that found a holder
+      pub all-waits : (lock found : ℕ) → Turned {T = Unit {0}} (Again lock found) view next taking.mode (turns_left taking) (turns_left after)
+          → IsMultiTurn (Again lock found) operation (record operation { stage = Taking stripe after }) view next
+      all-waits lock found turned = record {
+        step = step;
+        made = by;
+        turned = (let left = all-left in let same = turned.0 in omega arith, subst (λ (m : Mode). IsHeldUp view next m lock found) take-mode turned.1);
+        keeps = all-keeps after keeps;
+        answered = λ first start locking. tt;
+      }

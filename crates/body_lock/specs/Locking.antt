@@ -1,5 +1,5 @@
 -- Locking a body by turns.
-use Rattle.std.specs.Prelude.{◌≡◌, ℕ, suc, ◌<◌, [], ◌∷◌, Result, Ok, Err}
+use Rattle.std.specs.Prelude.{◌≡◌, ℕ, suc, ◌<◌, [], ◌∷◌, Result, Ok, Err, None}
 use Rattle.body_ident.specs.Id.{Id}
 use Rattle.word_map.specs.declared.config.Config.{Config}
 use Rattle.word_map.specs.Names.{stripe_of}
@@ -9,11 +9,12 @@ use Rattle.core_state.specs.declared.view.LockStep.TheVariants.{Taken}
 use Rattle.core_state.specs.declared.view.Task.TheVariants.{Nothing}
 use Rattle.core_state.specs.declared.view.View.{View}
 use Rattle.core_state.specs.View.{IsPass}
+use Rattle.pass_table.specs.declared.turn.Turn.{Turn}
 use Rattle.pass_table.specs.declared.take_op.TakeOp.{TakeOp}
 use Rattle.pass_table.specs.TakeTurns.{taking_of, IsTaking, turns_left, taking-later}
 use Rattle.pass_table.specs.Knowing.{KnowsMore}
 use Rattle.pass_table.specs.Holding.{IsAtRest}
-use Rattle.pass_table.specs.Calls.{Adds, AtPoint, IsCalling, RestsAgain}
+use Rattle.pass_table.specs.Calls.{Adds, AtPoint, IsCalling, RestsAgain, IsTurn}
 use Rattle.pass_table.proofs.Calling.{calling-more, point-later}
 use Rattle.body_lock.specs.declared.gone.Gone.{Gone}
 use Rattle.body_lock.specs.declared.lock_op.LockOp.{LockOp}
@@ -21,8 +22,8 @@ use Rattle.body_lock.specs.declared.lock_op.LockStage.{LockStage}
 use Rattle.body_lock.specs.declared.lock_op.LockStage.TheVariants.{Taking, Held, Leaving}
 use Rattle.body_lock.specs.declared.body_read.BodyRead.{BodyRead}
 use Rattle.body_lock.specs.declared.body_write.BodyWrite.{BodyWrite}
-use Rattle.body_lock.specs.Guarding.{IsAlone, IsCurrent, IsReading, IsWriting}
-use Rattle.body_lock.specs.Seeing.{IsGoneAt}
+use Rattle.body_lock.specs.Guarding.{IsAlone, IsReading, IsWriting}
+use Rattle.pass_table.specs.Bodies.{IsCurrent, IsGoneAt}
 
 -- the operation before its first turn, in a world of these sizes
 abbrev pub locking_of : Config → Id → Mode → LockOp
@@ -105,6 +106,11 @@ WriteAnswers id start next (Err refused) = WasGone id start next refused.state
 abbrev pub LockAnswers : Id → Mode → View → View → Result (Unit {0}) Gone → Type 0
 LockAnswers id mode start next (Ok done) = HasLocked id mode start next
 LockAnswers id mode start next (Err refused) = WasGone id start next refused.state
+
+-- what a turn of it owes
+abbrev pub IsLockTurn : Turn (Result (Unit {0}) Gone) → LockOp → LockOp → View → View → Type 0
+IsLockTurn turn before after view next =
+    IsTurn IsLocking (λ first start end answer. LockAnswers first.id first.mode start end answer) lock_left (λ operation. None) before.mode turn before after view next
 
 -- a look or a meeting between two turns does no harm
 stage-later : (id : Id) (mode : Mode) (start : View) (stage : LockStage) (view next : View) → KnowsMore view next → IsAtStage id mode start stage view → IsAtStage id mode start stage next

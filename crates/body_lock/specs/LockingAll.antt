@@ -1,5 +1,5 @@
 -- Locking several bodies by turns.
-use Rattle.std.specs.Prelude.{◌≡◌, ◌≢◌, ℕ, ◌+◌, ◌-◌, ◌*◌, ◌<◌, ◌≤◌, true, List, [], All, map, length, take}
+use Rattle.std.specs.Prelude.{◌≡◌, ◌≢◌, ℕ, ◌+◌, ◌-◌, ◌*◌, ◌<◌, ◌≤◌, true, List, [], All, map, length, take, None}
 use Rattle.body_ident.specs.Id.{Id}
 use Rattle.core_state.specs.declared.view.Mode.{Mode}
 use Rattle.core_state.specs.declared.view.LockStep.{LockStep}
@@ -7,18 +7,20 @@ use Rattle.core_state.specs.declared.view.Task.TheVariants.{Nothing}
 use Rattle.core_state.specs.declared.view.View.{View}
 use Rattle.core_state.specs.Log.{IsPrefix}
 use Rattle.core_state.specs.View.{IsPass}
+use Rattle.pass_table.specs.declared.turn.Turn.{Turn}
 use Rattle.pass_table.specs.declared.take_op.TakeOp.{TakeOp}
 use Rattle.pass_table.specs.TakeTurns.{taking_of, IsTaking, turns_left}
 use Rattle.pass_table.specs.Knowing.{KnowsMore}
 use Rattle.pass_table.specs.Holding.{IsAtRest}
-use Rattle.pass_table.specs.Calls.{AtPoint, IsCalling}
+use Rattle.pass_table.specs.Calls.{AtPoint, IsCalling, IsTurn}
 use Rattle.std.proofs.Common.{ap, ◌∙◌}
 use Rattle.std.proofs.lemmas.List.Elements.{All-weaker}
 use Rattle.pass_table.specs.TakeTurns.{taking-later}
 use Rattle.pass_table.proofs.TakingTurns.{taking-anew}
 use Rattle.pass_table.proofs.Calling.{calling-more, point-later}
 use Rattle.pass_table.proofs.Between.{more-trans}
-use Rattle.body_lock.specs.Guarding.{guarding-more}
+use Rattle.pass_table.proofs.LockedBodies.{guarding-more}
+use Rattle.pass_table.specs.Bodies.{live_state, IsGuarding, IsCurrent, Loaded, IsGoneAt}
 use Rattle.core_state.specs.View.{mode_of, Holds}
 use Rattle.word_map.specs.Names.{stripe_of}
 use Rattle.word_map.specs.declared.name.Name.TheVariants.{State}
@@ -30,10 +32,9 @@ use Rattle.body_lock.specs.declared.multi_op.Wanted.{Wanted}
 use Rattle.body_lock.specs.declared.multi_op.MultiStage.{MultiStage}
 use Rattle.body_lock.specs.declared.multi_op.MultiStage.TheVariants.{Taking, Held}
 use Rattle.body_lock.specs.declared.multi_op.LockMultiOp.{LockMultiOp}
-use Rattle.body_lock.specs.Guarding.{live_state, IsGuarding, IsCurrent}
-use Rattle.body_lock.specs.Seeing.{Loaded, IsGoneAt}
 use Rattle.body_lock.specs.Stripes.{has_stripe, IsNext, HasNone, AreStripesOf, HoldsBelow, HoldsAll}
 use Rattle.body_lock.specs.Multi.{IsMultiGood}
+use Rattle.body_lock.specs.Settled.{IsEntrySettled}
 
 -- the ids of bodies that are wanted, and of those that were looked at
 abbrev pub wanted_ids : List Wanted → List Id
@@ -106,7 +107,7 @@ pub record IsLockingAll (first : LockMultiOp) (start : View) (operation : LockMu
   pub stage : IsAtMulti number first.stripes.bits first.mode first.wanted.items operation.bodies.items start operation.stage view
 
 -- All bodies are locked: their stripes were all held at one point, each once, and are since; what was found of each body
--- is right; and the pass has added nothing
+-- is right; at one point, that at which the call ends, it is so of all of them; and the pass has added nothing
 pub record HasMultiLock (first : LockMultiOp) (start next : View) (guard : MultiGuard) : Type 0 where
   pub good : IsMultiGood guard next
   pub mode : guard.mode ≡ first.mode
@@ -115,9 +116,14 @@ pub record HasMultiLock (first : LockMultiOp) (start next : View) (guard : Multi
   pub held : View
   pub holds : HeldSince guard.stripes.bits guard.mode start held next
   pub each : All (IsEntryRight guard.number guard.mode held next) guard.bodies.items
+  pub settled : All (IsEntrySettled start.config start.known next.known) guard.bodies.items
   pub now : IsCurrent next
   pub steps : List LockStep
   pub calling : IsCalling start next steps Nothing []
+
+-- what a turn of it owes
+abbrev pub IsMultiTurn : Turn MultiGuard → LockMultiOp → LockMultiOp → View → View → Type 0
+IsMultiTurn turn before after view next = IsTurn IsLockingAll HasMultiLock multi_left (λ operation. None) before.mode turn before after view next
 
 -- the same, by the ids and the mode that were asked for
 pub record LocksAll (ids : List Id) (asked : Mode) (start next : View) (guard : MultiGuard) : Type 0 where

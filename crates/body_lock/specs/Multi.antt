@@ -13,7 +13,7 @@ use Rattle.body_lock.specs.declared.multi_guard.MultiEntry.{MultiEntry}
 use Rattle.body_lock.specs.declared.multi_guard.MultiEntry.TheVariants.{Reached, Gone}
 use Rattle.body_lock.specs.declared.multi_guard.LockedBody.{LockedBody}
 use Rattle.body_lock.specs.declared.multi_guard.MultiGuard.{MultiGuard}
-use Rattle.body_lock.specs.Guarding.{IsGuarding, IsCurrent}
+use Rattle.pass_table.specs.Bodies.{IsGuarding, IsCurrent}
 use Rattle.body_lock.specs.Stripes.{has_stripe, HoldsAll}
 use Rattle.body_lock.specs.Seeing.{IsSeenAt}
 use Rattle.body_lock.specs.Staying.{BodyStays}

@@ -1,5 +1,5 @@
 -- Sets of stripes as bits, and the locks of a pass that holds the stripes of a set.
-use Rattle.std.specs.Prelude.{◌≡◌, ℕ, ◌<◌, ◌≤◌, ◌==◌, Bool, true, false, List, Contains}
+use Rattle.std.specs.Prelude.{◌≡◌, ℕ, ◌<◌, ◌≤◌, ◌==◌, Bool, true, false, if◌then◌else◌, List, Contains}
 use Rattle.std.specs.Int.{bit_at}
 use Rattle.body_ident.specs.Id.{Id}
 use Rattle.word_map.specs.declared.config.Config.{Config}
@@ -22,6 +22,12 @@ pub record IsNext (bits from stripe : ℕ) : Type 0 where
 -- there is none
 abbrev pub HasNone : ℕ → ℕ → Type 0
 HasNone bits from = (other : ℕ) → from ≤ other → has_stripe bits other ≡ false
+
+-- its first stripe, and the rest of it
+pub record TakesFirst (bits rest stripe : ℕ) : Type 0 where
+  pub first : IsNext bits 0 stripe
+  pub less : rest < bits
+  pub left : (other : ℕ) → has_stripe rest other ≡ if stripe == other then false else has_stripe bits other
 
 -- the set has the stripes of these ids, and no others
 pub record AreStripesOf (c : Config) (ids : List Id) (bits : ℕ) : Type 0 where

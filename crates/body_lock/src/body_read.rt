@@ -3,7 +3,8 @@ ghost use Rattle.std.specs.Prelude.{◌≡◌, []};
 ghost use Rattle.pass_table.specs.Knowing.{KnowsMore};
 ghost use Rattle.pass_table.specs.Calls.{Adds, AtPoint, RestsAgain};
 ghost use Rattle.pass_table.specs.Passes.{view_of, IsOf};
-ghost use Rattle.body_lock.specs.Guarding.{IsReading, IsCurrent};
+ghost use Rattle.body_lock.specs.Guarding.{IsReading};
+ghost use Rattle.pass_table.specs.Bodies.{IsCurrent};
 ghost use Rattle.body_lock.specs.Staying.{BodyStays};
 ghost use Rattle.body_lock.specs.Seeing.{IsSeenAt};
 

@@ -4,7 +4,8 @@ ghost use Rattle.scene_model.specs.declared.entry.Entry.TheVariants.{SetUser};
 ghost use Rattle.pass_table.specs.Knowing.{KnowsMore};
 ghost use Rattle.pass_table.specs.Calls.{Adds, AtPoint, RestsAgain};
 ghost use Rattle.pass_table.specs.Passes.{view_of, IsOf};
-ghost use Rattle.body_lock.specs.Guarding.{IsWriting, IsCurrent};
+ghost use Rattle.body_lock.specs.Guarding.{IsWriting};
+ghost use Rattle.pass_table.specs.Bodies.{IsCurrent};
 ghost use Rattle.body_lock.specs.Staying.{BodyStays};
 ghost use Rattle.body_lock.specs.Seeing.{IsSeenAt, HasSetUser};
 

@@ -56,7 +56,8 @@ pub fn lock_write<R: Wait>(
 }
 
 /// Locks several bodies at once, 1 to 64, and waits until all their stripes are taken. An id may stand there more than
-/// once. It is not refused: of each body the guard tells whether it was reached.
+/// once. It is not refused: of each body the guard tells whether it was reached. All that it tells is so at one point of the
+/// call, the last load, at which all stripes are held.
 pub fn lock_multi<R: Wait>(
     rt: &R,
     world: &World,

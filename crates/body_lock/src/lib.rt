@@ -27,7 +27,7 @@ pub use body_read::BodyRead;
 pub use body_write::BodyWrite;
 pub use calls::{lock_multi, lock_read, lock_write};
 pub use gone::Gone;
-pub use laws::{guards_stay_good, locked_bodies_stay};
+pub use laws::{gone_bodies_stay_gone, guards_stay_good, locked_bodies_stay};
 pub use multi_guard::{MOST, MultiEntry, MultiGuard};
 pub use multi_op::LockMultiOp;
 pub use read_op::LockReadOp;

@@ -1,12 +1,10 @@
 //! Locking a body by turns.
 ghost use Rattle.std.specs.Prelude.{◌≡◌, ◌<◌, None};
-ghost use Rattle.core_state.specs.declared.view.View.{View};
 ghost use Rattle.pass_table.specs.Holding.{IsAtRest};
-ghost use Rattle.pass_table.specs.Turning.{Turned, GoesOn, Answers, IsUnderWay, AtMostOneStep, MadeBy};
+ghost use Rattle.pass_table.specs.Turning.{IsUnderWay};
 ghost use Rattle.pass_table.specs.Passes.{view_of, IsOf};
-ghost use Rattle.body_lock.specs.declared.lock_op.LockOp.{LockOp};
 ghost use Rattle.body_lock.specs.declared.lock_op.LockStage.TheVariants.{Taking, Held, Leaving};
-ghost use Rattle.body_lock.specs.Locking.{locking_of, lock_left, IsLocking, LockAnswers};
+ghost use Rattle.body_lock.specs.Locking.{locking_of, lock_left, IsLocking, LockAnswers, IsLockTurn};
 
 use crate::gone::Gone;
 use crate::lock_op::{LockOp, LockStage};
@@ -80,11 +78,7 @@ impl LockOp {
         requires under_way { IsUnderWay IsLocking self.old (view_of pass.old) }
         requires stage { self.old.stage ≡ Taking taking }
         ensures of { IsOf world.now pass.new }
-        ensures step { AtMostOneStep (view_of pass.old) (view_of pass.new) }
-        ensures made { MadeBy (view_of pass.old) (view_of pass.new) None }
-        ensures turned { Turned result (view_of pass.old) (view_of pass.new) self.old.mode (lock_left self.old) (lock_left self.new) }
-        ensures keeps { (first : LockOp) (start : View) → IsLocking first start self.old (view_of pass.old) → GoesOn result (IsLocking first start self.new (view_of pass.new)) }
-        ensures answers { (first : LockOp) (start : View) → IsLocking first start self.old (view_of pass.old) → Answers result (LockAnswers first.id first.mode start (view_of pass.new)) }
+        ensures turn { IsLockTurn result self.old self.new (view_of pass.old) (view_of pass.new) }
     {
         let mut taking = taking;
         match taking.turn(world, pass) {
@@ -110,11 +104,7 @@ impl LockOp {
         requires under_way { IsUnderWay IsLocking self.old (view_of pass.old) }
         requires stage { self.old.stage ≡ Held }
         ensures of { IsOf world.now pass.new }
-        ensures step { AtMostOneStep (view_of pass.old) (view_of pass.new) }
-        ensures made { MadeBy (view_of pass.old) (view_of pass.new) None }
-        ensures turned { Turned result (view_of pass.old) (view_of pass.new) self.old.mode (lock_left self.old) (lock_left self.new) }
-        ensures keeps { (first : LockOp) (start : View) → IsLocking first start self.old (view_of pass.old) → GoesOn result (IsLocking first start self.new (view_of pass.new)) }
-        ensures answers { (first : LockOp) (start : View) → IsLocking first start self.old (view_of pass.old) → Answers result (LockAnswers first.id first.mode start (view_of pass.new)) }
+        ensures turn { IsLockTurn result self.old self.new (view_of pass.old) (view_of pass.new) }
     {
         let state = step_15(world, pass, Name::State(self.id.index()));
         if state == 256 + u64::from(self.id.seq()) {
@@ -131,11 +121,7 @@ impl LockOp {
         requires under_way { IsUnderWay IsLocking self.old (view_of pass.old) }
         requires stage { self.old.stage ≡ Leaving state }
         ensures of { IsOf world.now pass.new }
-        ensures step { AtMostOneStep (view_of pass.old) (view_of pass.new) }
-        ensures made { MadeBy (view_of pass.old) (view_of pass.new) None }
-        ensures turned { Turned result (view_of pass.old) (view_of pass.new) self.old.mode (lock_left self.old) (lock_left self.new) }
-        ensures keeps { (first : LockOp) (start : View) → IsLocking first start self.old (view_of pass.old) → GoesOn result (IsLocking first start self.new (view_of pass.new)) }
-        ensures answers { (first : LockOp) (start : View) → IsLocking first start self.old (view_of pass.old) → Answers result (LockAnswers first.id first.mode start (view_of pass.new)) }
+        ensures turn { IsLockTurn result self.old self.new (view_of pass.old) (view_of pass.new) }
     {
         unlock(world, pass, self.id);
         Turn::Done(Err(Gone { state }))

@@ -13,7 +13,7 @@ ghost use Rattle.body_lock.specs.Seeing.{HasSetUser};
 ghost use Rattle.body_lock.specs.Multi.{IsMultiGood, SeesEntry};
 
 use crate::gone::Gone;
-use crate::stripe_set::{StripeSet, has_bit};
+use crate::stripe_set::StripeSet;
 use crate::viewing::read_body;
 use crate::words::store_user;
 use arrayvec::ArrayVec;
@@ -140,23 +140,22 @@ impl MultiGuard {
             stripes,
             bodies: _bodies,
         } = self;
-        release_all(world, pass, stripes.bits);
+        release_all(world, pass, stripes);
     }
 }
 
 /// Lets the stripes of a set go.
-fn release_all(world: &World, pass: &mut Pass, bits: u64)
+fn release_all(world: &World, pass: &mut Pass, stripes: StripeSet)
     requires of { IsOf world.now pass.old }
-    requires holds { (mode : Mode) × HoldsAll (view_of pass.old) bits mode }
-    requires within { (stripe : ℕ) → has_stripe bits stripe ≡ true → stripe < (view_of pass.old).config.stripes }
+    requires holds { (mode : Mode) × HoldsAll (view_of pass.old) stripes.bits mode }
+    requires within { (stripe : ℕ) → has_stripe stripes.bits stripe ≡ true → stripe < (view_of pass.old).config.stripes }
     requires done { (view_of pass.old).call.task ≡ Nothing }
     ensures of { IsOf world.now pass.new }
     ensures adds { Adds (view_of pass.old) (view_of pass.new) [] }
     ensures rests { RestsAgain (view_of pass.old) (view_of pass.new) }
 {
-    for stripe in 0..64 {
-        if has_bit(bits, stripe) {
-            release(world, pass, stripe);
-        }
+    let mut held = stripes;
+    while let Some(stripe) = held.take_first() {
+        release(world, pass, stripe);
     }
 }

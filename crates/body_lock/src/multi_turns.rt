@@ -1,15 +1,13 @@
 //! Locking several bodies by turns.
 ghost use Rattle.std.specs.Prelude.{◌≡◌, ◌<◌, ◌≤◌, ℕ, suc, true, None, length, slice_index_or, All};
-ghost use Rattle.core_state.specs.declared.view.View.{View};
 ghost use Rattle.pass_table.specs.Holding.{IsAtRest};
 ghost use Rattle.pass_table.specs.Trying.{mode_if};
-ghost use Rattle.pass_table.specs.Turning.{Turned, GoesOn, Answers, IsUnderWay, AtMostOneStep, MadeBy};
+ghost use Rattle.pass_table.specs.Turning.{IsUnderWay, AtMostOneStep, MadeBy};
 ghost use Rattle.pass_table.specs.Passes.{view_of, IsOf};
-ghost use Rattle.body_lock.specs.declared.multi_op.LockMultiOp.{LockMultiOp};
 ghost use Rattle.body_lock.specs.declared.multi_op.Wanted.{Wanted};
 ghost use Rattle.body_lock.specs.declared.multi_op.MultiStage.TheVariants.{Taking, Held};
 ghost use Rattle.body_lock.specs.Stripes.{has_stripe, AreStripesOf, HoldsBelow};
-ghost use Rattle.body_lock.specs.LockingAll.{wanted_ids, multi_left, IsLockingAll, HasMultiLock, ComesAfter, SaysEntry, MayLoadState, ReadsEntry};
+ghost use Rattle.body_lock.specs.LockingAll.{wanted_ids, multi_left, IsLockingAll, HasMultiLock, IsMultiTurn, ComesAfter, SaysEntry, MayLoadState, ReadsEntry};
 
 use crate::multi_guard::{LockedBody, MOST, MultiEntry, MultiGuard};
 use crate::multi_op::{LockMultiOp, MultiStage, Wanted};
@@ -131,11 +129,7 @@ impl LockMultiOp {
         requires under_way { IsUnderWay IsLockingAll self.old (view_of pass.old) }
         requires stage { self.old.stage ≡ Taking stripe taking }
         ensures of { IsOf world.now pass.new }
-        ensures step { AtMostOneStep (view_of pass.old) (view_of pass.new) }
-        ensures made { MadeBy (view_of pass.old) (view_of pass.new) None }
-        ensures turned { Turned result (view_of pass.old) (view_of pass.new) self.old.mode (multi_left self.old) (multi_left self.new) }
-        ensures keeps { (first : LockMultiOp) (start : View) → IsLockingAll first start self.old (view_of pass.old) → GoesOn result (IsLockingAll first start self.new (view_of pass.new)) }
-        ensures answers { (first : LockMultiOp) (start : View) → IsLockingAll first start self.old (view_of pass.old) → Answers result (HasMultiLock first start (view_of pass.new)) }
+        ensures turn { IsMultiTurn result self.old self.new (view_of pass.old) (view_of pass.new) }
     {
         let mut taking = taking;
         match taking.turn(world, pass) {
@@ -178,11 +172,7 @@ impl LockMultiOp {
         requires under_way { IsUnderWay IsLockingAll self.old (view_of pass.old) }
         requires stage { self.old.stage ≡ Held }
         ensures of { IsOf world.now pass.new }
-        ensures step { AtMostOneStep (view_of pass.old) (view_of pass.new) }
-        ensures made { MadeBy (view_of pass.old) (view_of pass.new) None }
-        ensures turned { Turned result (view_of pass.old) (view_of pass.new) self.old.mode (multi_left self.old) (multi_left self.new) }
-        ensures keeps { (first : LockMultiOp) (start : View) → IsLockingAll first start self.old (view_of pass.old) → GoesOn result (IsLockingAll first start self.new (view_of pass.new)) }
-        ensures answers { (first : LockMultiOp) (start : View) → IsLockingAll first start self.old (view_of pass.old) → Answers result (HasMultiLock first start (view_of pass.new)) }
+        ensures turn { IsMultiTurn result self.old self.new (view_of pass.old) (view_of pass.new) }
     {
         let body = self.read_entry(world, pass);
         self.bodies.push(body);

@@ -1,6 +1,6 @@
 //! Sets of stripes.
 ghost use Rattle.std.specs.Prelude.{◌≡◌, ℕ, true, false, ◌<◌, ◌==◌, if◌then◌else◌, IfSome, IfNone};
-ghost use Rattle.body_lock.specs.Stripes.{has_stripe, IsNext, HasNone};
+ghost use Rattle.body_lock.specs.Stripes.{has_stripe, IsNext, HasNone, TakesFirst};
 
 /// A set of stripes, a bit for each.
 #[derive(Clone, Copy, Debug, PartialEq, Eq)]
@@ -29,27 +29,26 @@ impl StripeSet {
         ensures some { IfSome result (IsNext self.bits from) }
         ensures none { IfNone result (HasNone self.bits from) }
     {
-        next_bit(self.bits, from)
-    }
-}
-
-/// Whether the bit is set.
-pub(crate) fn has_bit(bits: u64, at: u32) -> bool
-    requires { at < 64 }
-    ensures { result ≡ has_stripe bits at }
-{
-    (bits >> at) & 1 == 1
-}
-
-/// The first bit from one on that is set.
-fn next_bit(bits: u64, from: u32) -> Option<u32>
-    ensures some { IfSome result (IsNext bits from) }
-    ensures none { IfNone result (HasNone bits from) }
-{
-    for at in from..64 {
-        if has_bit(bits, at) {
-            return Some(at);
+        if from >= 64 {
+            return None;
         }
+        let rest = self.bits >> from;
+        if rest == 0 {
+            return None;
+        }
+        Some(from + rest.trailing_zeros())
     }
-    None
+
+    /// Takes the first stripe out.
+    pub(crate) fn take_first(&mut self) -> Option<u32>
+        ensures some { IfSome result (TakesFirst self.old.bits self.new.bits) }
+        ensures none { IfNone result (HasNone self.old.bits 0) }
+    {
+        let bits = self.bits;
+        if bits == 0 {
+            return None;
+        }
+        self.bits = bits & (bits - 1);
+        Some(bits.trailing_zeros())
+    }
 }

@@ -6,8 +6,8 @@ ghost use Rattle.core_state.specs.View.{known_word};
 ghost use Rattle.pass_table.specs.Knowing.{KnowsMore};
 ghost use Rattle.pass_table.specs.Calls.{AtPoint};
 ghost use Rattle.pass_table.specs.Passes.{view_of, IsOf};
-ghost use Rattle.body_lock.specs.Guarding.{IsGuarded, IsCurrent};
-ghost use Rattle.body_lock.specs.Seeing.{Loaded, HasKnownBody, IsSeenAt};
+ghost use Rattle.pass_table.specs.Bodies.{IsGuarded, IsCurrent, Loaded, HasKnownBody};
+ghost use Rattle.body_lock.specs.Seeing.{IsSeenAt};
 
 use crate::words::load_word;
 use body_ident::BodyId;
@@ -77,7 +77,7 @@ fn tell_phase(world: &World, pass: &mut Pass, id: BodyId, word: u64, layer: u32)
     ensures guarded { IsGuarded id (view_of pass.new) }
     ensures now { IsCurrent (view_of pass.new) }
     ensures more { KnowsMore (view_of pass.old) (view_of pass.new) }
-    ensures tells { HasKnownBody id.index (view_of pass.new) (λ r. r.phase ≡ result) }
+    ensures tells { HasKnownBody id (view_of pass.new) (λ r. r.phase ≡ result) }
 {
     if word == 0 {
         return Phase::Out;

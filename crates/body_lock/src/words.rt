@@ -6,8 +6,8 @@ ghost use Rattle.core_state.specs.View.{IsPass};
 ghost use Rattle.core_state.specs.Lives.{IsOfBody};
 ghost use Rattle.pass_table.specs.Holding.{MayLetGo, LetGo};
 ghost use Rattle.pass_table.specs.Passes.{view_of, IsOf};
-ghost use Rattle.body_lock.specs.Guarding.{IsGuarding, IsGuarded};
-ghost use Rattle.body_lock.specs.Seeing.{Loaded, HasSetUser};
+ghost use Rattle.pass_table.specs.Bodies.{IsGuarding, IsGuarded, Loaded};
+ghost use Rattle.body_lock.specs.Seeing.{HasSetUser};
 
 use body_ident::BodyId;
 use pass_table::{Pass, World, release, step_15, step_16};

@@ -30,18 +30,17 @@ use Rattle.core_guard.proofs.FreeIndexes.{free-next}
 use Rattle.core_guard.proofs.ListsAgree.{listed-now}
 use Rattle.core_guard.proofs.LivesAgree.{creating-lock, creating-dead, created_made, create_first}
 use Rattle.pass_table.specs.declared.take_op.TakeOp.{TakeOp}
-use Rattle.pass_table.specs.declared.turn.Turn.{Turn}
-use Rattle.pass_table.specs.declared.turn.Turn.TheVariants.{Done, More, Again}
+use Rattle.pass_table.specs.declared.turn.Turn.TheVariants.{Done, More}
 use Rattle.pass_table.specs.Stepping.{step_by, Stored}
-use Rattle.pass_table.specs.TakeTurns.{taking_of, IsTaking, HasTaken, turns_left}
-use Rattle.pass_table.specs.Turning.{AtMostOneStep, MadeBy, Turned, GoesOn, Answers}
+use Rattle.pass_table.specs.TakeTurns.{taking_of, IsTaking, HasTaken}
+use Rattle.pass_table.specs.Turning.{AtMostOneStep, MadeBy}
 use Rattle.pass_table.specs.Holding.{MayLetGo, LetGo, IsAtRest}
 use Rattle.pass_table.specs.Turning.{IsUnderWay}
 use Rattle.pass_table.specs.Calls.{IsCalling}
 use Rattle.pass_table.proofs.Knowing.{known-more}
 use Rattle.pass_table.proofs.TakingTurns.{taking-anew}
 use Rattle.pass_table.proofs.Turning.{one-step}
-use Rattle.pass_table.proofs.Calling.{adds-none, stepped-sizes, stored-gained, stored-made, calling-role, calling-sizes, calling-entry, calling-lock, calling-pass, calling-ends, released-step, released-made, released-left, released-task, released-lawful, taken-calling, waiting-calling, turned-more, turned-again}
+use Rattle.pass_table.proofs.Calling.{adds-none, stepped-sizes, stored-gained, stored-made, calling-role, calling-sizes, calling-entry, calling-lock, calling-pass, calling-ends, released-step, released-made, released-left, released-task, released-lawful, taken-calling, waiting-calling}
 use Rattle.body_slots.specs.declared.answers.Full.{Full}
 use Rattle.body_slots.specs.declared.create_op.CreateStage.{CreateStage}
 use Rattle.body_slots.specs.declared.create_op.CreateStage.TheVariants.{Taking, Locked, Filled, Leaving}
@@ -60,31 +59,6 @@ take-done first start view next taking taken by at = taken-calling start view ne
 pub take-on : (first : CreateOp) (start view next : View) (taking after : TakeOp) → IsTaking (taking_of (index_lock start.config) Write) view after next → MadeBy view next None
     → AtCreate first start view (Taking taking) → AtCreate first start next (Taking after)
 take-on first start view next taking after goes by at = (waiting-calling start view next [] Nothing [] at.0 goes.waited by, taking-anew _ view after next goes)
-
--- a turn that is to be made again, or after which there is more to do
-module _ (before new : CreateOp) (taking after : TakeOp) (view next : View) (is : new ≡ record before { stage = Taking after; made = None }) (at : before.stage ≡ Taking taking)
-    (step : AtMostOneStep view next) (made : MadeBy view next None)
-    (keeps : (first : CreateOp) (start : View) → IsBegun first start before.layer before.bounds before.user → AtCreate first start view (Taking taking) → AtCreate first start next (Taking after)) where
-  take-turn : (turn : Turn (Result Id Full)) → Turned turn view next Write (14 + turns_left taking) (14 + turns_left after)
-      → ((first : CreateOp) (start : View) → IsMaking first start (record before { stage = Taking after; made = None }) next → GoesOn turn (IsMaking first start (record before { stage = Taking after; made = None }) next))
-      → ((first : CreateOp) (start : View) → Answers turn (HasMade first start next)) → IsCreateTurn turn before new view next
-  take-turn turn turned goes answers =
-      subst (λ (o : CreateOp). IsCreateTurn turn before o view next) (sym is) (record {
-        step = step;
-        made = made;
-        turned = subst (λ (s : CreateStage). Turned turn view next Write (stage_left s) (14 + turns_left after)) (sym at) turned;
-        keeps = λ first start making. goes first start (making.0, keeps first start making.0 (subst (AtCreate first start view) at making.1));
-        answered = λ first start making. answers first start;
-      })
-
-  pub take-more : (turn : Turn (Result Id Full)) → turn ≡ More → (mode : Mode) → mode ≡ Write → Turned {T = Unit {0}} More view next mode (turns_left taking) (turns_left after) → IsCreateTurn turn before new view next
-  take-more turn goes mode same turned =
-      subst (λ (t : Turn (Result Id Full)). IsCreateTurn t before new view next) (sym goes)
-      (take-turn More (turned-more (Unit {0}) (Result Id Full) 14 view next mode (turns_left taking) (turns_left after) same turned) (λ first start making. making) (λ first start. tt))
-
-  pub take-again : (lock found : ℕ) (mode : Mode) → mode ≡ Write → Turned {T = Unit {0}} (Again lock found) view next mode (turns_left taking) (turns_left after) → IsCreateTurn (Again lock found) before new view next
-  take-again lock found mode same turned =
-      take-turn (Again lock found) (turned-again (Unit {0}) (Result Id Full) 14 view next mode (turns_left taking) (turns_left after) lock found same turned) (λ first start making. making) (λ first start. tt)
 
 -- ---- creating the body
 

@@ -1,64 +1,57 @@
 -- What each turn of a creation leaves.
 use Rattle.std.specs.Prelude.{slice_index}
-use Rattle.std.proofs.Common.{◌≡◌, ◌≢◌, ℕ, zero, suc, ◌+◌, ◌^◌, ◌<◌, ◌≤◌, List, [], None, Err, Result, inl, inr, refl, ap, sym, ◌∙◌, subst, arith}
+use Rattle.std.proofs.Common.{◌≡◌, ◌≢◌, ℕ, zero, suc, ◌+◌, ◌^◌, ◌<◌, ◌≤◌, [], None, Err, Result, inl, inr, refl, ap, sym, ◌∙◌, subst, arith}
 use Rattle.std.proofs.lemmas.Bool.{cases_lt}
 use Rattle.fixed_box.specs.declared.fix_box.FixBox.{FixBox}
 use Rattle.fixed_box.specs.FixBox.{words_of}
 use Rattle.fixed_box.proofs.Words.{on_axis_in_range, word_of-range}
 use Rattle.body_ident.specs.Id.{Id}
-use Rattle.scene_model.specs.declared.entry.Entry.{Entry}
 use Rattle.word_map.specs.declared.config.Config.{Config}
 use Rattle.word_map.specs.declared.name.Name.{Name}
 use Rattle.word_map.specs.declared.name.Name.TheVariants.{SlotHead, SlotNext, State, Layer, User, BoxWord}
-use Rattle.core_state.specs.declared.view.LockStep.{LockStep}
 use Rattle.core_state.specs.declared.view.Task.{Task}
 use Rattle.core_state.specs.declared.view.Task.TheVariants.{Nothing, Creating}
 use Rattle.core_state.specs.declared.view.View.{View}
-use Rattle.core_state.specs.View.{IsPass, known_word, number_in}
-use Rattle.core_state.specs.Event.{loads_list, stores_head, loads_body, stores_field}
+use Rattle.core_state.specs.View.{IsPass, known_word}
+use Rattle.core_state.specs.Event.{loads_list, stores_head, stores_field}
 use Rattle.core_state.specs.Lists.{MayLoadList, load_list, MayStoreHead, store_head}
 use Rattle.core_state.specs.Lives.{MayLoadBody, load_body, IsCreating, IsFieldOf, MayStoreField, store_field}
-use Rattle.pass_table.specs.declared.turn.Turn.{Turn}
-use Rattle.pass_table.specs.declared.turn.Turn.TheVariants.{More}
 use Rattle.pass_table.specs.Stepping.{Stepped, Stored}
-use Rattle.pass_table.specs.Knowing.{KnowsMore}
 use Rattle.pass_table.specs.Turning.{AtMostOneStep, MadeBy}
 use Rattle.pass_table.specs.Holding.{IsAtRest}
 use Rattle.pass_table.specs.Calls.{StoresWord, IsCalling}
-use Rattle.pass_table.proofs.Knowing.{knows-more}
 use Rattle.pass_table.proofs.Turning.{one-step, made-by-step}
-use Rattle.pass_table.proofs.Calling.{point-now, loaded-word, stores-word, stored-made, word-now, word-beside, calling-role, calling-sizes, calling-more, calling-on, steady-more}
+use Rattle.pass_table.proofs.Calling.{point-now, stores-word, stored-made, word-now, word-beside, calling-sizes, calling-more, calling-on, calling-pass, steady-more}
+use Rattle.pass_table.proofs.Bodies.{loaded-body}
 use Rattle.free_list.specs.Heads.{LoadedHead, LoadedLink, IsDoing, TookOff}
 use Rattle.body_slots.specs.declared.answers.Full.{Full}
 use Rattle.body_slots.specs.declared.create_op.CreateStage.{CreateStage}
 use Rattle.body_slots.specs.declared.create_op.CreateStage.TheVariants.{Locked, First, Linked, Taken, Fields, Filled, Leaving}
 use Rattle.body_slots.specs.declared.create_op.CreateOp.{CreateOp}
 use Rattle.body_slots.specs.Answers.{IsFullAt}
-use Rattle.body_slots.specs.Creating.{field_name, field_values, field_value, HasFieldsOf, list_taken, IsTakenOff, AtCreate, IsBegun, stage_left, IsCreateTurn}
+use Rattle.body_slots.specs.Creating.{field_name, field_values, field_value, HasFieldsOf, list_taken, IsTakenOff, AtCreate, IsBegun, IsMaking, HasMade, stage_left}
+use Rattle.body_slots.proofs.Stages.{Staged}
 use Rattle.body_slots.specs.Later.{list-held, listed-steady, created-steady, field_of}
 
--- ---- turns
+-- ---- stages
 
--- a turn that made no entry and goes on to a stage
-pub went-on : (turn : Turn (Result Id Full)) (before new : CreateOp) (stage after : CreateStage) (view next : View) → turn ≡ More → new ≡ record before { stage = after; made = None } → before.stage ≡ stage
-    → AtMostOneStep view next → MadeBy view next None → stage_left after < stage_left stage
-    → ((first : CreateOp) (start : View) → IsBegun first start before.layer before.bounds before.user → AtCreate first start view stage → AtCreate first start next after)
-    → IsCreateTurn turn before new view next
-went-on turn before new stage after view next goes is at step made less keeps =
-    subst (λ (t : Turn (Result Id Full)). IsCreateTurn t before new view next) (sym goes)
-    (subst (λ (o : CreateOp). IsCreateTurn More before o view next) (sym is) (record {
-      step = step;
-      made = made;
-      turned = inl (subst (λ (s : CreateStage). stage_left after < stage_left s) (sym at) less);
-      keeps = λ first start making. (making.0, keeps first start making.0 (subst (AtCreate first start view) at making.1));
-      answered = λ first start making. tt;
-    }))
+-- a creation goes from stage to stage
+abbrev pub create_stages : Staged (Result Id Full) CreateOp CreateStage
+create_stages = record {
+  under_way = IsMaking;
+  answers = HasMade;
+  made = λ operation. operation.made;
+  stage = λ operation. operation.stage;
+  left = stage_left;
+  at = AtCreate;
+  to = λ operation after. record operation { stage = after; made = None };
+  reached = λ operation after. refl;
+  unmade = λ operation after. refl;
+  holds = λ first start operation view making. making.1;
+  goes = λ first start operation after view next making at. (making.0, at);
+}
 
--- ---- calls under way
-
-module _ (start view : View) (steps : List LockStep) (task : Task) (entries : List Entry) (calling : IsCalling start view steps task entries) where
-  pub calling-pass : IsPass view calling.adds.number
-  calling-pass = ap number_in (calling-role start view view steps task entries calling) ∙ calling.adds.pass
+-- ---- tasks
 
 -- what a begun task leaves
 pub doing-left : (view next : View) (task : Task) → IsDoing view next task → next ≡ record view { known = next.known; joined = next.joined; call = next.call }
@@ -120,33 +113,21 @@ took-made view next number index link pass took = stored-made MayStoreHead store
 pub took-index : (first : CreateOp) (start view next : View) (index link : ℕ) → TookOff view next index link → AtCreate first start view (Linked index link) → AtCreate first start next (Taken index)
 took-index first start view next index link took at = record {
   calling =
-      calling-on start view next _ _ _ at.0 (Creating index) (took-made view next at.0.adds.number index link (calling-pass start view _ _ _ at.0) took)
+      calling-on start view next _ _ _ at.0 (Creating index) (took-made view next at.0.adds.number index link (calling-pass start view view _ _ _ at.0) took)
       (doing-left view next (Creating index) took.doing) (ap (λ (v : View). v.call.task) took.doing.rest);
   below = at.1;
 }
 
 -- ---- the state
 
-module _ (view next : View) (index state : ℕ) (stepped : Stepped MayLoadBody load_body view (State index) 0 0 state next) where
-  pub state-step : AtMostOneStep view next
-  state-step = one-step MayLoadBody load_body view next (State index) 0 0 state stepped (λ before after steps. loads_body steps)
-
-  pub state-made : MadeBy view next None
-  state-made = made-by-step MayLoadBody load_body view next (State index) 0 0 state stepped
-
-  pub state-more : KnowsMore view next
-  state-more = knows-more MayLoadBody load_body view next (State index) 0 0 state stepped (λ v n f a b. refl) (λ word operand. refl)
-
-  pub state-is : known_word next (State index) ≡ state
-  state-is = loaded-word MayLoadBody load_body view next (State index) 0 0 state stepped (λ word operand. refl)
-
-  pub state-loaded : (first : CreateOp) (start : View) → AtCreate first start view (Taken index) → AtCreate first start next (Fields index state 0)
-  state-loaded first start at = (
-    record { calling = calling-more start view next _ _ _ at.calling state-more; below = at.below },
-    state-is,
-    omega arith,
-    λ number below. absurd (omega arith),
-  )
+pub state-loaded : (first : CreateOp) (start view next : View) (index state : ℕ) → Stepped MayLoadBody load_body view (State index) 0 0 state next → AtCreate first start view (Taken index) → AtCreate first start next (Fields index state 0)
+state-loaded first start view next index state stepped at =
+    let loaded = loaded-body view next (State index) state stepped in (
+      record { calling = calling-more start view next _ _ _ at.calling loaded.more; below = at.below },
+      loaded.word,
+      omega arith,
+      λ number below. absurd (omega arith),
+    )
 
 -- ---- the words of the body
 
@@ -222,7 +203,7 @@ module _ (view next : View) (index number value : ℕ) (stored : Stored MayStore
     pub field-taken : IsTakenOff start next index
     field-taken = record {
       calling =
-          calling-on start view next _ _ _ at.0.calling (Creating index) (field-made at.0.calling.adds.number (calling-pass start view _ _ _ at.0.calling))
+          calling-on start view next _ _ _ at.0.calling (Creating index) (field-made at.0.calling.adds.number (calling-pass start view view _ _ _ at.0.calling))
           (field_left ∙ (λ i. record view { known = next.known; joined = sym (ap (λ (v : View). v.joined) field_left) i; call = sym (ap (λ (v : View). v.call) field_left) i }))
           (ap (λ (v : View). v.call.task) field_left ∙ field_task);
       below = at.0.below;

@@ -1,5 +1,5 @@
 -- What the turns of a destruction leave that change the list, destroy the body and let locks go.
-use Rattle.std.proofs.Common.{◌≡◌, ◌≢◌, ℕ, suc, ◌+◌, ◌-◌, ◌<◌, ◌≤◌, List, [], ◌∷◌, ◌++◌, Bool, true, false, Option, Some, None, Ok, Result, eqb, cond, append_assoc, inl, refl, ap, sym, ◌∙◌, subst, arith}
+use Rattle.std.proofs.Common.{◌≡◌, ◌≢◌, ℕ, suc, ◌-◌, ◌<◌, ◌≤◌, List, [], ◌∷◌, ◌++◌, Bool, true, false, Option, Some, None, Ok, Result, eqb, cond, append_assoc, inl, refl, ap, sym, ◌∙◌, subst, arith}
 use Rattle.std.proofs.lemmas.Bool.{ne_eqb}
 use Rattle.body_ident.specs.Id.{Id}
 use Rattle.scene_model.specs.declared.body_view.Phase.TheVariants.{Out}
@@ -22,6 +22,8 @@ use Rattle.core_state.specs.View.{IsPass, Holds, known_word, number_in, mode_of}
 use Rattle.core_state.specs.Event.{stores_link, stores_head, destroys}
 use Rattle.core_state.specs.Kind.{Step, item_of}
 use Rattle.core_state.specs.Guards.{scene_at}
+use Rattle.core_state.specs.Scope.{sight, scene_in}
+use Rattle.core_state.specs.BodiesAgree.{body_scope}
 use Rattle.core_state.specs.Lists.{IsLiveAndOut, HasList, MayStoreLink, store_link, MayStoreHead, store_head}
 use Rattle.core_state.specs.Lives.{MayDestroy, destroy}
 use Rattle.core_state.specs.Locking.{MayRelease, release}
@@ -35,6 +37,9 @@ use Rattle.pass_table.specs.Calls.{StoresWord, IsCalling}
 use Rattle.pass_table.proofs.Knowing.{known-more}
 use Rattle.pass_table.proofs.Turning.{one-step}
 use Rattle.pass_table.proofs.Calling.{adds-none, stepped-sizes, steady-now, stored-gained, stored-made, word-beside, calling-role, calling-sizes, calling-mode, calling-more, calling-on, calling-entry, calling-lock, calling-pass, calling-ends, released-step, released-made, released-left, released-task, released-lawful}
+use Rattle.pass_table.specs.Bodies.{live_state}
+use Rattle.pass_table.proofs.Bodies.{live-at, has-body}
+use Rattle.pass_table.proofs.LockedBodies.{live-steady, phase-steady}
 use Rattle.free_list.specs.Heads.{LoadedHead, LinkedTo, PutInFront}
 use Rattle.free_list.proofs.Popping.{is-linked}
 use Rattle.body_slots.specs.declared.answers.DestroyRefused.{DestroyRefused}
@@ -42,9 +47,8 @@ use Rattle.body_slots.specs.declared.destroy_op.DestroyStage.{DestroyStage}
 use Rattle.body_slots.specs.declared.destroy_op.DestroyStage.TheVariants.{Locked, Headed, Linked, InFront, Destroyed, Leaving}
 use Rattle.body_slots.specs.declared.destroy_op.DestroyOp.{DestroyOp}
 use Rattle.body_slots.specs.Destroying.{HasDestroyed, both_taken, KnowsOut, HasStripeAlone, AtDestroy, IsBegunFor, IsUnmaking, HasUnmade, stage_left, IsDestroyTurn}
-use Rattle.body_slots.specs.DestroyLater.{first-taken, both-stripe, both-list, live-steady, phase-steady, out-more, destroyed-later, answer-later}
+use Rattle.body_slots.specs.DestroyLater.{first-taken, both-stripe, both-list, out-more, destroyed-later, answer-later}
 use Rattle.body_slots.proofs.CreateTurns.{doing-left}
-use Rattle.body_slots.proofs.LiveBodies.{live-at, has-body}
 
 -- ---- with both locks held
 
@@ -65,8 +69,8 @@ module _ (id : Id) (start view : View) (task : Task) (entries : List Entry) (beg
   pub out-beside : (next : View) (name : Name) (value : ℕ) → StoresWord view next name value → next.config ≡ view.config → name ≢ State id.index → name ≢ Phase id.index → KnowsOut id view → KnowsOut id next
   out-beside next name value stores sizes no_state no_phase out =
       let holds = both-stripe id start view task entries begun.rest calling in (
-        word-beside view next name value stores sizes (State id.index) no_state (live-steady id view (State id.index) holds out.0 refl) ∙ out.0,
-        word-beside view next name value stores sizes (Phase id.index) no_phase (phase-steady id view holds) ∙ out.1,
+        word-beside view next name value stores sizes (State id.index) no_state (live-steady id Write view (State id.index) holds out.0 refl) ∙ out.0,
+        word-beside view next name value stores sizes (Phase id.index) no_phase (phase-steady id.index Write view holds) ∙ out.1,
       )
 
 -- ---- the list
@@ -118,7 +122,7 @@ module _ (id : Id) (start view : View) (value : ℕ) (begun : IsBegunFor id star
     state = state_less (known_word view (State id.index)) at.1.0;
   }
     where
-      state_less : (known : ℕ) → known ≡ 256 + id.seq → value ≡ known - 256
+      state_less : (known : ℕ) → known ≡ live_state id.seq → value ≡ known - 256
       state_less known says = omega arith
 
   module _ (next : View) (stored : Stored MayDestroy destroy view (State id.index) value next) where
@@ -157,10 +161,10 @@ module _ (id : Id) (start view : View) (value : ℕ) (begun : IsBegunFor id star
         let holds = both-stripe id start view (Destroying id.index) [] begun.rest at.0 in
         let live =
         live-at stored.1.before id s.laws.bodies (subst (λ (c : Config). id.index < c.bodies) sizes_before begun.below)
-        (steady-now MayDestroy destroy view next (State id.index) value 0 stored.0 stored.1 (State id.index) (live-steady id view (State id.index) holds at.1.0 refl) ∙ at.1.0)
+        (steady-now MayDestroy destroy view next (State id.index) value 0 stored.0 stored.1 (State id.index) (live-steady id Write view (State id.index) holds at.1.0 refl) ∙ at.1.0)
         in
         let out = destroy_out stored.1.before destruction stored.1.allowed.at stored.1.allowed.pass s.formed s.guards s.laws.locks s.laws.bodies asks_destroy live.body live.at in
-        subst (λ (c : Config). HasIdBody (scene_at c stored.1.before.log) id (λ r. r.phase ≡ Out)) (sym sizes_before) (has-body stored.1.before id live (λ r. r.phase ≡ Out) out)
+        subst (λ (c : Config). HasIdBody (scene_at c stored.1.before.log) id (λ r. r.phase ≡ Out)) (sym sizes_before) (has-body (scene_in (sight body_scope stored.1.before)) id live.body live.at live.sequence (λ r. r.phase ≡ Out) out)
 
     pub has-destroyed : HasDestroyed id start next
     has-destroyed = record {

@@ -1,10 +1,8 @@
 -- What the turns of a destruction leave that load words of the body, and those that take locks.
-use Rattle.std.proofs.Common.{◌≡◌, ◌≢◌, ◌⊎◌, ℕ, ◌+◌, ◌%◌, ◌<◌, ◌≤◌, [], Bool, true, false, Option, Some, None, Err, Result, eqb, cond, inl, inr, refl, ap, sym, ◌∙◌, subst, arith}
+use Rattle.std.proofs.Common.{◌≡◌, ◌≢◌, ◌⊎◌, ℕ, ◌+◌, ◌^◌, ◌<◌, ◌≤◌, [], Bool, true, false, Option, Some, None, Err, Result, eqb, cond, inl, inr, refl, ap, sym, ◌∙◌, subst, arith}
 use Rattle.body_ident.specs.Id.{Id}
 use Rattle.scene_model.specs.declared.body_view.Phase.{Phase as BodyPhase}
 use Rattle.scene_model.specs.declared.body_view.Phase.TheVariants.{Held as HeldPhase, In}
-use Rattle.scene_model.specs.Scene.{Scene}
-use Rattle.scene_model.specs.Cause.{HasIdBody, IsCauseAt, gone}
 use Rattle.word_map.specs.declared.config.Config.{Config}
 use Rattle.word_map.specs.declared.name.Name.{Name}
 use Rattle.word_map.specs.declared.name.Name.TheVariants.{State, Phase, Layer, Slot}
@@ -14,83 +12,47 @@ use Rattle.core_state.specs.declared.view.Mode.TheVariants.{Write}
 use Rattle.core_state.specs.declared.view.Task.TheVariants.{Nothing}
 use Rattle.core_state.specs.declared.view.View.{View}
 use Rattle.core_state.specs.View.{Holds, known_word}
-use Rattle.core_state.specs.Core.{word_of}
-use Rattle.core_state.specs.Event.{loads_body, looks}
-use Rattle.core_state.specs.Guards.{scene_at}
-use Rattle.core_state.specs.Looking.{MayLook, look}
 use Rattle.core_state.specs.Lives.{MayLoadBody, load_body}
-use Rattle.core_state.specs.Bodies.{phase_by_slot}
+use Rattle.core_state.specs.Batches.{MayLoadSlot, load_slot}
 use Rattle.core_state.specs.Quietly.{KnowsQuietly}
 use Rattle.core_state.proofs.Quiet.{quiet-word}
 use Rattle.pass_table.specs.declared.take_op.TakeOp.{TakeOp}
-use Rattle.pass_table.specs.declared.turn.Turn.{Turn}
-use Rattle.pass_table.specs.declared.turn.Turn.TheVariants.{More, Again}
 use Rattle.pass_table.specs.Stepping.{Stepped}
-use Rattle.pass_table.specs.Knowing.{KnowsMore}
-use Rattle.pass_table.specs.TakeTurns.{taking_of, IsTaking, HasTaken, turns_left}
-use Rattle.pass_table.specs.Turning.{AtMostOneStep, MadeBy, Turned, GoesOn, Answers}
+use Rattle.pass_table.specs.TakeTurns.{taking_of, IsTaking, HasTaken}
+use Rattle.pass_table.specs.Turning.{MadeBy}
 use Rattle.pass_table.specs.Holding.{IsAtRest}
 use Rattle.pass_table.specs.Calls.{IsCalling}
-use Rattle.pass_table.proofs.Knowing.{knows-more}
+use Rattle.pass_table.specs.Bodies.{Loaded, live_state, KnowsLive, IsGoneAt, IsGuarded, IsTold}
 use Rattle.pass_table.proofs.TakingTurns.{taking-anew}
-use Rattle.pass_table.proofs.Turning.{one-step, made-by-step}
-use Rattle.pass_table.proofs.Calling.{point-now, stepped-sizes, steady-now, loaded-word, loaded-scene, calling-sizes, calling-more, steady-more, taken-calling, waiting-calling, turned-more, turned-again}
+use Rattle.pass_table.proofs.Calling.{point-now, calling-sizes, calling-more, calling-pass, taken-calling, waiting-calling}
+use Rattle.pass_table.proofs.Bodies.{loaded-body, loaded-slot, gone-now}
+use Rattle.pass_table.proofs.LockedBodies.{live-steady, phase-steady, guarded-more, phase-stays, layer-stays, guarded-tells, told-body, told-in, told-held, told-joined, slot-below, layer-below, phase-fits, layer-fits}
 use Rattle.body_slots.specs.declared.answers.DestroyRefused.{DestroyRefused}
 use Rattle.body_slots.specs.declared.answers.DestroyRefused.TheVariants.{Gone, InUse}
 use Rattle.body_slots.specs.declared.destroy_op.DestroyStage.{DestroyStage}
 use Rattle.body_slots.specs.declared.destroy_op.DestroyStage.TheVariants.{TakingStripe, Held, Live, Joining, Placed, TakingList, Locked, Leaving}
 use Rattle.body_slots.specs.declared.destroy_op.DestroyOp.{DestroyOp}
-use Rattle.body_slots.specs.Destroying.{IsGoneAt, IsInUseAt, stripe_taken, KnowsLive, KnowsOut, HasStripeAlone, AtDestroy, IsBegunFor, IsUnmaking, HasUnmade, stage_left, IsDestroyTurn}
-use Rattle.body_slots.specs.DestroyLater.{one-taken, stripe-held, live-steady, phase-steady, live-more}
-use Rattle.body_slots.proofs.LiveBodies.{LiveAt, live-at, gone-at, tells-gone, has-body, phase-in, phase-slot, slot-below, slot-held, slot-in}
+use Rattle.body_slots.specs.Destroying.{IsDestroyAnswer, IsInUseAt, stripe_taken, KnowsOut, HasStripeAlone, AtDestroy, IsBegunFor, IsUnmaking, HasUnmade, stage_left}
+use Rattle.body_slots.specs.DestroyLater.{one-taken, stripe-held}
+use Rattle.body_slots.proofs.Stages.{Staged}
 
-abbrev pub DestroyTurn : Type 0
-DestroyTurn = Turn (Result (Unit {0}) DestroyRefused)
+-- ---- stages
 
--- ---- turns
-
--- a turn that made no entry and goes on to a stage
-pub went-on : (turn : DestroyTurn) (before new : DestroyOp) (stage after : DestroyStage) (view next : View) → turn ≡ More → new ≡ record before { stage = after; made = None } → before.stage ≡ stage
-    → AtMostOneStep view next → MadeBy view next None → stage_left after < stage_left stage
-    → ((id : Id) (start : View) → before.id ≡ id → IsBegunFor id start → AtDestroy id start view stage → AtDestroy id start next after)
-    → IsDestroyTurn turn before new view next
-went-on turn before new stage after view next goes is at step made less keeps =
-    subst (λ (t : DestroyTurn). IsDestroyTurn t before new view next) (sym goes)
-    (subst (λ (o : DestroyOp). IsDestroyTurn More before o view next) (sym is) (record {
-      step = step;
-      made = made;
-      turned = inl (subst (λ (s : DestroyStage). stage_left after < stage_left s) (sym at) less);
-      keeps = λ first start making. (making.0, making.1, keeps first.id start making.0 making.1 (subst (AtDestroy first.id start view) at making.2));
-      answered = λ first start making. tt;
-    }))
-
--- a turn of taking a lock, that is to be made again or after which there is more to do
-module _ (stage_of : TakeOp → DestroyStage) (more : ℕ) (lefts : (taking : TakeOp) → stage_left (stage_of taking) ≡ more + turns_left taking)
-    (before new : DestroyOp) (taking after : TakeOp) (view next : View) (is : new ≡ record before { stage = stage_of after; made = None }) (at : before.stage ≡ stage_of taking)
-    (step : AtMostOneStep view next) (made : MadeBy view next None)
-    (keeps : (id : Id) (start : View) → IsBegunFor id start → AtDestroy id start view (stage_of taking) → AtDestroy id start next (stage_of after)) where
-  take-turn : (turn : DestroyTurn) → Turned turn view next Write (more + turns_left taking) (more + turns_left after)
-      → ((first : DestroyOp) (start : View) → IsUnmaking first start (record before { stage = stage_of after; made = None }) next → GoesOn turn (IsUnmaking first start (record before { stage = stage_of after; made = None }) next))
-      → ((first : DestroyOp) (start : View) → Answers turn (HasUnmade first start next)) → IsDestroyTurn turn before new view next
-  take-turn turn turned goes answers =
-      subst (λ (o : DestroyOp). IsDestroyTurn turn before o view next) (sym is) (record {
-        step = step;
-        made = made;
-        turned =
-            subst (λ (s : DestroyStage). Turned turn view next Write (stage_left s) (stage_left (stage_of after))) (sym at)
-            (subst (λ (n : ℕ). Turned turn view next Write n (stage_left (stage_of after))) (sym (lefts taking)) (subst (λ (n : ℕ). Turned turn view next Write (more + turns_left taking) n) (sym (lefts after)) turned));
-        keeps = λ first start making. goes first start (making.0, making.1, keeps first.id start making.1 (subst (AtDestroy first.id start view) at making.2));
-        answered = λ first start making. answers first start;
-      })
-
-  pub take-more : (turn : DestroyTurn) → turn ≡ More → (mode : Mode) → mode ≡ Write → Turned {T = Unit {0}} More view next mode (turns_left taking) (turns_left after) → IsDestroyTurn turn before new view next
-  take-more turn goes mode same turned =
-      subst (λ (t : DestroyTurn). IsDestroyTurn t before new view next) (sym goes)
-      (take-turn More (turned-more (Unit {0}) (Result (Unit {0}) DestroyRefused) more view next mode (turns_left taking) (turns_left after) same turned) (λ first start making. making) (λ first start. tt))
-
-  pub take-again : (lock found : ℕ) (mode : Mode) → mode ≡ Write → Turned {T = Unit {0}} (Again lock found) view next mode (turns_left taking) (turns_left after) → IsDestroyTurn (Again lock found) before new view next
-  take-again lock found mode same turned =
-      take-turn (Again lock found) (turned-again (Unit {0}) (Result (Unit {0}) DestroyRefused) more view next mode (turns_left taking) (turns_left after) lock found same turned) (λ first start making. making) (λ first start. tt)
+-- a destruction goes from stage to stage
+abbrev pub destroy_stages : Staged (Result (Unit {0}) DestroyRefused) DestroyOp DestroyStage
+destroy_stages = record {
+  under_way = IsUnmaking;
+  answers = HasUnmade;
+  made = λ operation. operation.made;
+  stage = λ operation. operation.stage;
+  left = stage_left;
+  at = λ first start view stage. AtDestroy first.id start view stage;
+  to = λ operation after. record operation { stage = after; made = None };
+  reached = λ operation after. refl;
+  unmade = λ operation after. refl;
+  holds = λ first start operation view making. making.2;
+  goes = λ first start operation after view next making at. (making.0, making.1, at);
+}
 
 -- ---- taking the stripe
 
@@ -107,8 +69,8 @@ stripe-on id start view next taking after goes by at = (waiting-calling start vi
 -- what is known of the body stands
 out-quiet : (id : Id) (view next : View) → KnowsQuietly view next → next.config ≡ view.config → Holds view (stripe_of view.config id.index) Write → KnowsOut id view → KnowsOut id next
 out-quiet id view next quiet sizes holds out = (
-  quiet-word view next (State id.index) quiet sizes (live-steady id view (State id.index) holds out.0 refl) ∙ out.0,
-  quiet-word view next (Phase id.index) quiet sizes (phase-steady id view holds) ∙ out.1,
+  quiet-word view next (State id.index) quiet sizes (live-steady id Write view (State id.index) holds out.0 refl) ∙ out.0,
+  quiet-word view next (Phase id.index) quiet sizes (phase-steady id.index Write view holds) ∙ out.1,
 )
 
 pub list-done : (id : Id) (start view next : View) (taking : TakeOp) → IsAtRest start → HasTaken (taking_of (index_lock start.config) Write) view next → MadeBy view next None
@@ -136,180 +98,149 @@ stripe-alone c id = record { held = one-taken (stripe_of c id.index); alone = λ
     go true = refl
     go false = refl
 
--- the body is held or in the broad phase
-in-use-at : (id : Id) (start next : View) (phase : BodyPhase) → IsCalling start next (stripe_taken start.config id) Nothing [] → HasIdBody (scene_at next.config next.known) id (λ r. r.phase ≡ phase)
-    → HasIdBody (scene_at next.config next.known) id (λ r. (r.phase ≡ HeldPhase) ⊎ (r.phase ≡ In)) → AtDestroy id start next (Leaving (Err (InUse phase)))
-in-use-at id start next phase calling is cause = (
-  stripe_taken start.config id,
-  [],
-  calling,
-  stripe-alone start.config id,
-  record {
-    adds = calling.adds;
-    at =
-        point-now start next [] (IsInUseAt start.config id phase) calling.adds
-        (subst (λ (c : Config). IsInUseAt c id phase next.known) (calling-sizes start next next _ _ _ calling) (record { cause = cause; is = is }));
-  },
-)
+-- so it is left to let the stripe go, and to answer this
+leaving : (id : Id) (start next : View) (answer : Result (Unit {0}) DestroyRefused) → IsCalling start next (stripe_taken start.config id) Nothing [] → IsDestroyAnswer id start next answer → AtDestroy id start next (Leaving answer)
+leaving id start next answer calling right = (stripe_taken start.config id, [], calling, stripe-alone start.config id, right)
+
+-- the body is in this phase, in which it is held or in the broad phase
+in-use : (id : Id) (start next : View) (phase : BodyPhase) (told : IsTold id next) → IsCalling start next (stripe_taken start.config id) Nothing [] → told.body.phase ≡ phase → (phase ≡ HeldPhase) ⊎ (phase ≡ In)
+    → AtDestroy id start next (Leaving (Err (InUse phase)))
+in-use id start next phase told calling is used =
+    leaving id start next (Err (InUse phase)) calling
+    (record {
+      adds = calling.adds;
+      at =
+          point-now start next [] (IsInUseAt start.config id phase) calling.adds
+          (subst (λ (c : Config). IsInUseAt c id phase next.known) (calling-sizes start next next _ _ _ calling)
+          (record {
+            cause = told-body id next told (λ r. (r.phase ≡ HeldPhase) ⊎ (r.phase ≡ In)) (subst (λ (p : BodyPhase). (p ≡ HeldPhase) ⊎ (p ≡ In)) (sym is) used);
+            is = told-body id next told (λ r. r.phase ≡ phase) is;
+          }));
+    })
 
 -- ---- loads of the body's words
 
-module _ (view next : View) (name : Name) (found : ℕ) (stepped : Stepped MayLoadBody load_body view name 0 0 found next) where
-  pub body-step : AtMostOneStep view next
-  body-step = one-step MayLoadBody load_body view next name 0 0 found stepped (λ before after steps. loads_body steps)
-
-  pub body-made : MadeBy view next None
-  body-made = made-by-step MayLoadBody load_body view next name 0 0 found stepped
-
-  pub body-more : KnowsMore view next
-  body-more = knows-more MayLoadBody load_body view next name 0 0 found stepped (λ v n f a b. refl) (λ word operand. refl)
-
-  pub body-is : known_word next name ≡ found
-  body-is = loaded-word MayLoadBody load_body view next name 0 0 found stepped (λ word operand. refl)
-
-  body_below : (id : Id) (start : View) → IsBegunFor id start → view.config ≡ start.config → id.index < stepped.before.config.bodies
-  body_below id start begun sizes =
-      subst (λ (c : Config). id.index < c.bodies) (sym sizes ∙ stepped-sizes MayLoadBody load_body view next name 0 0 found stepped) begun.below
-
-  -- the body is live at the load
-  pub body-live : (id : Id) (start : View) → IsBegunFor id start → view.config ≡ start.config → Holds view (stripe_of view.config id.index) Write → KnowsLive id view → LiveAt stepped.before id
-  body-live id start begun sizes holds live =
-      live-at stepped.before id stepped.stands.laws.bodies (body_below id start begun sizes)
-      (steady-now MayLoadBody load_body view next name 0 0 found stepped (State id.index) (live-steady id view (State id.index) holds live refl) ∙ live)
-
 -- the state says that the body is live
-pub state-live : (id : Id) (start view next : View) (state : ℕ) → Stepped MayLoadBody load_body view (State id.index) 0 0 state next → state ≡ 256 + id.seq → AtDestroy id start view Held → AtDestroy id start next Live
+pub state-live : (id : Id) (start view next : View) (state : ℕ) → Stepped MayLoadBody load_body view (State id.index) 0 0 state next → state ≡ live_state id.seq → AtDestroy id start view Held → AtDestroy id start next Live
 state-live id start view next state stepped says at =
-    (calling-more start view next _ _ _ at (body-more view next (State id.index) state stepped), body-is view next (State id.index) state stepped ∙ says)
+    let loaded = loaded-body view next (State id.index) state stepped in
+    (calling-more start view next _ _ _ at loaded.more, loaded.word ∙ says)
 
 -- or that it is gone
-pub state-gone : (id : Id) (start view next : View) (state : ℕ) → IsBegunFor id start → Stepped MayLoadBody load_body view (State id.index) 0 0 state next → state ≢ 256 + id.seq
+pub state-gone : (id : Id) (start view next : View) (state : ℕ) → IsBegunFor id start → Stepped MayLoadBody load_body view (State id.index) 0 0 state next → state ≢ live_state id.seq
     → AtDestroy id start view Held → AtDestroy id start next (Leaving (Err (Gone state)))
 state-gone id start view next state begun stepped other at =
-    let name = State id.index in
-    let calling = calling-more start view next _ _ _ at (body-more view next name state stepped) in
-    let below = body_below view next name state stepped id start begun (calling-sizes start view view _ _ _ at) in
-    let apart : word_of stepped.before name ≢ 256 + id.seq = λ same. other (stepped.finds ∙ same) in
-    let tells = tells-gone stepped.before id stepped.stands.laws.bodies below apart in (
-      stripe_taken start.config id,
-      [],
-      calling,
-      stripe-alone start.config id,
-      record {
-        adds = calling.adds;
-        at =
-            point-now start next [] (IsGoneAt start.config id state) calling.adds
-            (subst (λ (c : Config). IsGoneAt c id state next.known) (calling-sizes start next next _ _ _ calling)
-            (record {
-              is = sym (body-is view next name state stepped);
-              cause =
-                  subst (IsCauseAt (gone id)) (sym (loaded-scene MayLoadBody load_body view next name 0 0 state stepped (λ word operand. refl)))
-                  (gone-at stepped.before id stepped.stands.laws.bodies below apart);
-              tells = subst (λ (n : ℕ). (n < 256) ⊎ (n % 256 ≢ id.seq)) (sym stepped.finds) tells;
-            }));
-      },
-    )
+    let loaded = loaded-body view next (State id.index) state stepped in
+    let calling = calling-more start view next _ _ _ at loaded.more in
+    let sizes = calling-sizes start next next _ _ _ calling in
+    let below = subst (λ (c : Config). id.index < c.bodies) (sym sizes) begun.below in
+    leaving id start next (Err (Gone state)) calling
+    (record {
+      adds = calling.adds;
+      at =
+          point-now start next [] (IsGoneAt start.config id state) calling.adds
+          (subst (λ (c : Config). IsGoneAt c id state next.known) sizes (gone-now next loaded.now id below state loaded.word other));
+    })
+
+-- a pass that knows the body as live guards it
+is-guarded : (id : Id) (start view : View) → IsBegunFor id start → IsCalling start view (stripe_taken start.config id) Nothing [] → KnowsLive id view → IsGuarded id view
+is-guarded id start view begun calling live = (
+  calling.adds.number,
+  Write,
+  record {
+    pass = calling-pass start view view _ _ _ calling;
+    stripe = stripe-held id start view _ _ begun.rest calling;
+    below = subst (λ (c : Config). id.index < c.bodies) (sym (calling-sizes start view view _ _ _ calling)) begun.below;
+    state = live;
+    done = calling.doing;
+  },
+)
+
+-- so it does after a load
+module _ (id : Id) (start view next : View) (name : Name) (found : ℕ) (begun : IsBegunFor id start) (calling : IsCalling start view (stripe_taken start.config id) Nothing []) (live : KnowsLive id view)
+    (loaded : Loaded view next name found) where
+  guarded_still : IsGuarded id next
+  guarded_still = guarded-more id view next (is-guarded id start view begun calling live) loaded.more
+
+  calling_still : IsCalling start next (stripe_taken start.config id) Nothing []
+  calling_still = calling-more start view next _ _ _ calling loaded.more
+
+  sizes_still : next.config ≡ start.config
+  sizes_still = calling-sizes start next next _ _ _ calling_still
 
 module _ (id : Id) (start view next : View) (phase : ℕ) (begun : IsBegunFor id start) (stepped : Stepped MayLoadBody load_body view (Phase id.index) 0 0 phase next) (at : AtDestroy id start view Live) where
-  phase_holds : Holds view (stripe_of view.config id.index) Write
-  phase_holds = stripe-held id start view _ _ begun.rest at.0
+  phase_loaded : Loaded view next (Phase id.index) phase
+  phase_loaded = loaded-body view next (Phase id.index) phase stepped
 
-  phase_more : KnowsMore view next
-  phase_more = body-more view next (Phase id.index) phase stepped
-
-  phase_live : LiveAt stepped.before id
-  phase_live = body-live view next (Phase id.index) phase stepped id start begun (calling-sizes start view view _ _ _ at.0) phase_holds at.1
+  phase_guarded : IsGuarded id next
+  phase_guarded = guarded_still id start view next (Phase id.index) phase begun at.0 at.1 phase_loaded
 
   pub phase-calling : IsCalling start next (stripe_taken start.config id) Nothing []
-  phase-calling = calling-more start view next _ _ _ at.0 phase_more
+  phase-calling = calling_still id start view next (Phase id.index) phase begun at.0 at.1 phase_loaded
 
   -- it says that the body is out
   pub phase-out : phase ≡ 0 → KnowsOut id next
-  phase-out none = (live-more id view next phase_more phase_holds at.1, body-is view next (Phase id.index) phase stepped ∙ none)
+  phase-out none = (phase_guarded.2.state, phase_loaded.word ∙ none)
 
   -- or that it is in the broad phase
   pub phase-is_in : phase ≡ 1 → AtDestroy id start next (Leaving (Err (InUse In)))
   phase-is_in one =
-      let is = phase-in stepped.before id phase_live (sym stepped.finds ∙ one) in
-      let scene = sym (loaded-scene MayLoadBody load_body view next (Phase id.index) 0 0 phase stepped (λ word operand. refl)) in
-      in-use-at id start next In phase-calling (subst (λ (s : Scene). HasIdBody s id (λ r. r.phase ≡ In)) scene (has-body stepped.before id phase_live (λ r. r.phase ≡ In) is))
-      (subst (λ (s : Scene). HasIdBody s id (λ r. (r.phase ≡ HeldPhase) ⊎ (r.phase ≡ In))) scene (has-body stepped.before id phase_live (λ r. (r.phase ≡ HeldPhase) ⊎ (r.phase ≡ In)) (inr is)))
+      let told = guarded-tells id next phase_guarded phase_loaded.now in in-use id start next In told phase-calling (told-in id next told (phase_loaded.word ∙ one)) (inr refl)
 
   -- or it names a slot
-  pub slot-named : (slot : ℕ) → phase ≡ 2 + slot → slot < start.config.slots
-  slot-named slot names =
-      let below = slot-below stepped.before id phase_live phase stepped.finds in
-      let sizes : stepped.before.config ≡ start.config =
-      sym (stepped-sizes MayLoadBody load_body view next (Phase id.index) 0 0 phase stepped) ∙ calling-sizes start view view _ _ _ at.0
-      in
-      let here = subst (λ (c : Config). phase < 2 + c.slots) sizes below in
-      omega arith
-
   pub phase-joining : (slot : ℕ) → phase ≡ 2 + slot → AtDestroy id start next (Joining slot)
-  phase-joining slot names =
-      (phase-calling, live-more id view next phase_more phase_holds at.1, body-is view next (Phase id.index) phase stepped ∙ names, slot-named slot names)
+  phase-joining slot names = (
+    phase-calling,
+    phase_guarded.2.state,
+    phase_loaded.word ∙ names,
+    subst (λ (c : Config). slot < c.slots) (sizes_still id start view next (Phase id.index) phase begun at.0 at.1 phase_loaded)
+        (let below = slot-below id next phase_guarded phase_loaded.now phase phase_loaded.word in omega arith),
+  )
+
+  pub phase-low : phase < 2 ^ 32
+  phase-low = phase-fits id next phase_guarded phase_loaded.now phase phase_loaded.word
 
 -- the layer
 module _ (id : Id) (start view next : View) (slot layer : ℕ) (begun : IsBegunFor id start) (stepped : Stepped MayLoadBody load_body view (Layer id.index) 0 0 layer next) (at : AtDestroy id start view (Joining slot)) where
-  layer_holds : Holds view (stripe_of view.config id.index) Write
-  layer_holds = stripe-held id start view _ _ begun.rest at.0
+  layer_loaded : Loaded view next (Layer id.index) layer
+  layer_loaded = loaded-body view next (Layer id.index) layer stepped
 
-  pub layer-below : layer < start.config.layers
-  layer-below =
-      let live = body-live view next (Layer id.index) layer stepped id start begun (calling-sizes start view view _ _ _ at.0) layer_holds at.1 in
-      let sizes : stepped.before.config ≡ start.config =
-      sym (stepped-sizes MayLoadBody load_body view next (Layer id.index) 0 0 layer stepped) ∙ calling-sizes start view view _ _ _ at.0
-      in
-      subst (λ (c : Config). layer < c.layers) sizes (subst (λ (n : ℕ). n < stepped.before.config.layers) (sym (stepped.finds ∙ live.words.layer)) live.layer)
+  layer_guarded : IsGuarded id next
+  layer_guarded = guarded_still id start view next (Layer id.index) layer begun at.0 at.1 layer_loaded
 
   pub layer-placed : AtDestroy id start next (Placed slot layer)
-  layer-placed =
-      let more = body-more view next (Layer id.index) layer stepped in (
-        calling-more start view next _ _ _ at.0 more,
-        live-more id view next more layer_holds at.1,
-        steady-more view next (Phase id.index) more (phase-steady id view layer_holds) ∙ at.2,
-        at.3,
-        body-is view next (Layer id.index) layer stepped,
-        layer-below,
-      )
+  layer-placed = (
+    calling_still id start view next (Layer id.index) layer begun at.0 at.1 layer_loaded,
+    layer_guarded.2.state,
+    phase-stays id view next (is-guarded id start view begun at.0 at.1) layer_loaded.more ∙ at.2,
+    at.3,
+    layer_loaded.word,
+    subst (λ (c : Config). layer < c.layers) (sizes_still id start view next (Layer id.index) layer begun at.0 at.1 layer_loaded)
+        (layer-below id next layer_guarded layer_loaded.now layer layer_loaded.word),
+  )
+
+  pub layer-low : layer < 2 ^ 32
+  layer-low = layer-fits id next layer_guarded layer_loaded.now layer layer_loaded.word
 
 -- the slot
-module _ (id : Id) (start view next : View) (slot layer found : ℕ) (begun : IsBegunFor id start) (stepped : Stepped MayLook look view (Slot layer slot) 0 0 found next) (at : AtDestroy id start view (Placed slot layer)) where
-  pub slot-step : AtMostOneStep view next
-  slot-step = one-step MayLook look view next (Slot layer slot) 0 0 found stepped (λ before after steps. looks steps)
+module _ (id : Id) (start view next : View) (slot layer found : ℕ) (begun : IsBegunFor id start) (stepped : Stepped MayLoadSlot load_slot view (Slot layer slot) 0 0 found next) (at : AtDestroy id start view (Placed slot layer)) where
+  slot_loaded : Loaded view next (Slot layer slot) found
+  slot_loaded = loaded-slot view next (Slot layer slot) found stepped
 
-  pub slot-made : MadeBy view next None
-  slot-made = made-by-step MayLook look view next (Slot layer slot) 0 0 found stepped
-
-  slot_holds : Holds view (stripe_of view.config id.index) Write
-  slot_holds = stripe-held id start view _ _ begun.rest at.0
+  slot_told : IsTold id next
+  slot_told = guarded-tells id next (guarded_still id start view next (Slot layer slot) found begun at.0 at.1 slot_loaded) slot_loaded.now
 
   slot_calling : IsCalling start next (stripe_taken start.config id) Nothing []
-  slot_calling = calling-more start view next _ _ _ at.0 (knows-more MayLook look view next (Slot layer slot) 0 0 found stepped (λ v n f a b. refl) (λ word operand. refl))
+  slot_calling = calling_still id start view next (Slot layer slot) found begun at.0 at.1 slot_loaded
 
-  pub slot_live : LiveAt stepped.before id
-  slot_live =
-      live-at stepped.before id stepped.stands.laws.bodies
-      (subst (λ (c : Config). id.index < c.bodies) (sym (calling-sizes start view view _ _ _ at.0) ∙ stepped-sizes MayLook look view next (Slot layer slot) 0 0 found stepped) begun.below)
-      (steady-now MayLook look view next (Slot layer slot) 0 0 found stepped (State id.index) (live-steady id view (State id.index) slot_holds at.1 refl) ∙ at.1)
+  joins : known_word next (Phase id.index) ≡ 2 + slot
+  joins = phase-stays id view next (is-guarded id start view begun at.0 at.1) slot_loaded.more ∙ at.2
 
-  says : phase_by_slot found ≡ Some slot_live.body.phase
-  says =
-      phase-slot stepped.before id slot_live slot layer found
-      (steady-now MayLook look view next (Slot layer slot) 0 0 found stepped (Phase id.index) (phase-steady id view slot_holds) ∙ at.2)
-      (steady-now MayLook look view next (Slot layer slot) 0 0 found stepped (Layer id.index) (live-steady id view (Layer id.index) slot_holds at.1 refl) ∙ at.4)
-      stepped.finds
-
-  -- the body is in this phase
-  pub slot-use : (phase : BodyPhase) → slot_live.body.phase ≡ phase → (phase ≡ HeldPhase) ⊎ (phase ≡ In) → AtDestroy id start next (Leaving (Err (InUse phase)))
-  slot-use phase is used =
-      let scene = sym (loaded-scene MayLook look view next (Slot layer slot) 0 0 found stepped (λ word operand. refl)) in
-      let there : (slot_live.body.phase ≡ HeldPhase) ⊎ (slot_live.body.phase ≡ In) = subst (λ (p : BodyPhase). (p ≡ HeldPhase) ⊎ (p ≡ In)) (sym is) used in
-      in-use-at id start next phase slot_calling (subst (λ (s : Scene). HasIdBody s id (λ r. r.phase ≡ phase)) scene (has-body stepped.before id slot_live (λ r. r.phase ≡ phase) is))
-      (subst (λ (s : Scene). HasIdBody s id (λ r. (r.phase ≡ HeldPhase) ⊎ (r.phase ≡ In))) scene (has-body stepped.before id slot_live (λ r. (r.phase ≡ HeldPhase) ⊎ (r.phase ≡ In)) there))
+  lies : known_word next (Layer id.index) ≡ layer
+  lies = layer-stays id view next (is-guarded id start view begun at.0 at.1) slot_loaded.more ∙ at.4
 
   pub slot-is_held : found < 1024 → AtDestroy id start next (Leaving (Err (InUse HeldPhase)))
-  slot-is_held low = slot-use HeldPhase (slot-held found slot_live.body.phase low says) (inl refl)
+  slot-is_held low = in-use id start next HeldPhase slot_told slot_calling (told-held id next slot_told slot layer found joins lies slot_loaded.word low) (inl refl)
 
   pub slot-is_in : 1024 ≤ found → AtDestroy id start next (Leaving (Err (InUse In)))
-  slot-is_in high = slot-use In (slot-in found slot_live.body.phase high says) (inr refl)
+  slot-is_in high = in-use id start next In slot_told slot_calling (told-joined id next slot_told slot layer found joins lies slot_loaded.word high) (inr refl)

@@ -1,7 +1,7 @@
+pub mod Stages
 pub mod CreateTurns
 pub mod CreateEnds
 pub mod Begun
-pub mod LiveBodies
 pub mod DestroyTurns
 pub mod DestroyEnds
 pub mod FreshPasses

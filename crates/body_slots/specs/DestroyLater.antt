@@ -1,11 +1,10 @@
 -- What others' steps between two turns of a destruction leave as it was.
-use Rattle.std.proofs.Common.{◌≡◌, ℕ, ◌<◌, ◌≤◌, List, [], ◌∷◌, Bool, true, false, Option, Some, None, Ok, Err, Result, eqb, cond, refl, ap, sym, ◌∙◌, subst, arith}
-use Rattle.std.proofs.lemmas.Bool.{eq-eqb, ne_eqb}
+use Rattle.std.proofs.Common.{◌≡◌, ℕ, List, [], ◌∷◌, Bool, true, false, Option, Some, None, Ok, Err, Result, eqb, cond, refl, ap, sym, ◌∙◌, subst}
+use Rattle.std.proofs.lemmas.Bool.{eq-eqb}
 use Rattle.body_ident.specs.Id.{Id}
 use Rattle.scene_model.specs.declared.entry.Entry.{Entry}
 use Rattle.word_map.specs.declared.config.Config.{Config}
-use Rattle.word_map.specs.declared.name.Name.{Name}
-use Rattle.word_map.specs.declared.name.Name.TheVariants.{SlotHead, SlotNext, State, Phase, Layer}
+use Rattle.word_map.specs.declared.name.Name.TheVariants.{SlotHead, SlotNext, Phase, Layer}
 use Rattle.word_map.specs.Names.{index_lock, stripe_of}
 use Rattle.core_state.specs.declared.view.Mode.{Mode}
 use Rattle.core_state.specs.declared.view.Mode.TheVariants.{Write}
@@ -14,22 +13,21 @@ use Rattle.core_state.specs.declared.view.LockStep.TheVariants.{Taken as TakenSt
 use Rattle.core_state.specs.declared.view.Task.{Task}
 use Rattle.core_state.specs.declared.view.View.{View}
 use Rattle.core_state.specs.Log.{IsPrefix}
-use Rattle.core_state.specs.View.{Holds, HoldsNot, mode_of}
-use Rattle.core_state.specs.Guards.{by_lock, IsBodyWord}
-use Rattle.core_state.specs.Quietly.{IsSteady, of_pass, of_live}
+use Rattle.core_state.specs.View.{Holds, mode_of}
 use Rattle.pass_table.specs.Knowing.{KnowsMore}
 use Rattle.pass_table.specs.Holding.{IsAtRest}
 use Rattle.pass_table.specs.TakeTurns.{taking-later}
 use Rattle.pass_table.specs.Calls.{Adds, IsCalling}
 use Rattle.pass_table.proofs.Calling.{adds-more, point-later, calling-role, calling-sizes, calling-mode, calling-more, steady-more}
 use Rattle.pass_table.proofs.TakingTurns.{taking-anew}
+use Rattle.pass_table.proofs.LockedBodies.{live-steady, phase-steady, live-more}
 use Rattle.body_slots.specs.declared.answers.DestroyRefused.{DestroyRefused}
 use Rattle.body_slots.specs.declared.answers.DestroyRefused.TheVariants.{Gone, InUse}
 use Rattle.body_slots.specs.declared.destroy_op.DestroyStage.{DestroyStage}
 use Rattle.body_slots.specs.declared.destroy_op.DestroyStage.TheVariants.{TakingStripe, Held, Live, Joining, Placed, TakingList, Locked, Headed, Linked, InFront, Destroyed, Leaving}
 use Rattle.body_slots.specs.declared.destroy_op.DestroyOp.{DestroyOp}
 use Rattle.body_slots.specs.Later.{makes-later, listed-steady}
-use Rattle.body_slots.specs.Destroying.{HasDestroyed, IsDestroyAnswer, stripe_taken, both_taken, KnowsLive, KnowsOut, AtDestroy, IsUnmaking}
+use Rattle.body_slots.specs.Destroying.{HasDestroyed, IsDestroyAnswer, stripe_taken, both_taken, KnowsOut, AtDestroy, IsUnmaking}
 
 -- ---- locks
 
@@ -63,26 +61,11 @@ module _ (id : Id) (start view : View) (task : Task) (entries : List Entry) (res
   pub both-list : IsCalling start view (both_taken start.config id) task entries → Holds view (index_lock view.config) Write
   both-list calling = held_by (both_taken start.config id) index_lock calling (second-taken (stripe_of start.config id.index) (index_lock start.config))
 
-  -- with the stripe alone the lock of the list is free
-  pub list-free : stripe_of start.config id.index < index_lock start.config → IsCalling start view (stripe_taken start.config id) task entries → HoldsNot view (index_lock start.config)
-  list-free apart calling =
-      calling-mode start view view (stripe_taken start.config id) task entries calling rest (index_lock start.config)
-      ∙ ap (λ (t : Bool). cond {A = Option Mode} t (Some Write) None) (ne_eqb (stripe_of start.config id.index) (index_lock start.config) (λ same. absurd (omega arith)))
-
 -- ---- words
 
--- words of the live body, and its phase
-pub live-steady : (id : Id) (view : View) (name : Name) → Holds view (stripe_of view.config id.index) Write → KnowsLive id view → IsBodyWord id.index name → IsSteady view name
-live-steady id view name holds live own = of_live id.index Write holds (subst (λ (n : ℕ). 256 ≤ n) (sym live) (omega arith)) own
-
-pub phase-steady : (id : Id) (view : View) → Holds view (stripe_of view.config id.index) Write → IsSteady view (Phase id.index)
-phase-steady id view holds = of_pass (by_lock (stripe_of view.config id.index) Write holds refl)
-
-pub live-more : (id : Id) (view next : View) → KnowsMore view next → Holds view (stripe_of view.config id.index) Write → KnowsLive id view → KnowsLive id next
-live-more id view next more holds live = steady-more view next (State id.index) more (live-steady id view (State id.index) holds live refl) ∙ live
-
+-- what is known of the body stands
 pub out-more : (id : Id) (view next : View) → KnowsMore view next → Holds view (stripe_of view.config id.index) Write → KnowsOut id view → KnowsOut id next
-out-more id view next more holds out = (live-more id view next more holds out.0, steady-more view next (Phase id.index) more (phase-steady id view holds) ∙ out.1)
+out-more id view next more holds out = (live-more id Write view next more holds out.0, steady-more view next (Phase id.index) more (phase-steady id.index Write view holds) ∙ out.1)
 
 -- ---- answers
 
@@ -102,21 +85,21 @@ module _ (id : Id) (start view next : View) (rest : IsAtRest start) (more : Know
   stage-later : (stage : DestroyStage) → AtDestroy id start view stage → AtDestroy id start next stage
   stage-later (TakingStripe taking) h = (calling-more start view next _ _ _ h.0 more, taking-anew _ view taking next (taking-later _ view taking view next more h.1))
   stage-later Held h = calling-more start view next _ _ _ h more
-  stage-later Live h = (calling-more start view next _ _ _ h.0 more, live-more id view next more (stripe-held id start view _ _ rest h.0) h.1)
+  stage-later Live h = (calling-more start view next _ _ _ h.0 more, live-more id Write view next more (stripe-held id start view _ _ rest h.0) h.1)
   stage-later (Joining slot) h =
       let holds = stripe-held id start view _ _ rest h.0 in (
         calling-more start view next _ _ _ h.0 more,
-        live-more id view next more holds h.1,
-        steady-more view next (Phase id.index) more (phase-steady id view holds) ∙ h.2,
+        live-more id Write view next more holds h.1,
+        steady-more view next (Phase id.index) more (phase-steady id.index Write view holds) ∙ h.2,
         h.3,
       )
   stage-later (Placed slot layer) h =
       let holds = stripe-held id start view _ _ rest h.0 in (
         calling-more start view next _ _ _ h.0 more,
-        live-more id view next more holds h.1,
-        steady-more view next (Phase id.index) more (phase-steady id view holds) ∙ h.2,
+        live-more id Write view next more holds h.1,
+        steady-more view next (Phase id.index) more (phase-steady id.index Write view holds) ∙ h.2,
         h.3,
-        steady-more view next (Layer id.index) more (live-steady id view (Layer id.index) holds h.1 refl) ∙ h.4,
+        steady-more view next (Layer id.index) more (live-steady id Write view (Layer id.index) holds h.1 refl) ∙ h.4,
         h.5,
       )
   stage-later (TakingList taking) h = (

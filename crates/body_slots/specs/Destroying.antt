@@ -1,13 +1,13 @@
 -- How destroying a body goes, turn by turn, and what it answers.
-use Rattle.std.specs.Prelude.{◌≡◌, ◌≢◌, ◌⊎◌, ℕ, ◌+◌, ◌%◌, ◌<◌, List, [], ◌∷◌, ◌++◌, Result, MatchResult, Some, None}
+use Rattle.std.specs.Prelude.{◌≡◌, ℕ, ◌+◌, ◌<◌, List, [], ◌∷◌, ◌++◌, Result, MatchResult, Some, None}
 use Rattle.body_ident.specs.Id.{Id}
 use Rattle.scene_model.specs.declared.body_view.Phase.{Phase as BodyPhase}
 use Rattle.scene_model.specs.declared.body_view.Phase.TheVariants.{Out}
 use Rattle.scene_model.specs.declared.entry.Entry.{Entry}
 use Rattle.scene_model.specs.declared.entry.Entry.TheVariants.{Destroy}
-use Rattle.scene_model.specs.Cause.{HasIdBody, IsCauseAt, gone, in_use}
+use Rattle.scene_model.specs.Cause.{HasIdBody, IsCauseAt, in_use}
 use Rattle.word_map.specs.declared.config.Config.{Config}
-use Rattle.word_map.specs.declared.name.Name.TheVariants.{SlotHead, SlotNext, State, Phase, Layer}
+use Rattle.word_map.specs.declared.name.Name.TheVariants.{SlotHead, SlotNext, Phase, Layer}
 use Rattle.word_map.specs.Names.{index_lock, stripe_of}
 use Rattle.core_state.specs.declared.item.Item.{Item}
 use Rattle.core_state.specs.declared.view.Mode.TheVariants.{Write}
@@ -15,7 +15,6 @@ use Rattle.core_state.specs.declared.view.LockStep.{LockStep}
 use Rattle.core_state.specs.declared.view.LockStep.TheVariants.{Taken as TakenStep, Released}
 use Rattle.core_state.specs.declared.view.Task.TheVariants.{Nothing, Destroying}
 use Rattle.core_state.specs.declared.view.View.{View}
-use Rattle.core_state.specs.Log.{word}
 use Rattle.core_state.specs.View.{known_word, mode_of}
 use Rattle.core_state.specs.Guards.{scene_at}
 use Rattle.core_state.specs.Encoding.{phase_out, phase_join}
@@ -23,6 +22,7 @@ use Rattle.pass_table.specs.declared.turn.Turn.{Turn}
 use Rattle.pass_table.specs.TakeTurns.{taking_of, IsTaking, turns_left}
 use Rattle.pass_table.specs.Holding.{IsAtRest}
 use Rattle.pass_table.specs.Calls.{Adds, AtPoint, MakesAt, IsCalling, IsTurn}
+use Rattle.pass_table.specs.Bodies.{KnowsLive, IsGoneAt}
 use Rattle.body_slots.specs.declared.answers.DestroyRefused.{DestroyRefused}
 use Rattle.body_slots.specs.declared.answers.DestroyRefused.TheVariants.{Gone, InUse}
 use Rattle.body_slots.specs.declared.destroy_op.DestroyStage.{DestroyStage}
@@ -36,12 +36,6 @@ use Rattle.body_slots.specs.Answers.{HasEnded}
 pub record HasDestroyed (id : Id) (start next : View) : Type 0 where
   pub adds : Adds start next (Destroy id.index ∷ [])
   pub at : MakesAt start next (Destroy id.index) (λ log. HasIdBody (scene_at start.config log) id (λ r. r.phase ≡ Out))
-
--- the id names no live body, and the state word of its index says so
-pub record IsGoneAt (c : Config) (id : Id) (state : ℕ) (log : List Item) : Type 0 where
-  pub is : state ≡ word c log (State id.index)
-  pub cause : IsCauseAt (gone id) (scene_at c log)
-  pub tells : (state < 256) ⊎ (state % 256 ≢ id.seq)
 
 -- nothing was destroyed: so it was at a point of the call
 pub record WasGone (id : Id) (start next : View) (state : ℕ) : Type 0 where
@@ -75,11 +69,7 @@ stripe_taken c id = TakenStep (stripe_of c id.index) Write ∷ []
 abbrev pub both_taken : Config → Id → List LockStep
 both_taken c id = TakenStep (stripe_of c id.index) Write ∷ TakenStep (index_lock c) Write ∷ []
 
--- the pass knows the body as live
-abbrev pub KnowsLive : Id → View → Type 0
-KnowsLive id view = known_word view (State id.index) ≡ 256 + id.seq
-
--- and out
+-- the pass knows the body as live, and out
 abbrev pub KnowsOut : Id → View → Type 0
 KnowsOut id view = KnowsLive id view × (known_word view (Phase id.index) ≡ phase_out)
 

@@ -13,7 +13,7 @@ use crate::destroy_op::{DestroyOp, DestroyStage};
 use body_ident::BodyId;
 use core_state::Mode;
 use free_list::{load_head, put_in_front, store_link};
-use pass_table::{Label, Operation, Pass, TakeOp, Turn, World, release, step_4, step_14, step_15};
+use pass_table::{Label, Operation, Pass, TakeOp, Turn, World, release, step_14, step_15, step_17};
 use scene_model::{Entry, Made, Phase};
 use word_map::Name;
 
@@ -210,7 +210,7 @@ impl DestroyOp {
         ensures of { IsOf world.now pass.new }
         ensures turn { IsDestroyTurn result self.old self.new (view_of pass.old) (view_of pass.new) }
     {
-        let word = step_4(world, pass, Name::Slot(layer, slot));
+        let word = step_17(world, pass, Name::Slot(layer, slot));
         if word < 1024 {
             return self.refuse(Phase::Held);
         }

@@ -1,2 +1,5 @@
 pub mod Heads
+pub mod Nodes
+pub mod Pool
 pub mod Popping
+pub mod Storing

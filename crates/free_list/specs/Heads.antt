@@ -1,5 +1,5 @@
 -- What the steps on the list of free indexes tell.
-use Rattle.std.specs.Prelude.{◌≡◌, ℕ, suc, ◌<◌, [], Some, None}
+use Rattle.std.specs.Prelude.{◌≡◌, ℕ, suc, ◌<◌, Some, None}
 use Rattle.scene_model.specs.Scene.{next_index}
 use Rattle.scene_model.specs.Cause.{IsCauseAt, full}
 use Rattle.word_map.specs.declared.name.Name.TheVariants.{SlotHead, SlotNext}
@@ -11,8 +11,7 @@ use Rattle.core_state.specs.Guards.{scene_at}
 use Rattle.core_state.specs.Lists.{MayLoadList, load_list, MayStoreLink, store_link, MayStoreHead, store_head, with_task}
 use Rattle.pass_table.specs.Stepping.{Stepped, Stored}
 use Rattle.pass_table.specs.Knowing.{KnowsMore}
-use Rattle.pass_table.specs.Calls.{Adds, StoresWord}
-use Rattle.free_list.specs.declared.list.Empty.{Empty}
+use Rattle.pass_table.specs.Calls.{StoresWord}
 
 -- the index is the one that the next body takes
 pub record IsFirst (view : View) (index : ℕ) : Type 0 where
@@ -56,29 +55,4 @@ pub record LinkedTo (view next : View) (index head : ℕ) : Type 0 where
 pub record PutInFront (view next : View) (index : ℕ) : Type 0 where
   pub step : Stored MayStoreHead store_head view SlotHead (suc index) next
   pub stores : StoresWord view next SlotHead (suc index)
-  pub doing : IsDoing view next (Destroying index)
-
--- ---- calls
-
--- The first index is the pass's: it made no entry. The head named it, and is now what its link was; a creation is under
--- way, all else is as it was, and the next body takes this index
-pub record Popped (view next : View) (index : ℕ) : Type 0 where
-  pub adds : Adds view next []
-  pub was : known_word view SlotHead ≡ suc index
-  pub is : known_word next SlotHead ≡ known_word view (SlotNext index)
-  pub doing : IsDoing view next (Creating index)
-  pub first : IsFirst next index
-
--- there is none: the head names none, and a body is live at each index. The pass has what it had
-pub record WasEmpty (view next : View) (empty : Empty) : Type 0 where
-  pub more : KnowsMore view next
-  pub zero : empty.head ≡ 0
-  pub is : known_word view SlotHead ≡ empty.head
-  pub every : IsCauseAt full (scene_at next.config next.known)
-
--- the index is in front: its link is what the head was, and a destruction is under way. All else is as it was
-pub record Pushed (view next : View) (index : ℕ) : Type 0 where
-  pub adds : Adds view next []
-  pub is : known_word next SlotHead ≡ suc index
-  pub link : known_word next (SlotNext index) ≡ known_word view SlotHead
   pub doing : IsDoing view next (Destroying index)

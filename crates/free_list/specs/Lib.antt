@@ -1,1 +1,4 @@
+pub mod Calls
 pub mod Heads
+pub mod Pool
+pub mod Since

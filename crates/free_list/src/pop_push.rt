@@ -1,47 +1,41 @@
 //! Taking the first place off a list, and putting one in front.
-ghost use Rattle.std.specs.Prelude.{◌≡◌, IfOk, IfErr};
-ghost use Rattle.core_state.specs.Lists.{HasList, IsLiveAndOut};
+ghost use Rattle.std.specs.Prelude.{IfOk, IfErr};
 ghost use Rattle.pass_table.specs.Passes.{view_of, IsOf};
-ghost use Rattle.free_list.specs.declared.list.ListName.TheVariants.{Bodies};
-ghost use Rattle.free_list.specs.Heads.{Popped, WasEmpty, Pushed};
+ghost use Rattle.free_list.specs.Calls.{MayPop, Popped, WasEmpty, MayPush, Pushed};
 
+use crate::index_list::{pop_index, push_index};
 use crate::list::{Empty, ListName};
-use crate::steps::{load_head, load_link, put_in_front, store_link, take_off};
+use crate::node_pool::{pop_node, push_node};
 use pass_table::{Pass, World};
 
-/// Takes the first index off the list, for a body that is to be created. The pass holds the list's lock to write, and
-/// nothing is half done.
+/// Takes the first place off a list, whose lock the pass holds to write: an index for a body that is to be created,
+/// where nothing is half done; or a node for the newest batch of the pass, where nothing but the pool is half done.
 ///
 /// It is refused exactly where there is none.
 pub fn pop(world: &World, pass: &mut Pass, list: ListName) -> Result<u32, Empty>
     requires of { IsOf world.now pass.old }
-    requires bodies { list ≡ Bodies }
-    requires list { HasList (view_of pass.old) }
+    requires may { MayPop list (view_of pass.old) }
     ensures of { IsOf world.now pass.new }
-    ensures popped { IfOk result (Popped (view_of pass.old) (view_of pass.new)) }
-    ensures empty { IfErr result (WasEmpty (view_of pass.old) (view_of pass.new)) }
+    ensures popped { IfOk result (Popped list (view_of pass.old) (view_of pass.new)) }
+    ensures empty { IfErr result (WasEmpty list (view_of pass.old) (view_of pass.new)) }
 {
-    let head = load_head(world, pass);
-    if head == 0 {
-        return Err(Empty { head });
+    match list {
+        ListName::Bodies => pop_index(world, pass),
+        ListName::Nodes => pop_node(world, pass),
     }
-    let index = (head - 1) as u32;
-    let link = load_link(world, pass, index);
-    take_off(world, pass, link);
-    Ok(index)
 }
 
-/// Puts the index of a live body in front of the list, which is to be destroyed. The pass holds the list's lock and the
-/// stripe of the body to write, the body is out, and nothing is half done.
+/// Puts a place in front of a list, whose lock the pass holds to write: the index of a live body that is out, which is
+/// to be destroyed, where the pass holds its stripe to write and nothing is half done; or a node that the pass is to give
+/// back, where nothing but the pool is half done.
 pub fn push(world: &World, pass: &mut Pass, list: ListName, item: u32)
     requires of { IsOf world.now pass.old }
-    requires bodies { list ≡ Bodies }
-    requires list { HasList (view_of pass.old) }
-    requires body { IsLiveAndOut (view_of pass.old) item }
+    requires may { MayPush list (view_of pass.old) item }
     ensures of { IsOf world.now pass.new }
-    ensures pushed { Pushed (view_of pass.old) (view_of pass.new) item }
+    ensures pushed { Pushed list (view_of pass.old) (view_of pass.new) item }
 {
-    let head = load_head(world, pass);
-    store_link(world, pass, item, head);
-    put_in_front(world, pass, item);
+    match list {
+        ListName::Bodies => push_index(world, pass, item),
+        ListName::Nodes => push_node(world, pass, item),
+    }
 }

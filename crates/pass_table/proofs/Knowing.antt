@@ -22,7 +22,7 @@ use Rattle.core_state.specs.Quietly.{KnowsQuietly}
 use Rattle.core_state.proofs.Guarding.{joined-unquiet, lock-quiet}
 use Rattle.core_state.proofs.Quiet.{in_first, in_second, append_cut, one_cut, no_cut}
 use Rattle.core_state.proofs.Steps.{gained-unstored, Gains, nothing, its_item, gains}
-use Rattle.pass_table.specs.Knowing.{IsOthers, KnowsMore, Looked, MeetsWith}
+use Rattle.pass_table.specs.Knowing.{IsOthers, KnowsMore, StoresAlone, Looked, MeetsWith}
 use Rattle.pass_table.proofs.Keeping.{All-second}
 
 -- the kind leaves the view as it was, but for what is known
@@ -109,24 +109,41 @@ meets-with view other next look_made =
       looked = look_made;
     }
 
--- what a step on a lock stores comes quietly
-pub lock-step-quiet : (asks : Asking) (kind : Kind) (view next : View) (lock first second found : ℕ) → Stepped asks kind view (Lock lock) first second found next → KnowsQuietly view next
-lock-step-quiet asks kind view next lock first second found stepped = record {
-  since = stepped.since ++ gained;
-  known = ap (λ (v : View). v.known) stepped.leaves ∙ (ap (λ (l : List Item). l ++ gained) stepped.learns ∙ append_assoc view.known stepped.since gained);
-  quiet = λ early later item parts.
-      elim (append_cut stepped.since gained early later item parts) [
-        | in_first rest p ↦ (came-others asks kind view next (Lock lock) first second found stepped early rest item p).quiet
-        | in_second front p q ↦ lock-quiet view.config view (view.known ++ early) item lock (own_name front later item q (gains kind stepped.before made))
-      ];
-}
-  where
-    made : Step
-    made = step_by stepped.seat view stepped.number (Lock lock) first second
+-- ---- what a pass stores itself
 
-    gained : List Item
-    gained = gained_by kind stepped.before made
+-- a step stores its word alone, and where that is a lock's it comes quietly
+module _ (asks : Asking) (kind : Kind) (view next : View) (name : Name) (first second found : ℕ) (stepped : Stepped asks kind view name first second found next) where
+  abbrev one_made : Step
+  one_made = step_by stepped.seat view stepped.number name first second
 
-    own_name : (front later : List Item) (item : Item) → gained ≡ front ++ item ∷ later → Gains kind stepped.before made → item.name ≡ Lock lock
-    own_name front later item q (nothing e f) = absurd (no_cut item front later (sym e ∙ q))
-    own_name front later item q (its_item stored e) = ap (λ (it : Item). it.name) (one_cut (item_of kind made (left_by kind stepped.before made)) item front later (sym e ∙ q))
+  abbrev one_gained : List Item
+  one_gained = gained_by kind stepped.before one_made
+
+  one_known : next.known ≡ view.known ++ (stepped.since ++ one_gained)
+  one_known = ap (λ (v : View). v.known) stepped.leaves ∙ (ap (λ (l : List Item). l ++ one_gained) stepped.learns ∙ append_assoc view.known stepped.since one_gained)
+
+  own_name : (front later : List Item) (item : Item) → one_gained ≡ front ++ item ∷ later → Gains kind stepped.before one_made → item.name ≡ name
+  own_name front later item q (nothing e f) = absurd (no_cut item front later (sym e ∙ q))
+  own_name front later item q (its_item stored e) = ap (λ (it : Item). it.name) (one_cut (item_of kind one_made (left_by kind stepped.before one_made)) item front later (sym e ∙ q))
+
+  pub step-alone : StoresAlone view next name
+  step-alone = record {
+    since = stepped.since ++ one_gained;
+    known = one_known;
+    own = λ early later item parts mine.
+        elim (append_cut stepped.since one_gained early later item parts) [
+          | in_first rest p ↦ absurd ((came-others asks kind view next name first second found stepped early rest item p).foreign mine)
+          | in_second front p q ↦ own_name front later item q (gains kind stepped.before one_made)
+        ];
+  }
+
+  pub lock-step-quiet : (lock : ℕ) → name ≡ Lock lock → KnowsQuietly view next
+  lock-step-quiet lock of_lock = record {
+    since = stepped.since ++ one_gained;
+    known = one_known;
+    quiet = λ early later item parts.
+        elim (append_cut stepped.since one_gained early later item parts) [
+          | in_first rest p ↦ (came-others asks kind view next name first second found stepped early rest item p).quiet
+          | in_second front p q ↦ lock-quiet view.config view (view.known ++ early) item lock (own_name front later item q (gains kind stepped.before one_made) ∙ of_lock)
+        ];
+  }

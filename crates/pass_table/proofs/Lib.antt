@@ -6,13 +6,12 @@ pub mod Allowing
 pub mod Leaving
 pub mod Seating
 pub mod Knowing
+pub mod Bodies
+pub mod LockedBodies
 pub mod Ruling
 pub mod Trying
 pub mod Turning
 pub mod Resting
 pub mod TakingTurns
 pub mod Calling
-pub mod OneBody
-pub mod OneNode
-pub mod OneTree
 pub mod Between

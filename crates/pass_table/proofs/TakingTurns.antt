@@ -10,17 +10,24 @@ use Rattle.core_state.specs.Quietly.{KnowsQuietly}
 use Rattle.core_state.proofs.Quiet.{KnowsQuietly-refl, KnowsQuietly-trans}
 use Rattle.pass_table.specs.Trying.{Excludes, Leaves, with_taken}
 use Rattle.pass_table.specs.TakeTurns.{taking_of, IsTaking, HasTaken}
+use Rattle.pass_table.specs.Knowing.{StoresAlone, alone-refl, alone-trans}
 use Rattle.pass_table.specs.declared.take_op.TakeOp.{TakeOp}
 use Rattle.pass_table.proofs.Trying.{Waited-refl, Waited-more, Waited-taken}
 
 pub taking-begun : (lock : ℕ) (mode : Mode) (view : View) → IsName view.config (Lock lock) → HoldsNot view lock → IsTaking (taking_of lock mode) view (taking_of lock mode) view
 taking-begun lock mode view named free =
-    record { lock = refl; mode = refl; named = named; free = free; open_to = tt; waited = Waited-refl view; quiet = KnowsQuietly-refl view }
+    record { lock = refl; mode = refl; named = named; free = free; open_to = tt; waited = Waited-refl view; quiet = KnowsQuietly-refl view; alone = alone-refl view (Lock lock) }
+
+-- one turn more stores no other word either
+alone-on : (first : TakeOp) (start : View) (operation : TakeOp) (view next : View) → StoresAlone view next (Lock operation.lock) → IsTaking first start operation view → StoresAlone start next (Lock first.lock)
+alone-on first start operation view next alone taking =
+    alone-trans start view next (Lock first.lock) (ap (λ (v : View). v.role) taking.waited.rest) taking.alone
+    (subst (λ (l : ℕ). StoresAlone view next (Lock l)) taking.lock alone)
 
 -- a turn that takes nothing, and after which this word is loaded or none
-pub taking-on : (first : TakeOp) (start : View) (operation : TakeOp) (view next : View) (loaded : Option ℕ) → Leaves view next view.locks → KnowsQuietly view next
+pub taking-on : (first : TakeOp) (start : View) (operation : TakeOp) (view next : View) (loaded : Option ℕ) → Leaves view next view.locks → KnowsQuietly view next → StoresAlone view next (Lock operation.lock)
     → IfSome loaded (λ word. ¬ Excludes operation.mode word) → IsTaking first start operation view → IsTaking first start (record operation { loaded = loaded }) next
-taking-on first start operation view next loaded left quiet open_to taking = record {
+taking-on first start operation view next loaded left quiet alone open_to taking = record {
   lock = taking.lock;
   mode = taking.mode;
   named = subst (λ (c : Config). IsName c (Lock operation.lock)) (sym (ap (λ (v : View). v.config) left.rest)) taking.named;
@@ -28,16 +35,18 @@ taking-on first start operation view next loaded left quiet open_to taking = rec
   open_to = open_to;
   waited = Waited-more start view next taking.waited left;
   quiet = KnowsQuietly-trans start view next taking.waited.rest taking.quiet quiet;
+  alone = alone-on first start operation view next alone taking;
 }
 
 -- the turn that takes the lock
-pub taking-done : (first : TakeOp) (start : View) (operation : TakeOp) (view next : View) → Leaves view next (with_taken view operation.lock operation.mode) → KnowsQuietly view next
+pub taking-done : (first : TakeOp) (start : View) (operation : TakeOp) (view next : View) → Leaves view next (with_taken view operation.lock operation.mode) → KnowsQuietly view next → StoresAlone view next (Lock operation.lock)
     → IsTaking first start operation view → HasTaken first start next
-taking-done first start operation view next left quiet taking = record {
+taking-done first start operation view next left quiet alone taking = record {
   left =
       Waited-taken start view next first.lock first.mode taking.waited
       (subst (λ (m : Mode). Leaves view next (with_taken view first.lock m)) taking.mode (subst (λ (l : ℕ). Leaves view next (with_taken view l operation.mode)) taking.lock left));
   quiet = KnowsQuietly-trans start view next taking.waited.rest taking.quiet quiet;
+  alone = alone-on first start operation view next alone taking;
 }
 
 -- it might as well be begun now
@@ -50,4 +59,5 @@ taking-anew first start operation view taking = record {
   open_to = taking.open_to;
   waited = Waited-refl view;
   quiet = KnowsQuietly-refl view;
+  alone = alone-refl view (Lock first.lock);
 }

@@ -4,6 +4,7 @@ pub mod Seating
 pub mod LockSets
 pub mod Holding
 pub mod Knowing
+pub mod Bodies
 pub mod Trying
 pub mod Turning
 pub mod TakeTurns
@@ -11,4 +12,3 @@ pub mod Passes
 pub mod Opened
 pub mod Numbered
 pub mod Calls
-pub mod OneBody

@@ -10,7 +10,7 @@ use Rattle.core_state.specs.declared.view.View.{View}
 use Rattle.core_state.specs.View.{HoldsNot, mode_of}
 use Rattle.core_state.specs.Quietly.{KnowsQuietly}
 use Rattle.core_state.proofs.Quiet.{KnowsQuietly-trans}
-use Rattle.pass_table.specs.Knowing.{KnowsMore}
+use Rattle.pass_table.specs.Knowing.{KnowsMore, StoresAlone, alone-trans, more-alone}
 use Rattle.pass_table.specs.Trying.{Excludes, Leaves, Waited, with_taken}
 use Rattle.pass_table.specs.declared.take_op.TakeOp.{TakeOp}
 
@@ -27,7 +27,8 @@ abbrev pub turns_left : TakeOp → ℕ
 turns_left operation = turns_after operation.loaded
 
 -- It takes the lock with which it was begun, in that mode. The lock is one of the world, the pass does not hold it, and a
--- word that was loaded shows nobody that excludes it. Since it was begun the pass has only come to know more
+-- word that was loaded shows nobody that excludes it. Since it was begun the pass has only come to know more, and
+-- stored no other word
 pub record IsTaking (first : TakeOp) (start : View) (operation : TakeOp) (view : View) : Type 0 where
   pub lock : operation.lock ≡ first.lock
   pub mode : operation.mode ≡ first.mode
@@ -36,18 +37,21 @@ pub record IsTaking (first : TakeOp) (start : View) (operation : TakeOp) (view :
   pub open_to : IfSome operation.loaded (λ word. ¬ Excludes operation.mode word)
   pub waited : Waited start view
   pub quiet : KnowsQuietly start view
+  pub alone : StoresAlone start view (Lock first.lock)
 
 -- at the end the pass holds the lock, and all else but what it knows is as it was at the beginning; nothing that it has
 -- for itself was stored meanwhile
 pub record HasTaken (first : TakeOp) (start next : View) : Type 0 where
   pub left : Leaves start next (with_taken start first.lock first.mode)
   pub quiet : KnowsQuietly start next
+  pub alone : StoresAlone start next (Lock first.lock)
+
+-- ---- a look or a meeting between two turns does no harm
 
 -- what others stored came quietly
 pub more-quiet : (view next : View) → KnowsMore view next → KnowsQuietly view next
 more-quiet view next more = record { since = more.since; known = more.known; quiet = λ early later item parts. (more.others early later item parts).quiet }
 
--- a look or a meeting between two turns does no harm
 pub taking-later : (first : TakeOp) (start : View) (operation : TakeOp) (view next : View) → KnowsMore view next → IsTaking first start operation view → IsTaking first start operation next
 taking-later first start operation view next more taking = record {
   lock = taking.lock;
@@ -65,4 +69,6 @@ taking-later first start operation view next more taking = record {
         (λ i. record start { known = next.known; joined = sym (ap (λ (v : View). v.joined) more.rest) i }));
   };
   quiet = KnowsQuietly-trans start view next taking.waited.rest taking.quiet (more-quiet view next more);
+  alone =
+      alone-trans start view next (Lock first.lock) (ap (λ (v : View). v.role) taking.waited.rest) taking.alone (more-alone view next (Lock first.lock) more);
 }

@@ -19,8 +19,6 @@ pub mod laws;
 mod lock_set;
 mod locks;
 mod looking;
-mod one_body;
-mod one_tree;
 mod open;
 mod opened;
 mod opening;

@@ -1,7 +1,7 @@
 use Rattle.word_map.specs.declared.name.Name.TheVariants.{Update}
 use Rattle.core_state.specs.Looking.{MayLook, look}
 use Rattle.core_state.specs.Seats.{joined_view}
-use Rattle.body_lock.proofs.Going.{stepped-current}
+use Rattle.pass_table.proofs.Bodies.{stepped-current}
 use Rattle.body_lock.proofs.Standing.{alone-more}
 use Rattle.body_lock.proofs.laws.guards_stay_good.Goals as goal
 

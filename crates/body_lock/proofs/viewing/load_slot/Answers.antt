@@ -1,6 +1,7 @@
 use Rattle.word_map.specs.declared.name.Name.TheVariants.{Slot}
 use Rattle.pass_table.specs.Passes.{view_of}
-use Rattle.body_lock.proofs.Standing.{guarded-more, loaded-slot}
+use Rattle.pass_table.proofs.LockedBodies.{guarded-more}
+use Rattle.pass_table.proofs.Bodies.{loaded-slot}
 use Rattle.body_lock.proofs.viewing.load_slot.Goals as goal
 
 pub returns-clause-guarded : goal.returns-clause-guarded

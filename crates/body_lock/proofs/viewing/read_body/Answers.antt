@@ -1,7 +1,7 @@
 use Rattle.std.proofs.Common.{◌∙◌}
 use Rattle.pass_table.specs.Passes.{view_of}
 use Rattle.pass_table.proofs.Between.{more-trans}
-use Rattle.body_lock.proofs.Phases.{guarded-tells, layer-stays, phase-stays}
+use Rattle.pass_table.proofs.LockedBodies.{guarded-tells, layer-stays, phase-stays}
 use Rattle.body_lock.proofs.Seeing.{seen-point}
 use Rattle.body_lock.proofs.viewing.read_body.Goals as goal
 

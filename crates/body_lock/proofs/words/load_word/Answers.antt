@@ -1,5 +1,7 @@
 use Rattle.pass_table.specs.Passes.{view_of}
-use Rattle.body_lock.proofs.Standing.{may-load, guarded-more, loaded-body}
+use Rattle.body_lock.proofs.Standing.{may-load}
+use Rattle.pass_table.proofs.LockedBodies.{guarded-more}
+use Rattle.pass_table.proofs.Bodies.{loaded-body}
 use Rattle.body_lock.proofs.words.load_word.Goals as goal
 
 pub step_15-requires-clause-asks : goal.step_15-requires-clause-asks

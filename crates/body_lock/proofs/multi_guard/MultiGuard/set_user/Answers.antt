@@ -4,7 +4,7 @@ use Rattle.core_state.specs.declared.view.Mode.{Mode}
 use Rattle.pass_table.specs.Calls.{Adds}
 use Rattle.pass_table.specs.Passes.{view_of}
 use Rattle.body_lock.specs.declared.multi_guard.LockedBody.{LockedBody}
-use Rattle.body_lock.specs.Guarding.{IsGuarding}
+use Rattle.pass_table.specs.Bodies.{IsGuarding}
 use Rattle.body_lock.specs.Seeing.{HasSetUser}
 use Rattle.body_lock.proofs.Standing.{user-adds}
 use Rattle.body_lock.proofs.Guards.{reached-guarding, multi-set}

@@ -1,10 +1,13 @@
 use Rattle.std.proofs.Common.{refl, subst, arith}
+use Rattle.word_map.specs.declared.name.Name.TheVariants.{State}
 use Rattle.core_state.specs.Lives.{under_list}
 use Rattle.pass_table.specs.Passes.{view_of}
+use Rattle.pass_table.proofs.Bodies.{body-load-step, body-load-made}
 use Rattle.body_slots.specs.declared.create_op.CreateStage.TheVariants.{Taken, Fields}
 use Rattle.body_slots.specs.Creating.{AtCreate}
 use Rattle.body_slots.specs.Later.{list-held}
-use Rattle.body_slots.proofs.CreateTurns.{went-on, state-step, state-made, state-loaded}
+use Rattle.body_slots.proofs.Stages.{went-on}
+use Rattle.body_slots.proofs.CreateTurns.{create_stages, state-loaded}
 use Rattle.body_slots.proofs.create_op.CreateOp.load_state.Goals as goal
 
 pub step_15-state-requires-clause-asks : goal.step_15-state-requires-clause-asks
@@ -21,5 +24,5 @@ returns-clause-turn c =
     let index = c.args.index in
     let state = c.step_15-state.result in
     let stepped = c.step_15-state.ensures.step in
-    went-on c.go_on.result c.args.self.now c.go_on.new.self (Taken index) (Fields index state 0) view next c.go_on.ensures.more c.go_on.ensures.stage c.requires.stage
-    (state-step view next index state stepped) (state-made view next index state stepped) (omega arith) (λ first start begun at. state-loaded view next index state stepped first start at)
+    went-on create_stages c.go_on.result c.args.self.now c.go_on.new.self (Taken index) (Fields index state 0) view next c.go_on.ensures.more c.go_on.ensures.stage c.requires.stage
+    (body-load-step view next (State index) state stepped) (body-load-made view next (State index) state stepped) (omega arith) (λ first start making at. state-loaded first start view next index state stepped at)

@@ -1,4 +1,4 @@
-use Rattle.std.proofs.Common.{subst, arith}
+use Rattle.std.proofs.Common.{refl, subst, arith}
 use Rattle.word_map.specs.Names.{index_lock}
 use Rattle.core_state.specs.declared.view.Mode.TheVariants.{Write}
 use Rattle.pass_table.specs.TakeTurns.{taking_of}
@@ -6,8 +6,9 @@ use Rattle.pass_table.specs.Passes.{view_of}
 use Rattle.pass_table.proofs.Calling.{some-left}
 use Rattle.body_slots.specs.declared.create_op.CreateStage.TheVariants.{Taking, Locked}
 use Rattle.body_slots.specs.Creating.{AtCreate}
-use Rattle.body_slots.proofs.CreateTurns.{went-on}
-use Rattle.body_slots.proofs.CreateEnds.{take-done, take-on, take-more, take-again}
+use Rattle.body_slots.proofs.Stages.{went-on, take-more, take-again}
+use Rattle.body_slots.proofs.CreateTurns.{create_stages}
+use Rattle.body_slots.proofs.CreateEnds.{take-done, take-on}
 use Rattle.body_slots.proofs.create_op.CreateOp.take.Goals as goal
 
 pub returns-in-Done-clause-turn : goal.returns-in-Done-clause-turn
@@ -16,8 +17,8 @@ returns-in-Done-clause-turn c =
     let next = view_of c.turn.new.pass in
     let taking = c.args.taking in
     let left = some-left taking in
-    went-on c.go_on.result c.args.self.now c.go_on.new.self (Taking taking) Locked view next c.go_on.ensures.more c.go_on.ensures.stage c.requires.stage c.turn.ensures.step c.turn.ensures.made (omega arith)
-    (λ first start begun at. take-done first start view next taking (c.in-Done.ensures.answers (taking_of (index_lock start.config) Write) view at.1) c.turn.ensures.made at)
+    went-on create_stages c.go_on.result c.args.self.now c.go_on.new.self (Taking taking) Locked view next c.go_on.ensures.more c.go_on.ensures.stage c.requires.stage c.turn.ensures.step c.turn.ensures.made (omega arith)
+    (λ first start making at. take-done first start view next taking (c.in-Done.ensures.answers (taking_of (index_lock start.config) Write) view at.1) c.turn.ensures.made at)
 
 pub returns-in-More-clause-turn : goal.returns-in-More-clause-turn
 returns-in-More-clause-turn c =
@@ -27,8 +28,8 @@ returns-in-More-clause-turn c =
     let after = c.turn.new.self in
     let under_way = c.requires.under_way in
     let now = subst (AtCreate under_way.first under_way.start view) c.requires.stage under_way.goes.1 in
-    take-more c.args.self.now c.go_on-in-More.new.self taking after view next c.go_on-in-More.ensures.stage c.requires.stage c.turn.ensures.step c.turn.ensures.made
-    (λ first start begun at. take-on first start view next taking after (c.in-More.ensures.keeps (taking_of (index_lock start.config) Write) view at.1) c.turn.ensures.made at)
+    take-more create_stages Taking 14 (λ t. refl) c.args.self.now c.go_on-in-More.new.self taking after view next c.go_on-in-More.ensures.stage c.requires.stage c.turn.ensures.step c.turn.ensures.made
+    (λ first start making at. take-on first start view next taking after (c.in-More.ensures.keeps (taking_of (index_lock start.config) Write) view at.1) c.turn.ensures.made at)
     c.go_on-in-More.result c.go_on-in-More.ensures.more taking.mode now.1.mode c.in-More.ensures.turned
 
 pub returns-in-Again-clause-turn : goal.returns-in-Again-clause-turn
@@ -39,6 +40,6 @@ returns-in-Again-clause-turn c =
     let after = c.turn.new.self in
     let under_way = c.requires.under_way in
     let now = subst (AtCreate under_way.first under_way.start view) c.requires.stage under_way.goes.1 in
-    take-again c.args.self.now c.go_on-in-Again.new.self taking after view next c.go_on-in-Again.ensures.stage c.requires.stage c.turn.ensures.step c.turn.ensures.made
-    (λ first start begun at. take-on first start view next taking after (c.in-Again.ensures.keeps (taking_of (index_lock start.config) Write) view at.1) c.turn.ensures.made at)
+    take-again create_stages Taking 14 (λ t. refl) c.args.self.now c.go_on-in-Again.new.self taking after view next c.go_on-in-Again.ensures.stage c.requires.stage c.turn.ensures.step c.turn.ensures.made
+    (λ first start making at. take-on first start view next taking after (c.in-Again.ensures.keeps (taking_of (index_lock start.config) Write) view at.1) c.turn.ensures.made at)
     c.in-Again.lock c.in-Again.word taking.mode now.1.mode c.in-Again.ensures.turned

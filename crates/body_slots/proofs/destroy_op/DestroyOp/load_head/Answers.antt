@@ -2,7 +2,8 @@ use Rattle.std.proofs.Common.{arith}
 use Rattle.pass_table.specs.Passes.{view_of}
 use Rattle.body_slots.specs.declared.destroy_op.DestroyStage.TheVariants.{Locked, Headed}
 use Rattle.body_slots.proofs.CreateTurns.{head-step, head-made}
-use Rattle.body_slots.proofs.DestroyTurns.{went-on}
+use Rattle.body_slots.proofs.Stages.{went-on}
+use Rattle.body_slots.proofs.DestroyTurns.{destroy_stages}
 use Rattle.body_slots.proofs.DestroyEnds.{head-loaded}
 use Rattle.body_slots.proofs.destroy_op.DestroyOp.load_head.Goals as goal
 
@@ -12,5 +13,5 @@ returns-clause-turn c =
     let next = view_of c.load_head-head.new.pass in
     let head = c.load_head-head.result in
     let loaded = c.load_head-head.ensures.loaded in
-    went-on c.go_on.result c.args.self.now c.go_on.new.self Locked (Headed head) view next c.go_on.ensures.more c.go_on.ensures.stage c.requires.stage
-    (head-step view next head loaded) (head-made view next head loaded) (omega arith) (λ id start same begun at. head-loaded id start view next head begun loaded at)
+    went-on destroy_stages c.go_on.result c.args.self.now c.go_on.new.self Locked (Headed head) view next c.go_on.ensures.more c.go_on.ensures.stage c.requires.stage
+    (head-step view next head loaded) (head-made view next head loaded) (omega arith) (λ first start making at. head-loaded first.id start view next head making.1 loaded at)

@@ -12,11 +12,13 @@ use Rattle.pass_table.specs.Stepping.{Stepped}
 use Rattle.pass_table.specs.TakeTurns.{taking_of, IsTaking}
 use Rattle.pass_table.specs.Passes.{view_of}
 use Rattle.pass_table.proofs.Calling.{calling-sizes}
+use Rattle.pass_table.proofs.Bodies.{body-load-step, body-load-made}
 use Rattle.body_slots.specs.declared.answers.DestroyRefused.TheVariants.{InUse}
 use Rattle.body_slots.specs.declared.destroy_op.DestroyStage.TheVariants.{Live, Joining, TakingList, Leaving}
 use Rattle.body_slots.specs.Destroying.{AtDestroy, stage_left, IsDestroyTurn}
 use Rattle.body_slots.specs.DestroyLater.{stripe-held}
-use Rattle.body_slots.proofs.DestroyTurns.{went-on, body-step, body-made, phase-calling, phase-out, phase-is_in, slot-named, phase-joining}
+use Rattle.body_slots.proofs.Stages.{went-on}
+use Rattle.body_slots.proofs.DestroyTurns.{destroy_stages, phase-calling, phase-out, phase-is_in, phase-joining, phase-low}
 use Rattle.body_slots.proofs.destroy_op.DestroyOp.load_phase.Goals as goal
 
 pub step_15-phase-requires-clause-asks : goal.step_15-phase-requires-clause-asks
@@ -36,14 +38,14 @@ returns-then-phase-eq0-clause-turn c =
     let taking = c.new-taking.result in
     let begun_now = subst (λ (p : Pass). IsTaking (taking_of c.config-lock.result.stripes Write) next taking (view_of p)) c.new-taking.ensures.pass c.new-taking.ensures.under_way in
     subst (λ (p : Pass). IsDestroyTurn c.go_on.result c.args.self.now c.go_on.new.self view (view_of p)) (sym c.new-taking.ensures.pass)
-    (went-on c.go_on.result c.args.self.now c.go_on.new.self Live (TakingList taking) view next c.go_on.ensures.more c.go_on.ensures.stage c.requires.stage
-    (body-step view next (Phase c.index.result) phase stepped) (body-made view next (Phase c.index.result) phase stepped)
+    (went-on destroy_stages c.go_on.result c.args.self.now c.go_on.new.self Live (TakingList taking) view next c.go_on.ensures.more c.go_on.ensures.stage c.requires.stage
+    (body-load-step view next (Phase c.index.result) phase stepped) (body-load-made view next (Phase c.index.result) phase stepped)
     (subst (λ (t : TakeOp). stage_left (TakingList t) < 11) (sym c.new-taking.ensures.begun) (omega arith))
-    (λ id start same begun at.
-    let named = subst (λ (n : ℕ). Stepped MayLoadBody load_body view (Phase n) 0 0 phase next) (c.index.ensures.value ∙ ap (λ (i : Id). i.index) same) stepped in
+    (λ first start making at.
+    let named = subst (λ (n : ℕ). Stepped MayLoadBody load_body view (Phase n) 0 0 phase next) (c.index.ensures.value ∙ ap (λ (i : Id). i.index) making.0) stepped in
     let lock = ap (λ (sizes : Config). index_lock sizes) (c.config-lock.ensures.sizes ∙ (sym c.requires.of.sizes ∙ calling-sizes start view view _ _ _ at.0)) in (
-      phase-calling id start view next phase begun named at,
-      phase-out id start view next phase begun named at c.if-phase-eq0.true,
+      phase-calling first.id start view next phase making.1 named at,
+      phase-out first.id start view next phase making.1 named at c.if-phase-eq0.true,
       subst (λ (l : ℕ). IsTaking (taking_of l Write) next taking next) lock begun_now,
     )))
 
@@ -53,11 +55,11 @@ returns-then-phase-eq1-clause-turn c =
     let next = view_of c.step_15-phase.new.pass in
     let phase = c.step_15-phase.result in
     let stepped = c.step_15-phase.ensures.step in
-    went-on c.refuse.result c.args.self.now c.refuse.new.self Live (Leaving (Err (InUse In))) view next c.refuse.ensures.more c.refuse.ensures.stage c.requires.stage
-    (body-step view next (Phase c.index.result) phase stepped) (body-made view next (Phase c.index.result) phase stepped) (omega arith)
-    (λ id start same begun at.
-    let named = subst (λ (n : ℕ). Stepped MayLoadBody load_body view (Phase n) 0 0 phase next) (c.index.ensures.value ∙ ap (λ (i : Id). i.index) same) stepped in
-    phase-is_in id start view next phase begun named at c.if-phase-eq1.true)
+    went-on destroy_stages c.refuse.result c.args.self.now c.refuse.new.self Live (Leaving (Err (InUse In))) view next c.refuse.ensures.more c.refuse.ensures.stage c.requires.stage
+    (body-load-step view next (Phase c.index.result) phase stepped) (body-load-made view next (Phase c.index.result) phase stepped) (omega arith)
+    (λ first start making at.
+    let named = subst (λ (n : ℕ). Stepped MayLoadBody load_body view (Phase n) 0 0 phase next) (c.index.ensures.value ∙ ap (λ (i : Id). i.index) making.0) stepped in
+    phase-is_in first.id start view next phase making.1 named at c.if-phase-eq1.true)
 
 -- a phase word that is neither 0 nor 1 names a slot
 names : (phase : ℕ) → (phase ≡ 0 → ⊥) → (phase ≡ 1 → ⊥) → phase ≡ 2 + (phase - 2)
@@ -73,10 +75,7 @@ overflow_cast-phase c =
     let start = under_way.start in
     let at = subst (AtDestroy id start view) c.requires.stage under_way.goes.2 in
     let named = subst (λ (n : ℕ). Stepped MayLoadBody load_body view (Phase n) 0 0 phase next) (c.index.ensures.value ∙ ap (λ (i : Id). i.index) under_way.goes.0) c.step_15-phase.ensures.step in
-    let slot = slot-named id start view next phase under_way.goes.1 named at (phase - 2) (names phase c.if-phase-eq0.false c.if-phase-eq1.false) in
-    let sizes = sym (calling-sizes start view view _ _ _ at.0) ∙ c.requires.of.sizes in
-    let below = subst (λ (s : Config). phase - 2 < s.slots) sizes slot in
-    let most = c.args.world.now.in_limits.slots in
+    let low = phase-low id start view next phase under_way.goes.1 named at in
     omega arith
 
 pub returns-clause-turn : goal.returns-clause-turn
@@ -85,8 +84,8 @@ returns-clause-turn c =
     let next = view_of c.step_15-phase.new.pass in
     let phase = c.step_15-phase.result in
     let stepped = c.step_15-phase.ensures.step in
-    went-on c.go_on-2.result c.args.self.now c.go_on-2.new.self Live (Joining (phase - 2)) view next c.go_on-2.ensures.more c.go_on-2.ensures.stage c.requires.stage
-    (body-step view next (Phase c.index.result) phase stepped) (body-made view next (Phase c.index.result) phase stepped) (omega arith)
-    (λ id start same begun at.
-    let named = subst (λ (n : ℕ). Stepped MayLoadBody load_body view (Phase n) 0 0 phase next) (c.index.ensures.value ∙ ap (λ (i : Id). i.index) same) stepped in
-    phase-joining id start view next phase begun named at (phase - 2) (names phase c.if-phase-eq0.false c.if-phase-eq1.false))
+    went-on destroy_stages c.go_on-2.result c.args.self.now c.go_on-2.new.self Live (Joining (phase - 2)) view next c.go_on-2.ensures.more c.go_on-2.ensures.stage c.requires.stage
+    (body-load-step view next (Phase c.index.result) phase stepped) (body-load-made view next (Phase c.index.result) phase stepped) (omega arith)
+    (λ first start making at.
+    let named = subst (λ (n : ℕ). Stepped MayLoadBody load_body view (Phase n) 0 0 phase next) (c.index.ensures.value ∙ ap (λ (i : Id). i.index) making.0) stepped in
+    phase-joining first.id start view next phase making.1 named at (phase - 2) (names phase c.if-phase-eq0.false c.if-phase-eq1.false))

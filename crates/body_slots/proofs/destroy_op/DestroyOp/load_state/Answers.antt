@@ -1,15 +1,17 @@
-use Rattle.std.proofs.Common.{ℕ, ◌+◌, Err, sym, ◌∙◌, ap, subst, arith}
+use Rattle.std.proofs.Common.{◌≡◌, ℕ, Err, ◌∙◌, ap, subst, arith}
 use Rattle.body_ident.specs.Id.{Id}
 use Rattle.word_map.specs.declared.name.Name.TheVariants.{State}
 use Rattle.core_state.specs.declared.view.Mode.TheVariants.{Write}
 use Rattle.core_state.specs.Lives.{MayLoadBody, load_body, under_stripe}
 use Rattle.pass_table.specs.Stepping.{Stepped}
 use Rattle.pass_table.specs.Passes.{view_of}
+use Rattle.pass_table.proofs.Bodies.{body-load-step, body-load-made}
 use Rattle.body_slots.specs.declared.answers.DestroyRefused.TheVariants.{Gone}
 use Rattle.body_slots.specs.declared.destroy_op.DestroyStage.TheVariants.{Held, Live, Leaving}
 use Rattle.body_slots.specs.Destroying.{AtDestroy}
 use Rattle.body_slots.specs.DestroyLater.{stripe-held}
-use Rattle.body_slots.proofs.DestroyTurns.{went-on, body-step, body-made, state-live, state-gone}
+use Rattle.body_slots.proofs.Stages.{went-on}
+use Rattle.body_slots.proofs.DestroyTurns.{destroy_stages, state-live, state-gone}
 use Rattle.body_slots.proofs.destroy_op.DestroyOp.load_state.Goals as goal
 
 pub step_15-state-requires-clause-asks : goal.step_15-state-requires-clause-asks
@@ -26,11 +28,11 @@ returns-then-state-from-clause-turn c =
     let next = view_of c.step_15-state.new.pass in
     let state = c.step_15-state.result in
     let stepped = c.step_15-state.ensures.step in
-    went-on c.go_on.result c.args.self.now c.go_on.new.self Held Live view next c.go_on.ensures.more c.go_on.ensures.stage c.requires.stage
-    (body-step view next (State c.index.result) state stepped) (body-made view next (State c.index.result) state stepped) (omega arith)
-    (λ id start same begun at.
-    state-live id start view next state (subst (λ (n : ℕ). Stepped MayLoadBody load_body view (State n) 0 0 state next) (c.index.ensures.value ∙ ap (λ (i : Id). i.index) same) stepped)
-    (c.if-state-from.true ∙ ap (λ (n : ℕ). 256 + n) (c.from.ensures ∙ (c.seq.ensures ∙ ap (λ (i : Id). i.seq) same))) at)
+    went-on destroy_stages c.go_on.result c.args.self.now c.go_on.new.self Held Live view next c.go_on.ensures.more c.go_on.ensures.stage c.requires.stage
+    (body-load-step view next (State c.index.result) state stepped) (body-load-made view next (State c.index.result) state stepped) (omega arith)
+    (λ first start making at.
+    state-live first.id start view next state (subst (λ (n : ℕ). Stepped MayLoadBody load_body view (State n) 0 0 state next) (c.index.ensures.value ∙ ap (λ (i : Id). i.index) making.0) stepped)
+    (let says = c.if-state-from.true in let seq : c.from.result ≡ first.id.seq = c.from.ensures ∙ (c.seq.ensures ∙ ap (λ (i : Id). i.seq) making.0) in omega arith) at)
 
 pub returns-clause-turn : goal.returns-clause-turn
 returns-clause-turn c =
@@ -38,8 +40,8 @@ returns-clause-turn c =
     let next = view_of c.step_15-state.new.pass in
     let state = c.step_15-state.result in
     let stepped = c.step_15-state.ensures.step in
-    went-on c.go_on-2.result c.args.self.now c.go_on-2.new.self Held (Leaving (Err (Gone state))) view next c.go_on-2.ensures.more c.go_on-2.ensures.stage c.requires.stage
-    (body-step view next (State c.index.result) state stepped) (body-made view next (State c.index.result) state stepped) (omega arith)
-    (λ id start same begun at.
-    state-gone id start view next state begun (subst (λ (n : ℕ). Stepped MayLoadBody load_body view (State n) 0 0 state next) (c.index.ensures.value ∙ ap (λ (i : Id). i.index) same) stepped)
-    (λ says. c.if-state-from.false (says ∙ ap (λ (n : ℕ). 256 + n) (sym (c.from.ensures ∙ (c.seq.ensures ∙ ap (λ (i : Id). i.seq) same))))) at)
+    went-on destroy_stages c.go_on-2.result c.args.self.now c.go_on-2.new.self Held (Leaving (Err (Gone state))) view next c.go_on-2.ensures.more c.go_on-2.ensures.stage c.requires.stage
+    (body-load-step view next (State c.index.result) state stepped) (body-load-made view next (State c.index.result) state stepped) (omega arith)
+    (λ first start making at.
+    state-gone first.id start view next state making.1 (subst (λ (n : ℕ). Stepped MayLoadBody load_body view (State n) 0 0 state next) (c.index.ensures.value ∙ ap (λ (i : Id). i.index) making.0) stepped)
+    (λ says. let seq : c.from.result ≡ first.id.seq = c.from.ensures ∙ (c.seq.ensures ∙ ap (λ (i : Id). i.seq) making.0) in c.if-state-from.false (omega arith)) at)

@@ -3,7 +3,8 @@ use Rattle.body_ident.specs.Id.{Id}
 use Rattle.pass_table.specs.Passes.{view_of}
 use Rattle.free_list.specs.Heads.{PutInFront}
 use Rattle.body_slots.specs.declared.destroy_op.DestroyStage.TheVariants.{Linked, InFront}
-use Rattle.body_slots.proofs.DestroyTurns.{went-on}
+use Rattle.body_slots.proofs.Stages.{went-on}
+use Rattle.body_slots.proofs.DestroyTurns.{destroy_stages}
 use Rattle.body_slots.proofs.DestroyEnds.{put-step, put-made, put-first}
 use Rattle.body_slots.proofs.destroy_op.DestroyOp.put_in_front.Goals as goal
 
@@ -12,6 +13,6 @@ returns-clause-turn c =
     let view = view_of c.args.pass.now in
     let next = view_of c.put_in_front.new.pass in
     let put = c.put_in_front.ensures.put in
-    went-on c.go_on.result c.args.self.now c.go_on.new.self Linked InFront view next c.go_on.ensures.more c.go_on.ensures.stage c.requires.stage
+    went-on destroy_stages c.go_on.result c.args.self.now c.go_on.new.self Linked InFront view next c.go_on.ensures.more c.go_on.ensures.stage c.requires.stage
     (put-step view next c.index.result put) (put-made view next c.index.result put c.args.pass.now.number c.args.pass.now.numbered) (omega arith)
-    (λ id start same begun at. put-first id start view next begun (subst (λ (n : ℕ). PutInFront view next n) (c.index.ensures.value ∙ ap (λ (i : Id). i.index) same) put) at)
+    (λ first start making at. put-first first.id start view next making.1 (subst (λ (n : ℕ). PutInFront view next n) (c.index.ensures.value ∙ ap (λ (i : Id). i.index) making.0) put) at)

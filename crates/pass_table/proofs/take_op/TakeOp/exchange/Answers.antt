@@ -1,7 +1,7 @@
-use Rattle.std.proofs.Common.{ℕ, suc, Option, None, ap, sym, inr}
+use Rattle.std.proofs.Common.{ℕ, suc, Option, None, refl, ap, sym, inr}
 use Rattle.pass_table.specs.Passes.{view_of}
 use Rattle.pass_table.specs.TakeTurns.{turns_after}
-use Rattle.pass_table.proofs.Knowing.{lock-step-quiet}
+use Rattle.pass_table.proofs.Knowing.{step-alone, lock-step-quiet}
 use Rattle.pass_table.proofs.TakingTurns.{taking-on, taking-done}
 use Rattle.pass_table.proofs.Turning.{exchanged-step}
 use Rattle.pass_table.proofs.take_op.TakeOp.exchange.Goals as goal
@@ -25,11 +25,11 @@ returns-in-Ok-clause-answers c first start taking =
     let view = view_of c.args.pass.now in
     let next = view_of c.exchange.new.pass in
     let hit = c.in-Ok.ensures.exchanged in
-    taking-done first start c.args.self.now view next hit.left (lock-step-quiet _ _ view next _ _ _ _ hit.exchange.step) taking
+    taking-done first start c.args.self.now view next hit.left (lock-step-quiet _ _ view next _ _ _ _ hit.exchange.step _ refl) (step-alone _ _ view next _ _ _ _ hit.exchange.step) taking
 
 pub returns-in-Err-clause-keeps : goal.returns-in-Err-clause-keeps
 returns-in-Err-clause-keeps c first start taking =
     let view = view_of c.args.pass.now in
     let next = view_of c.exchange.new.pass in
     let missed = c.in-Err.ensures.exchanged in
-    taking-on first start c.args.self.now view next None missed.left (lock-step-quiet _ _ view next _ _ _ _ missed.exchange.step) tt taking
+    taking-on first start c.args.self.now view next None missed.left (lock-step-quiet _ _ view next _ _ _ _ missed.exchange.step _ refl) (step-alone _ _ view next _ _ _ _ missed.exchange.step) tt taking

@@ -1,8 +1,8 @@
-use Rattle.std.proofs.Common.{Some, sym, ◌∙◌}
+use Rattle.std.proofs.Common.{Some, refl, sym, ◌∙◌}
 use Rattle.std.proofs.lemmas.Bool.{false≢true}
 use Rattle.pass_table.specs.Passes.{view_of}
 use Rattle.pass_table.proofs.Turning.{loaded-step, loaded-made}
-use Rattle.pass_table.proofs.Knowing.{lock-step-quiet}
+use Rattle.pass_table.proofs.Knowing.{step-alone, lock-step-quiet}
 use Rattle.pass_table.proofs.TakingTurns.{taking-on}
 use Rattle.pass_table.proofs.take_op.TakeOp.load.Goals as goal
 
@@ -16,13 +16,13 @@ pub returns-then-excludes-clause-keeps : goal.returns-then-excludes-clause-keeps
 returns-then-excludes-clause-keeps c first start taking =
     let view = view_of c.args.pass.now in
     let next = view_of c.load_word-word.new.pass in
-    taking-on first start c.args.self.now view next c.args.self.now.loaded c.load_word-word.ensures.left (lock-step-quiet _ _ view next _ _ _ _ c.load_word-word.ensures.step) taking.open_to taking
+    taking-on first start c.args.self.now view next c.args.self.now.loaded c.load_word-word.ensures.left (lock-step-quiet _ _ view next _ _ _ _ c.load_word-word.ensures.step _ refl) (step-alone _ _ view next _ _ _ _ c.load_word-word.ensures.step) taking.open_to taking
 
 pub returns-clause-keeps : goal.returns-clause-keeps
 returns-clause-keeps c first start taking =
     let view = view_of c.args.pass.now in
     let next = view_of c.load_word-word.new.pass in
-    taking-on first start c.args.self.now view next (Some c.load_word-word.result) c.load_word-word.ensures.left (lock-step-quiet _ _ view next _ _ _ _ c.load_word-word.ensures.step)
+    taking-on first start c.args.self.now view next (Some c.load_word-word.result) c.load_word-word.ensures.left (lock-step-quiet _ _ view next _ _ _ _ c.load_word-word.ensures.step _ refl) (step-alone _ _ view next _ _ _ _ c.load_word-word.ensures.step)
     (λ excluded. false≢true (sym c.if-excludes.false ∙ c.excludes.ensures.1 excluded)) taking
 
 pub returns-clause-made : goal.returns-clause-made

@@ -1,0 +1,28 @@
+-- What a part stored, as what the whole call stored.
+use Rattle.std.proofs.Common.{◌≡◌, ℕ, List, ◌∷◌, ◌++◌, append_assoc, ap, sym, ◌∙◌, subst}
+use Rattle.word_map.specs.declared.config.Config.{Config}
+use Rattle.word_map.specs.declared.name.Name.{Name}
+use Rattle.core_state.specs.declared.item.Item.{Item}
+use Rattle.core_state.specs.declared.view.View.{View}
+use Rattle.core_state.specs.Log.{word, IsPrefix}
+use Rattle.batch_add.specs.Parts.{StoresFrom}
+use Rattle.batch_add.specs.WorkLater.{same_pass}
+
+-- what is stored in a later part is stored in the whole call
+pub from-from : (start mid next : View) (name : Name) (old new : ℕ) → mid.config ≡ start.config → mid.role ≡ start.role → IsPrefix start.known mid.known → StoresFrom mid next name old new
+    → StoresFrom start next name old new
+from-from start mid next name old new sizes role early stored = record {
+  since = early.0 ++ stored.since;
+  item = stored.item;
+  later = stored.later;
+  parts = stored.parts ∙ ap (λ (l : List Item). l ++ stored.item ∷ stored.later) same;
+  pass = same_pass mid start stored.item.pass (sym role) stored.pass;
+  named = stored.named;
+  is = stored.is;
+  was =
+      subst (λ (l : List Item). word start.config l name ≡ old) same
+      (subst (λ (c : Config). word c (mid.known ++ stored.since) name ≡ old) sizes stored.was);
+}
+  where
+    same : mid.known ++ stored.since ≡ start.known ++ (early.0 ++ stored.since)
+    same = ap (λ (l : List Item). l ++ stored.since) early.1 ∙ append_assoc start.known early.0 stored.since

@@ -1,0 +1,33 @@
+use Rattle.std.specs.Prelude.{List, Result, Ok, Err}
+use Rattle.std.proofs.Common.{ℕ, subst}
+use Rattle.body_ident.specs.Id.{Id}
+use Rattle.core_state.specs.declared.view.View.{View}
+use Rattle.pass_table.specs.Passes.{view_of}
+use Rattle.batch_add.specs.declared.prepared.Prepared.{Prepared}
+use Rattle.batch_add.specs.declared.answers.PrepareRefused.{PrepareRefused}
+use Rattle.batch_add.specs.declared.answers.PrepareRefused.TheVariants.{Memory, Empty, NoSlot, NoNodes, Gone, Held, AlreadyIn, WrongLayer}
+use Rattle.batch_add.specs.Preparing.{IsPrepareAnswer, PrepareAnswers}
+use Rattle.batch_add.proofs.calls.prepare.Goals as goal
+
+-- no turn answers want of memory
+answers-so : (layer : ℕ) (ids : List Id) (start next : View) (answer : Result Prepared PrepareRefused) → IsPrepareAnswer layer ids start next answer → PrepareAnswers layer ids start next answer
+answers-so layer ids start next (Ok prepared) is = is
+answers-so layer ids start next (Err Memory) is = absurd is
+answers-so layer ids start next (Err Empty) is = is
+answers-so layer ids start next (Err (NoSlot words)) is = is
+answers-so layer ids start next (Err (NoNodes need free)) is = is
+answers-so layer ids start next (Err (Gone at state)) is = is
+answers-so layer ids start next (Err (Held at slot)) is = is
+answers-so layer ids start next (Err (AlreadyIn at phase)) is = is
+answers-so layer ids start next (Err (WrongLayer at layer_of)) is = is
+
+pub returns-in-Ok-clause-answers : goal.returns-in-Ok-clause-answers
+returns-in-Ok-clause-answers g c =
+    let operation = c.in-Ok.preparing in
+    let begun = c.in-Ok.ensures.begun in
+    let view = view_of c.args.pass.now in
+    let next = view_of c.drive.new.pass in
+    answers-so c.args.layer c.args.ids.now view next c.drive.result
+    (subst (λ (l : ℕ). IsPrepareAnswer l c.args.ids.now view next c.drive.result) begun.0
+    (subst (λ (l : List Id). IsPrepareAnswer operation.layer l view next c.drive.result) begun.1
+    (c.drive.ensures.answers operation view begun.2)))

@@ -1,0 +1,66 @@
+use Rattle.std.proofs.Common.{◌≡◌, ℕ, ◌+◌, ◌<◌, sym, ◌∙◌, ap, subst, arith}
+use Rattle.word_map.specs.declared.config.Config.{Config}
+use Rattle.word_map.specs.Names.{pool_lock}
+use Rattle.core_state.specs.declared.view.Mode.TheVariants.{Write}
+use Rattle.core_state.specs.declared.view.View.{View}
+use Rattle.pass_table.specs.TakeTurns.{taking_of, IsTaking}
+use Rattle.pass_table.specs.Passes.{view_of}
+use Rattle.batch_add.specs.declared.giving_up.GiveStage.TheVariants.{Bare, Locking}
+use Rattle.batch_add.specs.WorkLater.{worked-sizes}
+use Rattle.batch_add.specs.GivingUp.{IsGiveTurn}
+use Rattle.batch_add.specs.GivingLater.{free-lock}
+use Rattle.batch_add.proofs.GiveTurns.{at-stage, went-on, ended, few-left}
+use Rattle.batch_add.proofs.GiveBodies.{nodes-many}
+use Rattle.batch_add.proofs.GiveSlot.{asks-slot, slot-gone, slot-step, slot-turn-made, gives-none}
+use Rattle.batch_add.proofs.giving_up.GivingUp.let_slot_go.Goals as goal
+
+pub step_27-requires-clause-asks : goal.step_27-requires-clause-asks
+step_27-requires-clause-asks c =
+    let view = view_of c.args.pass.now in
+    let now = at-stage c.args.self.now Bare view c.requires.under_way c.requires.stage in
+    asks-slot now.start now.before now.batch now.after c.args.self.now.kept now.begun view now.at
+
+pub returns-then-self-eq0-clause-turn : goal.returns-then-self-eq0-clause-turn
+returns-then-self-eq0-clause-turn c =
+    let kept = c.args.self.now.kept in
+    let view = view_of c.args.pass.now in
+    let next = view_of c.step_27.new.pass in
+    let stored = c.step_27.ensures.step in
+    ended c.args.self.now Bare view next c.requires.stage (slot-step view next kept.layer kept.slot stored) (slot-turn-made view next kept.layer kept.slot stored c.args.pass.now.number c.args.pass.now.numbered)
+    (λ start before batch after begun at.
+    gives-none start before batch after kept begun next (nodes-many kept batch begun.keeps ∙ c.if-self-eq0.true) (slot-gone start before batch after kept begun view at next stored))
+
+pub new-taking-requires-clause-free : goal.new-taking-requires-clause-free
+new-taking-requires-clause-free c =
+    let kept = c.args.self.now.kept in
+    let view = view_of c.args.pass.now in
+    let next = view_of c.step_27.new.pass in
+    let now = at-stage c.args.self.now Bare view c.requires.under_way c.requires.stage in
+    free-lock now.start next _ now.begun.rest (slot-gone now.start now.before now.batch now.after kept now.begun view now.at next c.step_27.ensures.step) _
+
+pub returns-clause-turn : goal.returns-clause-turn
+returns-clause-turn c =
+    let operation = c.args.self.now in
+    let kept = operation.kept in
+    let view = view_of c.args.pass.now in
+    let mid = view_of c.step_27.new.pass in
+    let stored = c.step_27.ensures.step in
+    let taking = c.new-taking.result in
+    let few = few-left taking in
+    let still : view_of c.new-taking.new.pass ≡ mid = ap view_of c.new-taking.ensures.pass in
+    let lock = c.config-lock.result.stripes + 1 in
+    let goes : IsTaking (taking_of lock Write) mid taking mid = subst (λ (v : View). IsTaking (taking_of lock Write) mid taking v) still c.new-taking.ensures.under_way in
+    subst (λ (v : View). IsGiveTurn c.go_on.result operation c.go_on.new.self view v) (sym still)
+    (went-on c.go_on.result operation c.go_on.new.self Bare (Locking taking) view mid c.go_on.ensures.more c.go_on.ensures.stage c.requires.stage (slot-step view mid kept.layer kept.slot stored)
+    (slot-turn-made view mid kept.layer kept.slot stored c.args.pass.now.number c.args.pass.now.numbered) (omega arith)
+    (λ start before batch after begun at.
+    let many = nodes-many kept batch begun.keeps in
+    let some = c.if-self-eq0.false in
+    let sizes : c.config-lock.result ≡ start.config = c.config-lock.ensures.sizes ∙ (sym c.requires.of.sizes ∙ worked-sizes start view _ at.worked) in (
+      more_nodes kept.node_count many some,
+      slot-gone start before batch after kept begun view at mid stored,
+      subst (λ (s : Config). IsTaking (taking_of (pool_lock s) Write) mid taking mid) sizes goes,
+    )))
+  where
+    more_nodes : {n : ℕ} (count : ℕ) → n ≡ count → (count ≡ 0 → ⊥) → 0 < n
+    more_nodes count same some = omega arith

@@ -1,0 +1,37 @@
+use Rattle.std.proofs.Common.{◌≡◌, ◌<◌, ℕ, ◌+◌, ◌*◌, sym, ◌∙◌, subst}
+use Rattle.word_map.specs.declared.name.Name.TheVariants.{LocA}
+use Rattle.word_map.specs.declared.config.Config.{Config}
+use Rattle.core_state.specs.Batches.{MayPlace}
+use Rattle.core_state.specs.Encoding.{place}
+use Rattle.pass_table.specs.Passes.{view_of}
+use Rattle.batch_add.specs.Drawing.{node_at}
+use Rattle.batch_add.specs.DrawStages.{planned_of, AtDraw}
+use Rattle.batch_add.proofs.DrawTurns.{may-place, index-below, placing-turn}
+use Rattle.batch_add.proofs.tree_drawing.TreeDrawing.place_body.Goals as goal
+
+pub step_23-requires-clause-named : goal.step_23-requires-clause-named
+step_23-requires-clause-named c =
+    let operation = c.args.self.now in
+    let view = view_of c.args.pass.now in
+    let under_way = c.requires.under_way in
+    let at = subst (AtDraw (planned_of operation) under_way.start view) c.requires.stage under_way.goes.1 in
+    let below = index-below (planned_of operation) under_way.start view c.args.node c.args.child c.args.index at in
+    subst (λ (s : Config). c.args.index < s.bodies) c.requires.of.sizes below
+
+pub step_23-requires-clause-asks : goal.step_23-requires-clause-asks
+step_23-requires-clause-asks c =
+    let operation = c.args.self.now in
+    let view = view_of c.args.pass.now in
+    let under_way = c.requires.under_way in
+    let at = subst (AtDraw (planned_of operation) under_way.start view) c.requires.stage under_way.goes.1 in
+    let is : 1 + (4 * c.from.result + c.from-2.result) ≡ place (node_at operation.nodes.items c.args.node) c.args.child = λ i. place ((c.from.ensures ∙ c.node.ensures) i) (c.from-2.ensures i) in
+    subst (λ (w : ℕ). MayPlace view (LocA c.args.index) w 0) (sym is) (may-place (planned_of operation) under_way.start view c.args.node c.args.child c.args.index at)
+
+pub returns-clause-turn : goal.returns-clause-turn
+returns-clause-turn c =
+    let operation = c.args.self.now in
+    let view = view_of c.args.pass.now in
+    let under_way = c.requires.under_way in
+    let at = subst (AtDraw (planned_of operation) under_way.start view) c.requires.stage under_way.goes.1 in
+    placing-turn c.go_on.result operation c.go_on.new.self view (view_of c.step_23.new.pass) c.args.pass.now.number c.args.pass.now.numbered c.next_child.result c.go_on.ensures.more c.go_on.ensures.stage
+    c.args.node c.args.child c.args.index (1 + (4 * c.from.result + c.from-2.result)) (λ i. place ((c.from.ensures ∙ c.node.ensures) i) (c.from-2.ensures i)) c.next_child.ensures c.requires.stage at.0.1 c.step_23.ensures.step

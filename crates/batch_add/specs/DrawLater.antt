@@ -1,0 +1,81 @@
+-- What others' steps between two turns leave of a tree that is being drawn: the nodes are the pass's own.
+use Rattle.std.proofs.Common.{◌≡◌, ℕ, ◌<◌, List, [], ◌∷◌, Contains, Some, refl, sym, ◌∙◌, subst, append_assoc, arith}
+use Rattle.std.specs.Prelude.{flat_map}
+use Rattle.std.proofs.lemmas.List.Elements.{Contains-get_or, Contains-append_left, Contains-append_right}
+use Rattle.tree_plan.specs.Plan.{node_count}
+use Rattle.word_map.specs.declared.name.Name.{Name}
+use Rattle.word_map.specs.declared.name.Name.TheVariants.{Child as ChildWord, Bound as BoundWord, Parent as ParentWord}
+use Rattle.core_state.specs.declared.view.Batch.{Batch}
+use Rattle.core_state.specs.declared.view.View.{View}
+use Rattle.core_state.specs.View.{known_word}
+use Rattle.core_state.specs.Nodes.{node_in}
+use Rattle.core_state.specs.Guards.{Owns, by_node, unplanned_nodes}
+use Rattle.core_state.specs.Quietly.{IsSteady, of_pass}
+use Rattle.core_state.specs.Batches.{batch_nodes_of}
+use Rattle.core_state.proofs.Beginning.{contains_first, contains_flat}
+use Rattle.pass_table.specs.Knowing.{KnowsMore}
+use Rattle.pass_table.proofs.Calling.{steady-more}
+use Rattle.batch_add.specs.declared.tree_drawing.TreeDrawing.{TreeDrawing}
+use Rattle.batch_add.specs.Drawing.{node_at}
+use Rattle.batch_add.specs.DrawStages.{Planned, Reached, HasDrawnUpTo, reached, IsDrawing}
+use Rattle.batch_add.specs.WorkLater.{worked-more, worked-batches}
+
+-- ---- own nodes
+
+-- a node of a batch of the pass is the pass's own
+pub own-node : (view : View) (n : ℕ) (name : Name) → Contains (batch_nodes_of view) n → node_in name ≡ Some n → Owns view.config view name
+own-node view n name among of_node =
+    by_node n
+    (subst (λ (l : List ℕ). Contains l n) (append_assoc (flat_map (λ (b : Batch). b.nodes) view.batches) view.loose (unplanned_nodes view.rebuild))
+    (Contains-append_left (batch_nodes_of view) (unplanned_nodes view.rebuild) n among))
+    of_node
+
+module _ (p : Planned) (start view : View) (r : Reached) (h : HasDrawnUpTo p start view r) where
+  -- the newest batch is among those of the pass
+  pub newest-among : Contains view.batches h.drawn
+  newest-among =
+      subst (λ (l : List Batch). Contains l h.drawn) (sym (worked-batches start view _ h.worked))
+      (Contains-append_right h.before (h.drawn ∷ []) h.drawn (contains_first h.drawn []))
+
+  pub drawn-nodes : h.drawn.nodes ≡ p.nodes
+  drawn-nodes = h.from.nodes ∙ h.begun_so.nodes
+
+  -- and its nodes are the pass's
+  pub node-inside : (n : ℕ) → n < node_count p.plan → Contains h.drawn.nodes (node_at p.nodes n)
+  node-inside n made =
+      subst (λ (l : List ℕ). Contains l (node_at p.nodes n)) (sym drawn-nodes)
+      (Contains-get_or p.nodes n 0 (let many = h.begun_so.many in omega arith))
+
+  pub node-own : (n : ℕ) → n < node_count p.plan → Contains (batch_nodes_of view) (node_at p.nodes n)
+  node-own n made =
+      Contains-append_left (flat_map (λ (b : Batch). b.nodes) view.batches) view.loose (node_at p.nodes n)
+      (contains_flat (λ (b : Batch). b.nodes) view.batches h.drawn (node_at p.nodes n) newest-among (node-inside n made))
+
+  pub node-steady : (n : ℕ) (name : Name) → n < node_count p.plan → node_in name ≡ Some (node_at p.nodes n) → IsSteady view name
+  node-steady n name made is = of_pass (own-node view (node_at p.nodes n) name (node-own n made) is)
+
+  -- others made steps
+  module _ (next : View) (more : KnowsMore view next) where
+    still : (n : ℕ) (name : Name) → n < node_count p.plan → node_in name ≡ Some (node_at p.nodes n) → known_word next name ≡ known_word view name
+    still n name made is = steady-more view next name more (node-steady n name made is)
+
+    pub drawn-later : HasDrawnUpTo p start next r
+    drawn-later = record {
+      before = h.before;
+      batch = h.batch;
+      begun_so = h.begun_so;
+      drawn = h.drawn;
+      written = h.written;
+      worked = worked-more start view next _ h.worked more;
+      from = h.from;
+      of_batch = h.of_batch;
+      says = record {
+        child = λ n k made few below. still n (ChildWord (node_at p.nodes n) k) made refl ∙ h.says.child n k made few below;
+        bounds = λ n k q made few side below some. still n (BoundWord (node_at p.nodes n) k q) made refl ∙ h.says.bounds n k q made few side below some;
+        parent = λ n made below. still n (ParentWord (node_at p.nodes n)) made refl ∙ h.says.parent n made below;
+      };
+      placed = h.placed;
+    }
+
+pub drawing-later : (first : TreeDrawing) (start : View) (operation : TreeDrawing) (view next : View) → KnowsMore view next → IsDrawing first start operation view → IsDrawing first start operation next
+drawing-later first start operation view next more drawing = (drawing.0, (drawing.1.0, drawn-later _ start view (reached operation.stage) drawing.1.1 next more))

@@ -1,0 +1,59 @@
+//! Preparing a batch and giving it up, each in one call.
+ghost use Rattle.std.specs.Prelude.{◌<◌, ◌≤◌, length, All};
+ghost use Rattle.pass_table.specs.Holding.{IsAtRest};
+ghost use Rattle.pass_table.specs.Passes.{view_of, IsOf};
+ghost use Rattle.batch_add.specs.Prepared.{IsGood};
+ghost use Rattle.batch_add.specs.Preparing.{PrepareAnswers};
+ghost use Rattle.batch_add.specs.Aborting.{HasAborted};
+
+use crate::aborting::AbortOp;
+use crate::answers::PrepareRefused;
+use crate::prepare_op::PrepareOp;
+use crate::prepared::Prepared;
+use body_ident::BodyId;
+use pass_table::{Pass, World, drive};
+use std::alloc::Global;
+use std::sync::Wait;
+
+/// Prepares a batch: the bodies of these ids, all in this layer and out of the broad phase, are held for it, and the tree over
+/// them is drawn apart. They come into the broad phase when it is finalized.
+///
+/// It may wait for locks. All memory is taken before its first step. It is refused, in this order, for want of memory, for an
+/// empty list, where no slot of the layer is empty, where too few nodes are free, and for the first id that cannot be marked;
+/// then all that was done is undone.
+pub fn prepare<R: Wait>(
+    rt: &R,
+    alloc: Global,
+    world: &World,
+    pass: &mut Pass,
+    layer: u32,
+    ids: &[BodyId],
+) -> Result<Prepared, PrepareRefused>
+    requires of { IsOf world.now pass.old }
+    requires in_layers { layer < world.now.map.layers }
+    requires below { All (λ id. id.index < world.now.map.bodies) ids.now }
+    requires few { length ids.now ≤ world.now.map.bodies }
+    requires rest { IsAtRest (view_of pass.old) }
+    ensures of { IsOf world.now pass.new }
+    ensures answers { PrepareAnswers layer ids.now (view_of pass.old) (view_of pass.new) result }
+{
+    match PrepareOp::new(alloc, world, pass, layer, ids) {
+        Ok(mut preparing) => drive(rt, world, pass, &mut preparing),
+        Err(_) => Err(PrepareRefused::Memory),
+    }
+}
+
+/// Gives a batch up: its bodies are unmarked, in order, its slot is empty again, and its nodes are in the pool again.
+///
+/// It may wait for locks. It takes no memory and is not refused.
+pub fn abort<R: Wait>(rt: &R, world: &World, pass: &mut Pass, batch: Prepared)
+    requires of { IsOf world.now pass.old }
+    requires rest { IsAtRest (view_of pass.old) }
+    requires good { IsGood batch (view_of pass.old) }
+    ensures of { IsOf world.now pass.new }
+    ensures aborted { HasAborted batch (view_of pass.old) (view_of pass.new) }
+{
+    let mut aborting = AbortOp::new(world, pass, batch);
+    drive(rt, world, pass, &mut aborting);
+    aborting.leave();
+}

@@ -1,0 +1,373 @@
+//! Marking the bodies of a batch, turn by turn: body by body, in the order of the ids, under the body's stripe.
+ghost use Rattle.std.specs.Prelude.{◌≡◌, ◌+◌, ◌*◌, ◌^◌, ◌<◌, ◌≤◌, ℕ, List, None, All, length};
+ghost use Rattle.word_map.specs.Names.{stripe_of};
+ghost use Rattle.core_state.specs.declared.view.Batch.{Batch};
+ghost use Rattle.pass_table.specs.declared.turn.Turn.TheVariants.{More};
+ghost use Rattle.pass_table.specs.Holding.{IsAtRest};
+ghost use Rattle.pass_table.specs.Passes.{view_of, IsOf};
+ghost use Rattle.pass_table.specs.Turning.{IsUnderWay};
+ghost use Rattle.batch_add.specs.declared.mark_op.MarkStage.TheVariants.{Taking, Striped, Live, Joining, Placed, Outside, Sides, Boxed, Leaving, Refusing};
+ghost use Rattle.batch_add.specs.Marking.{marks_of, current, IsForNewest, IsMarking, IsMarkTurn, Notes, mark_left};
+
+use crate::mark_op::{MarkRefused, MarkStage, Marking};
+use body_ident::BodyId;
+use core_state::Mode;
+use fixed_box::FixBox;
+use pass_table::{Label, Operation, Pass, TakeOp, Turn, World, release, step_15, step_17, step_19};
+use scene_model::{Entry, Made};
+use word_map::Name;
+
+/// A slot word from here on names the root of a tree; the words below are those of batches that are not attached yet.
+const TREES: u64 = 1024;
+
+impl Operation for Marking {
+    ghost use Rattle.core_state.specs.declared.view.Mode.TheVariants.{Write};
+    ghost use Rattle.batch_add.specs.Marking.{IsMarking, HasMadeMarks, mark_left};
+    ghost use Rattle.batch_add.specs.MarkLater.{marking-later};
+
+    type Done = Result<(), MarkRefused>;
+
+    ghost under_way = { IsMarking };
+
+    ghost answers = { HasMadeMarks };
+
+    ghost left = { mark_left };
+
+    ghost takes = { λ operation. Write };
+
+    ghost reached = { λ operation. None };
+
+    ghost entry = { λ operation. operation.made };
+
+    fn turn(&mut self, world: &World, pass: &mut Pass) -> Turn<Result<(), MarkRefused>> {
+        self.next_turn(world, pass)
+    }
+
+    fn label(&self) -> Option<Label> {
+        None
+    }
+
+    fn made(&self) -> Option<&Made> {
+        self.made.as_ref()
+    }
+
+    ghost may_look = { marking-later };
+}
+
+impl Marking {
+    /// Begins to mark the bodies of some ids for the newest batch; no step is made yet.
+    pub(crate) fn new(
+        world: &World,
+        pass: &mut Pass,
+        layer: u32,
+        slot: u32,
+        ids: Vec<BodyId>,
+        bodies: Vec<(u32, FixBox)>,
+    ) -> Marking
+        requires of { IsOf world.now pass.old }
+        requires some { 0 < length ids.items }
+        requires below { All (λ id. id.index < world.now.map.bodies) ids.items }
+        requires room { length bodies.items ≡ length ids.items }
+        requires rest { IsAtRest (view_of pass.old) }
+        requires newest { (before : List Batch) × (batch : Batch) × IsForNewest layer slot (view_of pass.old) before batch }
+        ensures pass { pass.new ≡ pass.old }
+        ensures layer { result.layer ≡ layer }
+        ensures slot { result.slot ≡ slot }
+        ensures ids { result.ids.items ≡ ids.items }
+        ensures made { result.made ≡ None }
+        ensures left { mark_left result ≤ 13 * length ids.items }
+        ensures under_way { IsMarking result (view_of pass.old) result (view_of pass.new) }
+    {
+        let stripe = ids[0].index() % world.config().stripes;
+        let taking = TakeOp::new(world, pass, stripe, Mode::Write);
+        Marking {
+            layer,
+            slot,
+            ids,
+            bodies,
+            marked: 0,
+            stage: MarkStage::Taking { taking },
+            made: None,
+        }
+    }
+
+    /// The turn of the stage that it is at.
+    fn next_turn(&mut self, world: &World, pass: &mut Pass) -> Turn<Result<(), MarkRefused>>
+        requires of { IsOf world.now pass.old }
+        requires under_way { IsUnderWay IsMarking self.old (view_of pass.old) }
+        ensures of { IsOf world.now pass.new }
+        ensures turn { IsMarkTurn result self.old self.new (view_of pass.old) (view_of pass.new) }
+    {
+        match self.stage {
+            MarkStage::Taking { taking } => self.take_stripe(world, pass, taking),
+            MarkStage::Striped => self.load_state(world, pass),
+            MarkStage::Live => self.load_phase(world, pass),
+            MarkStage::Joining { phase } => self.load_its_layer(world, pass, phase),
+            MarkStage::Placed { phase, layer } => self.load_slot(world, pass, phase, layer),
+            MarkStage::Outside => self.load_layer(world, pass),
+            MarkStage::Sides { words, loaded } => self.load_side(world, pass, words, loaded),
+            MarkStage::Boxed { bounds } => self.mark(world, pass, bounds),
+            MarkStage::Leaving { stripe } => self.leave(world, pass, stripe),
+            MarkStage::Refusing { refused } => self.refuse(world, pass, refused),
+        }
+    }
+
+    /// The id of the next body.
+    fn id(&self) -> BodyId
+        requires next { self.now.marked < length self.now.ids.items }
+        ensures { result ≡ current (marks_of self.now) }
+    {
+        self.ids[self.marked as usize]
+    }
+
+    /// The stripe of the next body.
+    fn stripe(&self, world: &World) -> u32
+        requires next { self.now.marked < length self.now.ids.items }
+        ensures value { result ≡ stripe_of world.now.map (current (marks_of self.now)).index }
+        ensures below { result < world.now.map.stripes }
+    {
+        self.id().index() % world.config().stripes
+    }
+
+    /// Goes on to a stage, after a turn that made no entry.
+    fn go_on(&mut self, stage: MarkStage) -> Turn<Result<(), MarkRefused>>
+        ensures more { result ≡ More }
+        ensures stage { self.new ≡ record self.old { stage = stage; made = None } }
+    {
+        self.stage = stage;
+        self.made = None;
+        Turn::More
+    }
+
+    /// A turn of taking the stripe.
+    fn take_stripe(
+        &mut self,
+        world: &World,
+        pass: &mut Pass,
+        taking: TakeOp,
+    ) -> Turn<Result<(), MarkRefused>>
+        requires of { IsOf world.now pass.old }
+        requires under_way { IsUnderWay IsMarking self.old (view_of pass.old) }
+        requires stage { self.old.stage ≡ Taking taking }
+        ensures of { IsOf world.now pass.new }
+        ensures turn { IsMarkTurn result self.old self.new (view_of pass.old) (view_of pass.new) }
+    {
+        let mut taking = taking;
+        match taking.turn(world, pass) {
+            Turn::Done(()) => self.go_on(MarkStage::Striped),
+            Turn::More => self.go_on(MarkStage::Taking { taking }),
+            Turn::Again { lock, word } => {
+                self.go_on(MarkStage::Taking { taking });
+                Turn::Again { lock, word }
+            }
+        }
+    }
+
+    /// The turn that loads the state word: it tells whether the id's body is live.
+    fn load_state(&mut self, world: &World, pass: &mut Pass) -> Turn<Result<(), MarkRefused>>
+        requires of { IsOf world.now pass.old }
+        requires under_way { IsUnderWay IsMarking self.old (view_of pass.old) }
+        requires stage { self.old.stage ≡ Striped }
+        ensures of { IsOf world.now pass.new }
+        ensures turn { IsMarkTurn result self.old self.new (view_of pass.old) (view_of pass.new) }
+    {
+        let id = self.id();
+        let state = step_15(world, pass, Name::State(id.index()));
+        if state == 256 + u64::from(id.seq()) {
+            return self.go_on(MarkStage::Live);
+        }
+        self.go_on(MarkStage::Refusing {
+            refused: MarkRefused::Gone { state },
+        })
+    }
+
+    /// The turn that loads the phase word.
+    fn load_phase(&mut self, world: &World, pass: &mut Pass) -> Turn<Result<(), MarkRefused>>
+        requires of { IsOf world.now pass.old }
+        requires under_way { IsUnderWay IsMarking self.old (view_of pass.old) }
+        requires stage { self.old.stage ≡ Live }
+        ensures of { IsOf world.now pass.new }
+        ensures turn { IsMarkTurn result self.old self.new (view_of pass.old) (view_of pass.new) }
+    {
+        let phase = step_15(world, pass, Name::Phase(self.id().index()));
+        if phase == 0 {
+            return self.go_on(MarkStage::Outside);
+        }
+        if phase == 1 {
+            return self.go_on(MarkStage::Refusing {
+                refused: MarkRefused::AlreadyIn { phase },
+            });
+        }
+        self.go_on(MarkStage::Joining { phase })
+    }
+
+    /// The turn that loads the layer of a body whose phase word names a slot.
+    fn load_its_layer(
+        &mut self,
+        world: &World,
+        pass: &mut Pass,
+        phase: u64,
+    ) -> Turn<Result<(), MarkRefused>>
+        requires of { IsOf world.now pass.old }
+        requires under_way { IsUnderWay IsMarking self.old (view_of pass.old) }
+        requires stage { self.old.stage ≡ Joining phase }
+        ensures of { IsOf world.now pass.new }
+        ensures turn { IsMarkTurn result self.old self.new (view_of pass.old) (view_of pass.new) }
+    {
+        let layer = step_15(world, pass, Name::Layer(self.id().index()));
+        self.go_on(MarkStage::Placed {
+            phase,
+            layer: layer as u32,
+        })
+    }
+
+    /// The turn that loads the slot word: a slot that holds no tree yet is one for whose batch the body is held.
+    fn load_slot(
+        &mut self,
+        world: &World,
+        pass: &mut Pass,
+        phase: u64,
+        layer: u32,
+    ) -> Turn<Result<(), MarkRefused>>
+        requires of { IsOf world.now pass.old }
+        requires under_way { IsUnderWay IsMarking self.old (view_of pass.old) }
+        requires stage { self.old.stage ≡ Placed phase layer }
+        ensures of { IsOf world.now pass.new }
+        ensures turn { IsMarkTurn result self.old self.new (view_of pass.old) (view_of pass.new) }
+    {
+        let slot = step_17(world, pass, Name::Slot(layer, (phase - 2) as u32));
+        if slot < TREES {
+            return self.go_on(MarkStage::Refusing {
+                refused: MarkRefused::Held { slot },
+            });
+        }
+        self.go_on(MarkStage::Refusing {
+            refused: MarkRefused::AlreadyIn { phase },
+        })
+    }
+
+    /// The turn that loads the layer of a body that is out.
+    fn load_layer(&mut self, world: &World, pass: &mut Pass) -> Turn<Result<(), MarkRefused>>
+        requires of { IsOf world.now pass.old }
+        requires under_way { IsUnderWay IsMarking self.old (view_of pass.old) }
+        requires stage { self.old.stage ≡ Outside }
+        ensures of { IsOf world.now pass.new }
+        ensures turn { IsMarkTurn result self.old self.new (view_of pass.old) (view_of pass.new) }
+    {
+        let layer = step_15(world, pass, Name::Layer(self.id().index()));
+        if layer == u64::from(self.layer) {
+            return self.go_on(MarkStage::Sides {
+                words: [0; 6],
+                loaded: 0,
+            });
+        }
+        self.go_on(MarkStage::Refusing {
+            refused: MarkRefused::WrongLayer { layer },
+        })
+    }
+
+    /// A turn that loads a side of the box. After the last one the box is known.
+    fn load_side(
+        &mut self,
+        world: &World,
+        pass: &mut Pass,
+        words: [u64; 6],
+        loaded: u32,
+    ) -> Turn<Result<(), MarkRefused>>
+        requires of { IsOf world.now pass.old }
+        requires under_way { IsUnderWay IsMarking self.old (view_of pass.old) }
+        requires stage { self.old.stage ≡ Sides words loaded }
+        ensures of { IsOf world.now pass.new }
+        ensures turn { IsMarkTurn result self.old self.new (view_of pass.old) (view_of pass.new) }
+    {
+        let mut words = words;
+        words[loaded as usize] = step_15(world, pass, Name::BoxWord(self.id().index(), loaded));
+        if loaded < 5 {
+            return self.go_on(MarkStage::Sides {
+                words,
+                loaded: loaded + 1,
+            });
+        }
+        match FixBox::from_words(words) {
+            Some(bounds) => self.go_on(MarkStage::Boxed { bounds }),
+            None => unreachable!(),
+        }
+    }
+
+    /// Notes a body that was marked by the pass with this number.
+    fn note(&mut self, number: u32, index: u32, bounds: FixBox, stripe: u32)
+        requires next { self.old.marked < length self.old.ids.items }
+        requires room { length self.old.bodies.items ≡ length self.old.ids.items }
+        requires fits { self.old.marked + 1 < 2 ^ 32 }
+        ensures { Notes self.old self.new number index bounds stripe }
+    {
+        self.bodies[self.marked as usize] = (index, bounds);
+        self.marked += 1;
+        self.stage = MarkStage::Leaving { stripe };
+        self.made = Some(Made {
+            pass: number,
+            entry: Entry::Mark { index },
+        });
+    }
+
+    /// The turn that marks the body.
+    fn mark(
+        &mut self,
+        world: &World,
+        pass: &mut Pass,
+        bounds: FixBox,
+    ) -> Turn<Result<(), MarkRefused>>
+        requires of { IsOf world.now pass.old }
+        requires under_way { IsUnderWay IsMarking self.old (view_of pass.old) }
+        requires stage { self.old.stage ≡ Boxed bounds }
+        ensures of { IsOf world.now pass.new }
+        ensures turn { IsMarkTurn result self.old self.new (view_of pass.old) (view_of pass.new) }
+    {
+        let index = self.id().index();
+        let stripe = self.stripe(world);
+        step_19(world, pass, Name::Phase(index), 2 + u64::from(self.slot));
+        self.note(pass.number(), index, bounds, stripe);
+        Turn::More
+    }
+
+    /// The turn that lets the stripe of a body go that is marked. After the last one all are.
+    fn leave(
+        &mut self,
+        world: &World,
+        pass: &mut Pass,
+        stripe: u32,
+    ) -> Turn<Result<(), MarkRefused>>
+        requires of { IsOf world.now pass.old }
+        requires under_way { IsUnderWay IsMarking self.old (view_of pass.old) }
+        requires stage { self.old.stage ≡ Leaving stripe }
+        ensures of { IsOf world.now pass.new }
+        ensures turn { IsMarkTurn result self.old self.new (view_of pass.old) (view_of pass.new) }
+    {
+        release(world, pass, stripe);
+        if self.marked as usize == self.ids.len() {
+            self.made = None;
+            return Turn::Done(Ok(()));
+        }
+        let next = self.stripe(world);
+        let taking = TakeOp::new(world, pass, next, Mode::Write);
+        self.go_on(MarkStage::Taking { taking })
+    }
+
+    /// The turn that lets the stripe of a body go that is not marked.
+    fn refuse(
+        &mut self,
+        world: &World,
+        pass: &mut Pass,
+        refused: MarkRefused,
+    ) -> Turn<Result<(), MarkRefused>>
+        requires of { IsOf world.now pass.old }
+        requires under_way { IsUnderWay IsMarking self.old (view_of pass.old) }
+        requires stage { self.old.stage ≡ Refusing refused }
+        ensures of { IsOf world.now pass.new }
+        ensures turn { IsMarkTurn result self.old self.new (view_of pass.old) (view_of pass.new) }
+    {
+        release(world, pass, self.stripe(world));
+        self.made = None;
+        Turn::Done(Err(refused))
+    }
+}

@@ -1,0 +1,6 @@
+use Rattle.pass_table.specs.Passes.{view_of}
+use Rattle.free_list.proofs.Heads.{loaded-head}
+use Rattle.free_list.proofs.index_steps.load_head.Goals as goal
+
+pub returns-clause-loaded : goal.returns-clause-loaded
+returns-clause-loaded c = loaded-head (view_of c.args.pass.now) (view_of c.step_9.new.pass) c.step_9.result c.requires.list c.step_9.ensures.step

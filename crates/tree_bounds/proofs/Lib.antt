@@ -1,0 +1,6 @@
+pub mod Sides
+pub mod NodeHulls
+pub mod FirstChildren
+pub mod ByIndex
+pub mod Filling
+pub mod Sets

@@ -1,0 +1,129 @@
+ghost use Rattle.std.specs.Prelude.{◌≡◌, ℕ, [], ◌*◌, ◌<◌, ◌≤◌, length, map, IfOk, Contains};
+ghost use Rattle.std.specs.List.Sorted.{IsStrictlyIncreasing};
+ghost use Rattle.tree_plan.specs.declared.plan_child.PlanChild.TheVariants.{Body, Node};
+ghost use Rattle.tree_plan.specs.Plan.{node_count, child_at, IsPlanOf};
+ghost use Rattle.tree_bounds.specs.Bounds.{IsHullOfNode, AreBoundsOf};
+ghost use Rattle.tree_bounds.specs.Held.{bound_in, bound_of};
+
+use crate::by_index::box_of;
+use crate::hull::hull_of_node;
+use fixed_box::{Coord, FixBox};
+use std::alloc::{AllocError, Global};
+use std::marker::Model;
+use tree_plan::{PlanChild, Planner, need};
+
+/// The bound of one child: of a body its box, and of a node the hull of the bounds that stand at its children.
+/// Where there is no child the bound stays.
+fn bound_of_child(
+    planner: &Planner,
+    bodies: &[(u32, FixBox)],
+    bounds: &[FixBox],
+    node: u32,
+    c: u32,
+) -> FixBox
+    requires planned { IsPlanOf bodies.now planner.now }
+    requires ascending { IsStrictlyIncreasing (map (λ b. b.0) bodies.now) }
+    requires room { 4 * node_count planner.now ≤ length bounds.now }
+    requires node { node < node_count planner.now }
+    requires child { c < 4 }
+    ensures a_body { (index : ℕ) → child_at planner.now node c ≡ Body index → Contains bodies.now (index, result) }
+    ensures a_node { (m : ℕ) → child_at planner.now node c ≡ Node m → IsHullOfNode planner.now (bound_in bounds.now) m result }
+{
+    match planner.child(node, c) {
+        PlanChild::Nothing => bounds[4 * node as usize + c as usize],
+        PlanChild::Body(index) => box_of(bodies, index),
+        PlanChild::Node(below) => hull_of_node(planner, bounds, below),
+    }
+}
+
+/// Writes the bounds of all children, from the last of the last node to the first of the first. A node stands above
+/// those below it in number, so their bounds are there before its own.
+fn fill_from_the_last(planner: &Planner, bodies: &[(u32, FixBox)], bounds: &mut [FixBox])
+    requires planned { IsPlanOf bodies.now planner.now }
+    requires ascending { IsStrictlyIncreasing (map (λ b. b.0) bodies.now) }
+    requires room { 4 * node_count planner.now ≤ length bounds.old }
+    ensures { AreBoundsOf bodies.now planner.now (bound_in bounds.new) }
+{
+    let places = 4 * planner.len() as usize;
+    for done in 0..places {
+        let place = places - 1 - done;
+        let node = (place / 4) as u32;
+        let child = (place % 4) as u32;
+        let bound = bound_of_child(planner, bodies, bounds, node, child);
+        bounds[place] = bound;
+    }
+}
+
+/// The bounds of the children of a planned tree, four for each node.
+///
+/// The memory for the largest tree is taken at once, so the same serves for one tree after another.
+#[derive(Debug, Drop)]
+pub struct TreeBounds {
+    most: u32,
+    len: u32,
+    bounds: Vec<FixBox>,
+}
+
+impl Model for TreeBounds {
+    ghost use Rattle.std.specs.Prelude.{◌*◌, ◌≤◌, take, vec_len};
+    ghost use Rattle.scene_model.specs.Need.{need};
+    ghost use Rattle.tree_bounds.specs.Held.{HeldBounds};
+
+    ghost Value = { HeldBounds };
+
+    ghost view = { λ t. record { most = t.most; nodes = t.len; boxes = take (4 * t.len) t.bounds.items } };
+
+    ghost invariant = { λ t. (t.most ≤ 1048576) × (t.len ≤ need t.most) × (4 * need t.most ≤ vec_len t.bounds) };
+}
+
+impl TreeBounds {
+    /// Room for the bounds of a tree over so many bodies at most. It has none yet. It takes all memory that it ever
+    /// needs, and fails where there is not enough.
+    pub fn new(alloc: Global, most: u32) -> Result<TreeBounds, AllocError>
+        requires { most ≤ 1048576 }
+        ensures { IfOk result (λ t. t ≡ record { most = most; nodes = 0; boxes = [] }) }
+    {
+        let corner = [Coord { value: 0 }; 3];
+        let bounds = FixBox {
+            lo: corner,
+            hi: corner,
+        };
+        Ok(TreeBounds {
+            most,
+            len: 0,
+            bounds: vec![in alloc; bounds; 4 * need(most) as usize]?,
+        })
+    }
+
+    /// Computes the bounds of the tree that was planned over these bodies, in place of those before. It takes no
+    /// memory.
+    ///
+    /// The bodies come in the order of their indexes, as `sort_by_index` puts them.
+    pub fn fill(&mut self, planner: &Planner, bodies: &[(u32, FixBox)])
+        requires few { length bodies.now ≤ self.old.most }
+        requires planned { IsPlanOf bodies.now planner.now }
+        requires ascending { IsStrictlyIncreasing (map (λ b. b.0) bodies.now) }
+        ensures bounds { AreBoundsOf bodies.now planner.now (bound_of self.new) }
+        ensures nodes { self.new.nodes ≡ node_count planner.now }
+        ensures most { self.new.most ≡ self.old.most }
+    {
+        self.len = planner.len();
+        fill_from_the_last(planner, bodies, &mut self.bounds);
+    }
+
+    /// How many nodes have bounds.
+    pub fn len(&self) -> u32
+        ensures { result ≡ self.now.nodes }
+    {
+        self.len
+    }
+
+    /// The bound of a child, from 0 to 3, of a node. Where no child stands it is of no meaning.
+    pub fn bound(&self, node: u32, c: u32) -> FixBox
+        requires node { node < self.now.nodes }
+        requires child { c < 4 }
+        ensures { result ≡ bound_of self.now node c }
+    {
+        self.bounds[4 * node as usize + c as usize]
+    }
+}

@@ -1,5 +1,5 @@
 -- After each call on batches its pass is at rest.
-use Rattle.std.proofs.Common.{◌≡◌, ℕ, List, Result, Ok, Err, ap, sym, ◌∙◌, subst}
+use Rattle.std.proofs.Common.{ℕ, List, Result, Ok, Err, ap, sym, ◌∙◌, subst}
 use Rattle.body_ident.specs.Id.{Id}
 use Rattle.core_state.specs.declared.view.View.{View}
 use Rattle.core_state.specs.View.{mode_of}

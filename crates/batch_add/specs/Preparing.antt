@@ -37,7 +37,7 @@ use Rattle.batch_add.specs.declared.prepare_op.PrepareStage.TheVariants.{Empty, 
 use Rattle.batch_add.specs.declared.prepare_op.PrepareOp.{PrepareOp}
 use Rattle.batch_add.specs.declared.prepare_op.Plans.{Plans}
 use Rattle.batch_add.specs.Work.{Outcome, HasWorked, HasDone, begun, idle}
-use Rattle.batch_add.specs.Parts.{stored_as, StoresFrom, HasReserved, FoundNoSlot, IsNewest, with_nodes, HasNodes, FoundFewNodes, marked_as, HasMarked, HasMarkedBefore, IsMarkRefusedAt, HasDrawn}
+use Rattle.batch_add.specs.Parts.{stored_as, StoresFrom, HasReserved, FoundNoSlot, with_nodes, HasNodes, FoundFewNodes, marked_as, HasMarked, HasMarkedBefore, IsMarkRefusedAt}
 use Rattle.batch_add.specs.Prepared.{IsGood}
 use Rattle.batch_add.specs.Searching.{IsSearching, search_left}
 use Rattle.batch_add.specs.TakingNodes.{IsTakingNodes, nodes_left}

@@ -5,12 +5,12 @@ ghost use Rattle.pass_table.specs.Opened.{AreAll};
 ghost use Rattle.pass_table.specs.Passes.{view_of, IsOf};
 ghost use Rattle.batch_add.specs.Prepared.{IsGood};
 
-use crate::{PrepareRefused, Prepared, abort, finalize, prepare};
+use crate::{PrepareOp, PrepareRefused, Prepared, abort, finalize, prepare};
 use body_ident::BodyId;
 use body_slots::{DestroyRefused, create, destroy};
 use fixed_box::FixBox;
-use pass_table::{Pass, PassList, World, open_world};
-use scene_model::Phase;
+use pass_table::{Operation, Pass, PassList, Turn, World, open_world};
+use scene_model::{Entry, Made, Phase};
 use std::alloc::Global;
 use std::sync::Wait;
 use std::test::Fail;
@@ -323,4 +323,113 @@ fn is_without(answer: Result<Prepared, PrepareRefused>, roots: [u64; 3]) -> bool
             false
         }
     }
+}
+
+/// Prepares a batch in layer 0 turn by turn. Answers the marks and the unmarks that the turns tell, each index counted by one
+/// more than itself, and whether it was refused since the second body is held.
+fn hold_by_turns(
+    alloc: Global,
+    world: &World,
+    pass: &mut Pass,
+    ids: &[BodyId],
+) -> Option<(u32, u32, bool)>
+    requires of { IsOf world.now pass.old }
+    requires layers { 0 < world.now.map.layers }
+    requires below { All (λ id. id.index < world.now.map.bodies) ids.now }
+    requires few { length ids.now ≤ world.now.map.bodies }
+    requires rest { IsAtRest (view_of pass.old) }
+    ensures of { IsOf world.now pass.new }
+{
+    let Ok(mut preparing) = PrepareOp::new(alloc, world, pass, 0, ids) else {
+        return None;
+    };
+    let (mut marks, mut unmarks) = (0u32, 0u32);
+    for _ in 0..200 {
+        match preparing.turn(world, pass) {
+            Turn::Done(answer) => return Some((marks, unmarks, is_held_second(answer))),
+            Turn::Again { .. } => return None,
+            Turn::More => {
+                let (marked, unmarked) = told(preparing.made());
+                marks = marks.saturating_add(marked);
+                unmarks = unmarks.saturating_add(unmarked);
+            }
+        }
+    }
+    None
+}
+
+/// What a turn tells, as a mark and as an unmark.
+fn told(made: Option<&Made>) -> (u32, u32) {
+    match made {
+        None => (0, 0),
+        Some(made) => match made.entry {
+            Entry::Mark { index } => (index.saturating_add(1), 0),
+            Entry::Unmark { index } => (0, index.saturating_add(1)),
+            _ => (0, 0),
+        },
+    }
+}
+
+#[test]
+fn marks_of_a_refused_batch_are_taken_back(rt: HostRuntime) -> Result<(), Fail> {
+    let alloc = rt.alloc();
+    let Ok((world, mut list)) = open_world(alloc, sizes(2, 4)) else {
+        panic!(rt; "no world")
+    };
+    let Some((mut pass, mut other, _third)) = three(&world, &mut list) else {
+        panic!(rt; "no pass")
+    };
+    let (a, b) = (BodyId::new(0, 1), BodyId::new(1, 1));
+    assert!(rt; makes(&rt, &world, &mut pass, a));
+    assert!(rt; makes(&rt, &world, &mut pass, b));
+    let Ok(batch) = hold(&rt, alloc, &world, &mut pass, &[a]) else {
+        panic!(rt; "not prepared")
+    };
+    let seen = hold_by_turns(alloc, &world, &mut other, &[b, a]);
+    attach(&world, &mut pass, batch);
+    assert!(rt; seen == Some((2, 2, true)));
+    assert!(rt; unmake(&rt, &world, &mut pass, b).is_ok());
+    Ok(())
+}
+
+/// Prepares a batch, and once more if there was not enough memory. Under `rt try --test --fail-alloc N` some allocation fails.
+fn hold_again<R: Wait>(
+    rt: &R,
+    alloc: Global,
+    world: &World,
+    pass: &mut Pass,
+    ids: &[BodyId],
+) -> Result<Prepared, PrepareRefused>
+    requires of { IsOf world.now pass.old }
+    requires layers { 0 < world.now.map.layers }
+    requires below { All (λ id. id.index < world.now.map.bodies) ids.now }
+    requires few { length ids.now ≤ world.now.map.bodies }
+    requires rest { IsAtRest (view_of pass.old) }
+    ensures of { IsOf world.now pass.new }
+    ensures rest { IsAtRest (view_of pass.new) }
+    ensures good { IfOk result (λ batch. IsGood batch (view_of pass.new)) }
+{
+    match hold(rt, alloc, world, pass, ids) {
+        Err(PrepareRefused::Memory) => hold(rt, alloc, world, pass, ids),
+        answer => answer,
+    }
+}
+
+#[test]
+fn a_batch_is_prepared_once_there_is_memory(rt: HostRuntime) -> Result<(), Fail> {
+    let alloc = rt.alloc();
+    let Ok((world, mut list)) = open_world(alloc, sizes(1, 4)) else {
+        panic!(rt; "no world")
+    };
+    let Some((mut pass, ..)) = three(&world, &mut list) else {
+        panic!(rt; "no pass")
+    };
+    let id = BodyId::new(0, 1);
+    assert!(rt; makes(&rt, &world, &mut pass, id));
+    let Ok(batch) = hold_again(&rt, alloc, &world, &mut pass, &[id]) else {
+        panic!(rt; "not prepared")
+    };
+    attach(&world, &mut pass, batch);
+    assert!(rt; is_in(&rt, &world, &mut pass, id));
+    Ok(())
 }

@@ -16,6 +16,7 @@ pub mod Scope
 pub mod Frame
 pub mod LocksAgree
 pub mod Bodies
+pub mod Parts
 pub mod BodiesAgree
 pub mod Updates
 pub mod NodesInOnePlace

@@ -1,5 +1,5 @@
 -- The locations hold: a location of a body leads to its entry, and all bounds from there up contain its box.
-use Rattle.std.specs.Prelude.{◌≡◌, ◌≢◌, ◌⊎◌, ℕ, ◌<◌, ◌≤◌, Bool, true, false, List, length, Contains, Some, IsNone, ⊤}
+use Rattle.std.specs.Prelude.{◌≡◌, ◌≢◌, ◌⊎◌, ℕ, ◌<◌, ◌≤◌, Bool, true, false, List, length, Contains, option_map, Some, IsNone, ⊤}
 use Rattle.std.specs.List.{list_any}
 use Rattle.fixed_box.specs.FixBox.{words_of}
 use Rattle.scene_model.specs.declared.body_view.Phase.TheVariants.{Out, Held, In}
@@ -17,10 +17,11 @@ use Rattle.core_state.specs.declared.view.Rebuild.{Rebuild}
 use Rattle.core_state.specs.declared.view.View.{View}
 use Rattle.core_state.specs.Core.{Core}
 use Rattle.core_state.specs.Scope.{Scope, Sight, sight, scene_in, HasPass, EachPass}
-use Rattle.core_state.specs.Encoding.{body_child, place, phase_in, phase_join, Sides, sides_of, Covers, bound_in}
-use Rattle.core_state.specs.Nodes.{Nodes, made, under, superseded, Stands, IsPublished, Above}
+use Rattle.core_state.specs.Encoding.{body_child, place, phase_in, phase_join, layer_of, Sides, sides_of, Covers, bound_in}
+use Rattle.core_state.specs.Parts.{call_on_places, update_on_places}
+use Rattle.core_state.specs.Nodes.{Nodes, made, under, superseded, Stands, IsLive, IsPublished, Above}
 use Rattle.core_state.specs.Bodies.{has_box_word, all_batches}
-use Rattle.core_state.specs.Updates.{EachUpdate, HasUpdate, IsStillMerged, IsNoted, IsDone}
+use Rattle.core_state.specs.Updates.{EachUpdate, HasUpdate, IsStillMerged, IsNoted, IsSameBody, IsPlacing, IsDone}
 
 abbrev pub is_location_word : Name → Bool
 is_location_word (Phase i) = true
@@ -32,12 +33,13 @@ is_location_word (Bound n k q) = true
 is_location_word (Parent n) = true
 is_location_word _ = false
 
--- it reads those words, the history, and of each view what it has under way, the batches and the update
+-- it reads those words, the history, and of each view the call that moves, removes or places a body, the batches, and
+-- where the update places bodies
 abbrev pub location_scope : Scope
 location_scope = record {
   names = is_location_word;
   reads_history = true;
-  part = λ bare view. record bare { call = view.call; batches = view.batches; rebuild = view.rebuild };
+  part = λ bare view. record bare { call = call_on_places view.call; batches = view.batches; rebuild = option_map update_on_places view.rebuild };
 }
 
 -- every bound from a place up to the root contains the box
@@ -78,10 +80,16 @@ is_location_store _ = false
 abbrev pub has_cleared_location : List Store → Bool
 has_cleared_location stores = list_any (λ s. is_location_store s.name) stores
 
--- while it is taken out, its entries are cleared before its locations
+-- while it is taken out, its entries are cleared before its locations, each entry once
 abbrev pub IsPartlyCleared : Nodes → Sight → View → ℕ → Type 0
-IsPartlyCleared nodes s view i = (n k : ℕ) → IsLocation s i n k →
-    Stands (nodes.home n) × ((s.word (Child n k) ≡ 0) ⊎ ((s.word (Child n k) ≡ body_child i) × (has_cleared_location view.call.stores ≡ false)))
+IsPartlyCleared nodes s view i = (n k : ℕ) → IsLocation s i n k → Stands (nodes.home n) × ((s.word (Child n k) ≡ 0)
+    ⊎ ((s.word (Child n k) ≡ body_child i) × (has_cleared_location view.call.stores ≡ false) × ¬ Contains view.call.stores (record { name = Child n k; value = 0 })))
+
+-- a body that is taken out: its first location is in a tree that others may reach
+pub record IsTakenOut (nodes : Nodes) (s : Sight) (view : View) (i : ℕ) : Type 0 where
+  pub out : HasBody (scene_in s) i (λ r. r.phase ≡ Out)
+  pub cleared : IsPartlyCleared nodes s view i
+  pub live : (n k : ℕ) → k < 4 → s.word (LocA i) ≡ place n k → IsLive (nodes.home n)
 
 -- the location of a body that a batch holds: 0, and then its place in the nodes of the batch
 abbrev pub IsPlannedIn : Sight → Batch → Marked → Type 0
@@ -90,22 +98,37 @@ IsPlannedIn s batch m = ((m.is_placed ≡ false) × (s.word (LocA m.index) ≡ 0
 
 -- ---- bodies that are in it
 
--- the tree in which the first location of a body has to be, by its phase: that of its slot; or the main tree; or, where
+-- some update is about to place the body, or has not exchanged the trees of the layer
+abbrev pub IsPlacedNow : Sight → ℕ → Type 0
+IsPlacedNow s i = (number : ℕ) × HasPass s number (λ view. IsPlacing view.call.task i)
+
+abbrev pub IsUnexchanged : Sight → ℕ → Type 0
+IsUnexchanged s layer = (number : ℕ) × HasPass s number (λ view. HasUpdate view (λ r. length r.swapped ≤ layer))
+
+-- the tree in which the first location of a body has to be, by its phase: that of its slot, where it has a second one only
+-- while it is placed; or the main tree, where a second one is the same, or the trees are still to be exchanged; or, where
 -- it has a second location, a tree that the update replaces
 pub data IsWhere (nodes : Nodes) (s : Sight) (i layer n : ℕ) : Type 0 where
-  in_slot : (t : ℕ) → s.word (Phase i) ≡ phase_join t → nodes.home n ≡ under (Slot layer t) → IsWhere nodes s i layer n
-  in_main : s.word (Phase i) ≡ phase_in → nodes.home n ≡ under (Main layer) → IsWhere nodes s i layer n
-  in_old : (number : ℕ) → s.word (Phase i) ≡ phase_in → s.word (LocB i) ≢ 0 → nodes.home n ≡ superseded number layer → IsWhere nodes s i layer n
+  in_slot : (t : ℕ) → s.word (Phase i) ≡ phase_join t → nodes.home n ≡ under (Slot layer t)
+      → (s.word (LocB i) ≡ 0) ⊎ IsPlacedNow s i → IsWhere nodes s i layer n
+  in_main : s.word (Phase i) ≡ phase_in → nodes.home n ≡ under (Main layer)
+      → (s.word (LocB i) ≡ 0) ⊎ ((s.word (LocB i) ≡ s.word (LocA i)) ⊎ IsUnexchanged s layer) → IsWhere nodes s i layer n
+  in_old : (number : ℕ) (name : Name) → s.word (Phase i) ≡ phase_in → s.word (LocB i) ≢ 0 → nodes.home n ≡ superseded number name
+      → layer_of name ≡ Some layer → IsWhere nodes s i layer n
   in_merged : (number t root : ℕ) → s.word (Phase i) ≡ phase_in → s.word (LocB i) ≢ 0 → nodes.home n ≡ under (Slot layer t)
       → HasPass s number (λ view. HasUpdate view (λ r. IsStillMerged r layer t root)) → IsWhere nodes s i layer n
 
--- a second location is the place that the update planned for the body, which it has placed and not promoted
+-- a second location is the place that the update planned for the body, which it has placed and not promoted; and the body
+-- that was noted is the one that is live
+abbrev pub IsSecondFor : Sight → ℕ → Rebuild → Type 0
+IsSecondFor s i r = Contains r.placed i × ¬ Contains r.promoted i × IsNoted r i (λ n. (s.word (LocB i) ≡ n.place) × IsSameBody s n)
+
 abbrev pub IsSecond : Sight → ℕ → Type 0
-IsSecond s i = (number : ℕ)
-    × HasPass s number (λ view. HasUpdate view (λ r. Contains r.placed i × ¬ Contains r.promoted i × IsNoted r i (λ n. s.word (LocB i) ≡ n.place)))
+IsSecond s i = (number : ℕ) × HasPass s number (λ view. HasUpdate view (IsSecondFor s i))
 
 -- a body that an update noted has its place in the new tree of its layer: its entry stands there until it was found gone
--- or taken out, and from then on nothing
+-- or taken out, and from then on nothing. Once the update has done with the body, an entry that stands is its second
+-- location
 pub record IsPlannedAt (nodes : Nodes) (s : Sight) (number : ℕ) (view : View) (r : Rebuild) (noted : Noted) : Type 0 where
   pub node : ℕ
   pub child : ℕ
@@ -114,6 +137,12 @@ pub record IsPlannedAt (nodes : Nodes) (s : Sight) (number : ℕ) (view : View) 
   pub made_for : nodes.home node ≡ made number noted.layer
   pub entry : (s.word (Child node child) ≡ body_child noted.index) ⊎ (s.word (Child node child) ≡ 0)
   pub undone : ¬ IsDone view r noted.index → s.word (Child node child) ≡ body_child noted.index
+  pub of_done : IsDone view r noted.index → s.word (Child node child) ≡ body_child noted.index → s.word (LocB noted.index) ≡ noted.place
+
+-- once the trees of its layer are exchanged, its place is in the published one
+abbrev pub IsPublishedAt : Nodes → Rebuild → Noted → Type 0
+IsPublishedAt nodes r noted = r.is_planned ≡ true → noted.layer < length r.swapped
+    → (n : ℕ) × (k : ℕ) × (k < 4) × (noted.place ≡ place n k) × (nodes.home n ≡ under (Main noted.layer))
 
 -- ---- those who climb
 
@@ -138,12 +167,12 @@ ClimbsFrom s view (Moving index target) n k = IsLocation s index n k
 ClimbsFrom s view (Placing index) n k = (k < 4) × HasUpdate view (λ r. IsNoted r index (λ noted. noted.place ≡ place n k))
 ClimbsFrom s view _ n k = ⊥
 
--- each place that it has read of parent words is above one of those
+-- the node of each parent word that it has loaded is on the way up from one of those, and the word stands
 abbrev pub IsOnItsWay : Sight → View → Type 0
-IsOnItsWay s view = (m a b : ℕ) → b < 4 → Contains view.call.loads (record { name = Parent m; value = place a b }) →
-    (n : ℕ) × (k : ℕ) × ClimbsFrom s view view.call.task n k × Above s.word n k a b
+IsOnItsWay s view = (m value : ℕ) → Contains view.call.loads (record { name = Parent m; value = value }) →
+    (s.word (Parent m) ≡ value) × ((n : ℕ) × (k : ℕ) × (b : ℕ) × ClimbsFrom s view view.call.task n k × Above s.word n k m b)
 
--- and so is each place whose bound it has widened
+-- and each place whose bound it has widened is above one of those
 abbrev pub IsWidenedOnWay : Sight → View → Type 0
 IsWidenedOnWay s view = (a b q value : ℕ) → Contains view.call.stores (record { name = Bound a b q; value = value }) →
     (n : ℕ) × (k : ℕ) × ClimbsFrom s view view.call.task n k × Above s.word n k a b
@@ -164,16 +193,14 @@ pub record LocationsHoldIn (nodes : Nodes) (s : Sight) : Type 0 where
   -- and each body that it noted is planned at one of them, until the trees of its layer are exchanged
   pub planned : EachUpdate s (λ number view r. (noted : Noted) → Contains r.noted noted → r.is_planned ≡ true → length r.swapped ≤ noted.layer
       → IsPlannedAt nodes s number view r noted)
-  -- its place is in a node of a tree, also when these were exchanged
-  pub planned_stand : EachUpdate s (λ number view r. (noted : Noted) (n k : ℕ) → Contains r.noted noted → r.is_planned ≡ true → k < 4 → noted.place ≡ place n k
-      → Stands (nodes.home n))
+  pub published : EachUpdate s (λ number view r. (noted : Noted) → Contains r.noted noted → IsPublishedAt nodes r noted)
   -- a first location is in the tree that the phase says
   pub first : (i : ℕ) (r : Record) (n k : ℕ) → record_at (scene_in s) i ≡ Some r → r.phase ≡ In → k < 4 → s.word (LocA i) ≡ place n k → IsWhere nodes s i r.layer n
   pub second : (i : ℕ) → s.word (LocB i) ≢ 0 → IsSecond s i
   -- an index that is not live has no location, and neither has a body that is out, but for one that is being taken out
   pub dead : (i : ℕ) → IsNone (record_at (scene_in s) i) → (s.word (LocA i) ≡ 0) × (s.word (LocB i) ≡ 0)
   pub out : (i : ℕ) → HasBody (scene_in s) i (λ r. r.phase ≡ Out) → ¬ IsRemoved s i → (s.word (LocA i) ≡ 0) × (s.word (LocB i) ≡ 0)
-  pub removed : EachPass s (λ number view. (i : ℕ) → Removes view.call.task i → HasBody (scene_in s) i (λ r. r.phase ≡ Out) × IsPartlyCleared nodes s view i)
+  pub removed : EachPass s (λ number view. (i : ℕ) → Removes view.call.task i → IsTakenOut nodes s view i)
   pub held : (batch : Batch) (m : Marked) → Contains (all_batches s) batch → Contains batch.marked m → IsPlannedIn s batch m × (s.word (LocB m.index) ≡ 0)
   pub unheld : EachPass s (λ number view. IsUnheld s view.call.task)
   -- who gives a body another box has widened all bounds first

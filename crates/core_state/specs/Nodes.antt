@@ -18,8 +18,10 @@ pub data Home : Type 0 where
   made : ℕ → ℕ → Home
   -- published: in the tree that this main or slot word names
   under : Name → Home
-  -- in a tree of a layer that the update of a pass has superseded
-  superseded : ℕ → ℕ → Home
+  -- in a tree that this word named, which the update of a pass took out of sight
+  superseded : ℕ → Name → Home
+  -- a batch node of such a tree that no walk can reach any more: the pass is to give it back
+  returning : ℕ → Home
 
 -- how deep a node stands below its root, beside its home
 pub record Nodes : Type 0 where
@@ -35,13 +37,18 @@ IsOwnedBy pass _ = ⊥
 -- the node is in a tree that others may reach: a published or superseded one
 abbrev pub IsLive : Home → Type 0
 IsLive (under name) = ⊤
-IsLive (superseded p l) = ⊤
+IsLive (superseded p name) = ⊤
 IsLive _ = ⊥
 
 -- the node stands in a tree, be it one that is only made yet
 abbrev pub Stands : Home → Type 0
 Stands (made p l) = ⊤
 Stands home = IsLive home
+
+-- the node stands, or is part of what is left of a tree
+abbrev pub IsInTree : Home → Type 0
+IsInTree (returning p) = ⊤
+IsInTree home = Stands home
 
 -- it is in a published tree
 abbrev pub IsPublished : Home → Type 0
@@ -52,7 +59,7 @@ IsPublished _ = ⊥
 abbrev pub IsOfLayer : ℕ → Home → Type 0
 IsOfLayer layer (under name) = layer_of name ≡ Some layer
 IsOfLayer layer (made p l) = l ≡ layer
-IsOfLayer layer (superseded p l) = l ≡ layer
+IsOfLayer layer (superseded p name) = layer_of name ≡ Some layer
 IsOfLayer layer _ = ⊥
 
 -- the node of a word of a tree

@@ -3,6 +3,7 @@ use Rattle.std.specs.Prelude.{◌≡◌, ◌⊎◌, ℕ, ◌+◌, ◌<◌, ◌�
 use Rattle.fixed_box.specs.FixBox.{words_of}
 use Rattle.scene_model.specs.Step.{HasBody}
 use Rattle.scene_model.specs.History.{point}
+use Rattle.core_state.specs.declared.view.Noted.{Noted}
 use Rattle.core_state.specs.declared.view.Task.{Task}
 use Rattle.core_state.specs.declared.view.Task.TheVariants.{Moving}
 use Rattle.core_state.specs.Scope.{Sight, scene_in, HasPass}
@@ -12,6 +13,12 @@ use Rattle.core_state.specs.Encoding.{Sides, sides_of}
 abbrev pub HadSince : Sight → ℕ → ℕ → Sides → Type 0
 HadSince s from index box =
     (n : ℕ) × (from ≤ n) × (n ≤ length s.history) × HasBody (point s.config.bodies s.history n) index (λ r. box ≡ sides_of (words_of r.bounds))
+
+-- the body that was noted had the box at a point of the history from one length on
+abbrev pub HadAs : Sight → ℕ → Noted → Sides → Type 0
+HadAs s from noted box =
+    (n : ℕ) × (from ≤ n) × (n ≤ length s.history) × HasBody (point s.config.bodies s.history n) noted.index
+        (λ r. (r.generation ≡ noted.generation) × (r.layer ≡ noted.layer) × (box ≡ sides_of (words_of r.bounds)))
 
 -- some body of a layer had the box at some point
 abbrev pub HadInLayer : Sight → ℕ → Sides → Type 0
@@ -38,3 +45,7 @@ IsInHull Counts b = (q : ℕ) → q < 3 →
 
 abbrev pub IsInSpace : Sight → ℕ → Sides → Type 0
 IsInSpace s layer b = IsInHull (IsInLayer s layer) b
+
+-- a side of a bound lies in a hull: something that counts reaches as far
+abbrev pub IsSideIn : (ℕ → ℕ → Type 0) → ℕ → ℕ → Type 0
+IsSideIn Counts q value = (side : ℕ) × Counts q side × (q < 3 → side ≤ value) × (3 ≤ q → value ≤ side)

@@ -1,5 +1,7 @@
 -- The update under way, if there is one, and what it has done so far.
-use Rattle.std.specs.Prelude.{◌≡◌, ◌⊎◌, ℕ, ◌-◌, ◌<◌, ◌≤◌, nat_lt, if◌then◌else◌, length, fold, Contains, Option, Some, None, slice_index_or, IfSome, IsSomeAnd}
+use Rattle.std.specs.Prelude.{◌≡◌, ◌⊎◌, ℕ, ◌-◌, ◌<◌, ◌≤◌, true, nat_lt, if◌then◌else◌, length, fold, Contains, Option, Some, None, slice_index_or, IfSome, IsSomeAnd}
+use Rattle.scene_model.specs.Step.{HasBody}
+use Rattle.word_map.specs.declared.config.Config.{Config}
 use Rattle.core_state.specs.declared.view.Rebuild.{Rebuild}
 use Rattle.core_state.specs.declared.view.Merged.{Merged}
 use Rattle.core_state.specs.declared.view.Noted.{Noted}
@@ -8,7 +10,7 @@ use Rattle.core_state.specs.declared.view.Task.TheVariants.{Placing}
 use Rattle.core_state.specs.declared.view.View.{View}
 use Rattle.word_map.specs.declared.name.Name.TheVariants.{Main, Slot}
 use Rattle.core_state.specs.Nodes.{Home, under}
-use Rattle.core_state.specs.Scope.{Sight, EachPass}
+use Rattle.core_state.specs.Scope.{Sight, EachPass, scene_in}
 
 -- each pass that has an update under way, with it; the laws say that there is one at most
 abbrev pub EachUpdate : Sight → (ℕ → View → Rebuild → Type 0) → Type 0
@@ -42,6 +44,14 @@ abbrev pub IsOldTree : Rebuild → Home → Type 0
 IsOldTree r (under (Main l)) = length r.swapped ≤ l
 IsOldTree r (under (Slot l t)) = (root : ℕ) × IsStillMerged r l t root
 IsOldTree r _ = ⊥
+
+-- a node is in the new tree of a layer that the update has planned and not published
+abbrev pub IsMadeIn : Config → Rebuild → ℕ → ℕ → Type 0
+IsMadeIn c r l n = (r.is_planned ≡ true) × (length r.swapped ≤ l) × (l < c.layers) × Contains r.made (record { layer = l; node = n })
+
+-- the body that was noted is the one that is live now: of the same creation, in the same layer
+abbrev pub IsSameBody : Sight → Noted → Type 0
+IsSameBody s noted = HasBody (scene_in s) noted.index (λ r. (r.generation ≡ noted.generation) × (r.layer ≡ noted.layer))
 
 -- the body was noted so
 abbrev pub IsNoted : Rebuild → ℕ → (Noted → Type 0) → Type 0

@@ -4,10 +4,11 @@ use Rattle.scene_model.specs.History.{Interval, IsDue}
 use Rattle.fixed_box.specs.Touch.{Touch}
 use Rattle.word_map.specs.declared.name.Name.{Name}
 use Rattle.word_map.specs.declared.name.Name.TheVariants.{Main, Slot, Child, Bound}
+use Rattle.core_state.specs.declared.view.Waiting.{Waiting}
 use Rattle.core_state.specs.declared.view.Walk.{Walk}
 use Rattle.core_state.specs.Core.{Core}
 use Rattle.core_state.specs.Scope.{Scope, Sight, sight, EachPass}
-use Rattle.core_state.specs.Encoding.{body_child, node_child, NamesRoot, Sides, sides_of, Covers, bound_in}
+use Rattle.core_state.specs.Encoding.{body_child, node_child, NamesRoot, Sides, sides_of, IsBox, Covers, bound_in}
 use Rattle.core_state.specs.Space.{HadSince}
 use Rattle.core_state.specs.WalkRecord.{IsCandidate}
 use Rattle.core_state.specs.Walking.{Query, Spot, resting, at_child, at_bound, Position, Follows, position_of}
@@ -58,8 +59,8 @@ LeadsByMain word Had index at = (l : ℕ) × LeadsUnread word Had index at (Main
 -- a node on its stack, or a child that it has not read of the node at hand
 abbrev pub LeadsBySpot : (Name → ℕ) → (Sides → Type 0) → ℕ → Spot → Type 0
 LeadsBySpot word Had index resting = ⊥
-LeadsBySpot word Had index (at_child n k) = ChildLeads word Had index n k
-LeadsBySpot word Had index (at_bound n k x read) = ChildLeads word Had index n (k + 1)
+LeadsBySpot word Had index (at_child n level k) = ChildLeads word Had index n k
+LeadsBySpot word Had index (at_bound n level k x read) = ChildLeads word Had index n (k + 1)
 
 -- the bound that stood when the walk read its first side; before that, the one that stands now
 abbrev pub begun_bound : (Name → ℕ) → Walk → ℕ → ℕ → List ℕ → Sides
@@ -68,14 +69,14 @@ begun_bound word walk n k read = sides_of walk.bound
 
 -- a child whose bound it has read in part
 abbrev pub LeadsByPart : (Name → ℕ) → (Sides → Type 0) → ℕ → Walk → Spot → Type 0
-LeadsByPart word Had index walk (at_bound n k x read) = HoldsOne Had (begun_bound word walk n k read) × Leads word Had index x
+LeadsByPart word Had index walk (at_bound n level k x read) = HoldsOne Had (begun_bound word walk n k read) × Leads word Had index x
 LeadsByPart word Had index walk _ = ⊥
 
 pub data IsAhead (word : Name → ℕ) (Had : Sides → Type 0) (index : ℕ) (query : Query) (walk : Walk) (at : Position) : Type 0 where
   is_found : IsCandidate query.shape walk.loads index → IsAhead word Had index query walk at
   by_slot : LeadsBySlot word Had index at → IsAhead word Had index query walk at
   by_main : LeadsByMain word Had index at → IsAhead word Had index query walk at
-  by_stack : (n : ℕ) → Contains at.stack n → Way word Had index n → IsAhead word Had index query walk at
+  by_stack : (w : Waiting) → Contains at.stack w → Way word Had index w.node → IsAhead word Had index query walk at
   by_child : LeadsBySpot word Had index at.spot → IsAhead word Had index query walk at
   by_part : LeadsByPart word Had index walk at.spot → IsAhead word Had index query walk at
 
@@ -85,9 +86,17 @@ pub data IsAhead (word : Name → ℕ) (Had : Sides → Type 0) (index : ℕ) (q
 abbrev pub mixed : List ℕ → Sides → Sides
 mixed read now = λ q. if nat_lt q (length read) then slice_index read q else now q
 
--- read to the end it contains what it was when its first side was read
+-- such a bound was and is a box; read to the end it contains what it was when its first side was read, and what stands now
+-- contains that. A node whose bound is read stands at its place
+pub record IsReadInPart (word : Name → ℕ) (walk : Walk) (n k x : ℕ) (read : List ℕ) : Type 0 where
+  pub box : IsBox (bound_in word n k)
+  pub begun_box : IsBox (begun_bound word walk n k read)
+  pub now : Covers (bound_in word n k) (mixed read (bound_in word n k))
+  pub begun : Covers (mixed read (bound_in word n k)) (begun_bound word walk n k read)
+  pub child : (m : ℕ) → x ≡ node_child m → word (Child n k) ≡ x
+
 abbrev pub OnlyWidens : (Name → ℕ) → Walk → Spot → Type 0
-OnlyWidens word walk (at_bound n k x read) = Covers (mixed read (bound_in word n k)) (begun_bound word walk n k read)
+OnlyWidens word walk (at_bound n level k x read) = IsReadInPart word walk n k x read
 OnlyWidens word walk _ = ⊤
 
 -- where a slot of a layer is still to be read, so is its main word

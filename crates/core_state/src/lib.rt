@@ -21,5 +21,6 @@ mod view;
 
 pub use item::{Item, Load, Store};
 pub use view::{
-    Batch, Call, Joined, LockStep, Marked, Merged, Mode, Noted, Rebuild, Role, Task, View, Walk,
+    Batch, Call, Joined, LockStep, Marked, Merged, Mode, NewNode, Noted, Rebuild, Role, Task, View,
+    Waiting, Walk,
 };

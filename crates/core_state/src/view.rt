@@ -105,6 +105,8 @@ pub struct Merged {
 #[derive(Drop)]
 pub struct Noted {
     pub index: u32,
+    /// Which creation at its index it was, from 1 on.
+    pub generation: u64,
     pub state: u64,
     pub phase: u64,
     pub layer: u32,
@@ -114,6 +116,20 @@ pub struct Noted {
     pub location: u64,
     /// Where it stands in the new tree of its layer, as a location word; 0 until that is planned.
     pub place: u64,
+}
+
+/// A node of a new tree, with the layer of the tree.
+#[derive(Clone, Copy, Debug, PartialEq, Eq)]
+pub struct NewNode {
+    pub layer: u32,
+    pub node: u32,
+}
+
+/// A node that waits to be walked or to be given back, and its level: that of a root is 1.
+#[derive(Clone, Copy, Debug, PartialEq, Eq)]
+pub struct Waiting {
+    pub node: u32,
+    pub level: u32,
 }
 
 /// The update that a pass has under way.
@@ -131,8 +147,10 @@ pub struct Rebuild {
     pub passed: u32,
     /// The bodies that were found in the main trees and in merged slots.
     pub noted: LinkedList<Noted>,
-    /// The nodes that it owns: those of the other arena that stand in no published tree, and later those to give back.
+    /// The nodes of the other arena that stand in no published tree.
     pub nodes: LinkedList<u32>,
+    /// Those of them in which the new trees are made that are not published yet.
+    pub made: LinkedList<NewNode>,
     /// Whether the new trees stand in those nodes.
     pub is_planned: bool,
     /// The new main word of each layer.
@@ -150,8 +168,8 @@ pub struct Rebuild {
     pub readers: LinkedList<Load>,
     /// Whether no reader is left in the old trees.
     pub is_reclaimed: bool,
-    /// The roots of the parts of merged trees that were not given back yet, the next one first.
-    pub returning: LinkedList<u32>,
+    /// The tops of what is left of merged trees to give back, the next one first.
+    pub returning: LinkedList<Waiting>,
     /// Whether the word `Arena` names the other arena by now.
     pub is_switched: bool,
 }

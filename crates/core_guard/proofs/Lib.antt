@@ -14,6 +14,7 @@ pub mod Chains
 pub mod Scenes
 pub mod FreeIndexes
 pub mod Seats
+pub mod Leaving
 pub mod Turning
 pub mod WalksTurned
 pub mod LocationsTurned

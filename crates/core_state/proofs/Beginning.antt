@@ -24,7 +24,7 @@ use Rattle.core_state.specs.Log.{history, NoneStores}
 use Rattle.core_state.specs.Core.{Core, word_of, scene_of}
 use Rattle.core_state.specs.Formed.{IsFormed}
 use Rattle.core_state.specs.Encoding.{Sides, sides_of, bound_in, place, node_child, NamesRoot, layer_of}
-use Rattle.core_state.specs.Nodes.{Nodes, Home, under, made, owned, superseded, free, spare, Stands, IsPublished, IsOfLayer, Above, here, higher}
+use Rattle.core_state.specs.Nodes.{Nodes, Home, under, made, owned, superseded, returning, free, spare, Stands, IsPublished, IsOfLayer, Above, here, higher}
 use Rattle.core_state.specs.Scope.{sight, word_in}
 use Rattle.core_state.specs.TreesSound.{TreesSound, IsChild, nothing, a_body, a_node, IsPlaced, as_root, at_place, IsRootOf, tree_scope}
 use Rattle.core_state.specs.LocationsHold.{location_scope}
@@ -152,7 +152,8 @@ published_name free h = absurd h
 published_name spare h = absurd h
 published_name (owned p) h = absurd h
 published_name (made p l) h = absurd h
-published_name (superseded p l) h = absurd h
+published_name (superseded p name) h = absurd h
+published_name (returning p) h = absurd h
 
 -- the last point of a history is the scene after it
 last_point : (core : Core) → point core.config.bodies (history core.log) (length (history core.log)) ≡ scene_of core

@@ -17,7 +17,7 @@ use Rattle.core_state.specs.declared.view.View.{View}
 use Rattle.core_state.specs.Log.{opening_link}
 use Rattle.core_state.specs.Core.{opening}
 use Rattle.core_state.specs.Encoding.{place, NamesRoot}
-use Rattle.core_state.specs.Nodes.{Home, Nodes, free, spare, IsOwnedBy, Stands, IsLive, IsPublished}
+use Rattle.core_state.specs.Nodes.{Home, Nodes, free, spare, IsOwnedBy, Stands, IsInTree, IsLive, IsPublished}
 use Rattle.core_state.specs.Scope.{Sight, sight, word_in, bare_view, HasPass, EachPass, IsOnce}
 use Rattle.core_state.specs.Bodies.{IsChain, free_indexes, AreOtherSlots}
 use Rattle.core_state.specs.LocksAgree.{LocksAgree, lock_scope}
@@ -177,13 +177,18 @@ NodesInOnePlace-opening c sizes =
       batches = λ batch n among. absurd (none_in batch among);
       loose = each_bare s _ refl (λ number n among. absurd (none_in n among));
       slot_trees = λ n l t e. absurd (idle_not c.nodes n IsPublished (λ h. h) (λ h. h) (subst IsPublished (sym e) tt));
-      made_trees = λ n number l e. absurd (idle_not c.nodes n Stands (λ h. h) (λ h. h) (subst Stands (sym e) tt));
+      made_trees = λ n number l. (
+        λ e. absurd (idle_not c.nodes n Stands (λ h. h) (λ h. h) (subst Stands (sym e) tt)),
+        λ h. absurd (no_bare s number _ refl (λ none. none) h),
+      );
+      in_arena = each_bare s _ refl (λ number. tt);
       main_trees = λ n l e. absurd (idle_not c.nodes n IsPublished (λ h. h) (λ h. h) (subst IsPublished (sym e) tt));
       update = λ number. (
         λ e. absurd (omega arith),
         λ h. absurd (no_bare s number _ refl false≢true h),
       );
-      superseded_by = λ n number l e. absurd (idle_not c.nodes n IsLive (λ h. h) (λ h. h) (subst IsLive (sym e) tt));
+      superseded_by = λ n number name e. absurd (idle_not c.nodes n IsLive (λ h. h) (λ h. h) (subst IsLive (sym e) tt));
+      returning_by = λ n number e. absurd (idle_not c.nodes n IsInTree (λ h. h) (λ h. h) (subst IsInTree (sym e) tt));
       arena = omega arith;
       named = each_bare s _ refl (λ number. tt);
       idle = λ unread n inside. elim (idle c.nodes n) [ is_free b e ↦ (let low = inside.0 in absurd (omega arith)) | is_spare above e ↦ e ];
@@ -202,8 +207,10 @@ TreesSound-opening c =
       sound = λ n stands. absurd (idle_not c.nodes n Stands (λ h. h) (λ h. h) stands);
       roots = λ name root names. absurd (no_root c name root names);
       stored = each_bare s _ refl (λ number store among. absurd (none_in store among));
-      returning = each_bare s _ refl (λ number. tt);
-      none_lost = each_bare s _ refl (λ number. tt);
+      made_roots = each_bare s _ refl (λ number. tt);
+      superseded_roots = each_bare s _ refl (λ number. tt);
+      left_nodes = λ n number e. absurd (idle_not c.nodes n IsInTree (λ h. h) (λ h. h) (subst IsInTree (sym e) tt));
+      tops = each_bare s _ refl (λ number. tt);
     }
 
 -- no body has a location
@@ -218,7 +225,7 @@ LocationsHold-opening c =
       entries = λ i n k published. absurd (idle_not c.nodes n IsPublished (λ h. h) (λ h. h) published);
       made_entries = λ i n k number l e. absurd (idle_not c.nodes n Stands (λ h. h) (λ h. h) (subst Stands (sym e) tt));
       planned = each_bare s _ refl (λ number. tt);
-      planned_stand = each_bare s _ refl (λ number. tt);
+      published = each_bare s _ refl (λ number. tt);
       first = λ i r n k e. absurd (none-some r e);
       second = λ i other. absurd (other refl);
       dead = λ i none. (refl, refl);
@@ -228,7 +235,7 @@ LocationsHold-opening c =
       widened = each_bare s _ refl (λ number i n k box gives. absurd gives);
       still_wide = each_bare s _ refl (λ number n k q value among. absurd (none_in (record { name = Bound n k q; value = value }) among));
       climbs_from = each_bare s _ refl (λ number n k climbs. absurd climbs);
-      on_its_way = each_bare s _ refl (λ number m a b below among. absurd (none_in (record { name = Parent m; value = place a b }) among));
+      on_its_way = each_bare s _ refl (λ number m value among. absurd (none_in (record { name = Parent m; value = value }) among));
       unheld = each_bare s _ refl (λ number. tt);
       widened_on_way = each_bare s _ refl (λ number a b q value among. absurd (none_in (record { name = Bound a b q; value = value }) among));
     }
@@ -243,7 +250,6 @@ BodiesCovered-opening c =
       notes = each_bare s _ refl (λ number. tt);
       merged = each_bare s _ refl (λ number. tt);
       exchanged = each_bare s _ refl (λ number. tt);
-      reclaimed = each_bare s _ refl (λ number. tt);
     }
 
 WalksLead-opening : (c : Config) → WalksLead (opening c)
@@ -260,6 +266,7 @@ ReadersCounted-opening c =
     record {
       odd = λ number. (λ e. absurd (omega arith), λ h. absurd (no_bare s number _ refl false≢true h));
       stays = each_bare s _ refl (λ number on. absurd (false≢true on));
+      in_space = each_bare s _ refl (λ number on. absurd (false≢true on));
       seen_off = each_bare s _ refl (λ number. tt);
       climbs = each_bare s _ refl (λ number. tt);
       space = λ n k l live. absurd (idle_not c.nodes n IsLive (λ h. h) (λ h. h) live);

@@ -1,0 +1,371 @@
+-- What a step leaves of trees, bodies and passes. It stores one word, changes one view and the scene at few bodies: so a law
+-- is shown anew only of what the step touches, and stays of all else.
+use Rattle.std.proofs.Common.{◌≡◌, ◌≢◌, ◌⊎◌, ◌↔◌, ℕ, ◌+◌, ◌++◌, ◌<◌, ◌≤◌, List, Option, Some, None, false, refl, ap, sym, ◌∙◌, subst, inl, inr, arith}
+use Rattle.std.specs.Prelude.{IsNone, IsSomeAnd, IfSome, option_map}
+use Rattle.std.proofs.lemmas.List.Elements.{filter_map-append}
+use Rattle.std.proofs.lemmas.Option.{none-some, same_Some}
+use Rattle.scene_model.specs.declared.body_view.Phase.TheVariants.{Out, In}
+use Rattle.scene_model.specs.declared.entry.Made.{Made}
+use Rattle.scene_model.specs.Scene.{Record, record_at}
+use Rattle.scene_model.specs.Step.{HasBody}
+use Rattle.scene_model.specs.History.{scene_after}
+use Rattle.word_map.specs.Names.{IsName}
+use Rattle.word_map.specs.declared.name.Name.{Name}
+use Rattle.word_map.specs.declared.name.Name.TheVariants.{State, Phase, Layer, User, BoxWord, LocA, LocB, Child, Bound, Parent, Main, Slot}
+use Rattle.core_state.specs.declared.view.Task.{Task}
+use Rattle.core_state.specs.declared.view.Task.TheVariants.{Nothing, Creating, Destroying, Pooling, Moving, Removing, Placing}
+use Rattle.core_state.specs.declared.view.Call.{Call}
+use Rattle.core_state.specs.declared.view.Rebuild.{Rebuild}
+use Rattle.core_state.specs.declared.view.View.{View}
+use Rattle.core_state.specs.Log.{history, made_by}
+use Rattle.core_state.specs.View.{IsPass, no_call}
+use Rattle.core_state.specs.Core.{Core, word_of, scene_of, IsViewAt}
+use Rattle.core_state.specs.Kind.{Kind, Asking, Step, Steps, found_by, gained_by, view_after, after_step}
+use Rattle.core_state.specs.Formed.{IsFormed}
+use Rattle.core_state.specs.Guards.{GuardsHold}
+use Rattle.core_state.specs.Encoding.{NamesRoot, place, node_child, phase_join, slot_tree, layer_of, Covers, bound_in}
+use Rattle.core_state.specs.Nodes.{Nodes, Home, Stands, IsInTree, IsPublished, node_in, Above, here, higher, under, made, superseded, returning}
+use Rattle.core_state.specs.Parts.{call_by_task, call_on_places, task_on_cover, task_at_place}
+use Rattle.core_state.specs.Scope.{Scope, Sight, sight, HasPass}
+use Rattle.core_state.specs.TreesSound.{TreesSoundIn, IsChild, nothing, a_body, a_node, IsPlaced, as_root, at_place}
+use Rattle.core_state.specs.Updates.{EachUpdate, HasUpdate, IsOldTree, IsPlacing}
+use Rattle.core_state.specs.LocationsHold.{Removes}
+use Rattle.core_state.specs.Invariants.{Invariants}
+use Rattle.core_state.proofs.Frames.{step-history}
+use Rattle.core_state.proofs.Steps.{word-step-other}
+use Rattle.core_guard.proofs.Seats.{KeepsNumber, seen_of, each-step, has-step}
+
+-- ---- a step that is made, by a pass, in a core in which all holds
+
+pub record Acts (core : Core) (step : Step) : Type 0 where
+  pub at : IsViewAt core step.seat step.view
+  pub pass : IsPass step.view step.number
+  pub named : IsName core.config step.name
+  pub formed : IsFormed core
+  pub guards : GuardsHold core
+  pub laws : Invariants core
+
+pub acts-of : (asks : Asking) (kind : Kind) (before after : Core) → (steps : Steps asks kind before after) → IsFormed before → GuardsHold before → Invariants before → Acts before steps.step
+acts-of asks kind before after steps formed guards laws =
+    record { at = steps.allowed.at; pass = steps.allowed.pass; named = steps.allowed.named; formed = formed; guards = guards; laws = laws }
+
+-- ---- facts of options
+
+pub if_some_map : {X : Type 0} (o : Option X) (P Q : X → Type 0) → ((x : X) → P x → Q x) → IfSome o P → IfSome o Q
+if_some_map None P Q f h = h
+if_some_map (Some x) P Q f h = f x h
+
+-- with what is known of what is there
+pub if_some_with : {X : Type 0} (o : Option X) (P Q : X → Type 0) → ((x : X) → o ≡ Some x → P x → Q x) → IfSome o P → IfSome o Q
+if_some_with None P Q f h = h
+if_some_with (Some x) P Q f h = f x refl h
+
+-- two facts of one
+pub if_some_both : {X : Type 0} (o : Option X) (P Q : X → Type 0) → IfSome o P → IfSome o Q → IfSome o (λ x. P x × Q x)
+if_some_both None P Q h k = h
+if_some_both (Some x) P Q h k = (h, k)
+
+pub some_and_map : {X : Type 0} (o : Option X) (P Q : X → Type 0) → ((x : X) → P x → Q x) → IsSomeAnd o P → IsSomeAnd o Q
+some_and_map None P Q f h = h
+some_and_map (Some x) P Q f h = f x h
+
+-- ---- tasks
+
+-- a pass moves, removes or places the body
+abbrev pub IsHandled : Task → ℕ → Type 0
+IsHandled (Moving index target) i = index ≡ i
+IsHandled (Removing index) i = index ≡ i
+IsHandled (Placing index) i = index ≡ i
+IsHandled _ i = ⊥
+
+-- it does nothing with a body that stands in a tree, or is to
+abbrev pub IsIdle : Task → Type 0
+IsIdle (Moving index target) = ⊥
+IsIdle (Removing index) = ⊥
+IsIdle (Placing index) = ⊥
+IsIdle _ = Unit {0}
+
+pub idle-unhandled : (task : Task) (i : ℕ) → IsIdle task → ¬ IsHandled task i
+idle-unhandled Nothing i calm h = h
+idle-unhandled (Creating index) i calm h = h
+idle-unhandled (Destroying index) i calm h = h
+idle-unhandled (Pooling taken given) i calm h = h
+idle-unhandled (Moving index target) i calm h = calm
+idle-unhandled (Removing index) i calm h = calm
+idle-unhandled (Placing index) i calm h = calm
+
+-- so the laws of places read none
+pub idle-places : (call : Call) → IsIdle call.task → call_on_places call ≡ no_call
+idle-places call calm = go call.task calm
+  where
+    go : (task : Task) → IsIdle task → call_by_task task call ≡ no_call
+    go Nothing c = refl
+    go (Creating index) c = refl
+    go (Destroying index) c = refl
+    go (Pooling taken given) c = refl
+    go (Moving index target) c = absurd c
+    go (Removing index) c = absurd c
+    go (Placing index) c = absurd c
+
+pub idle-cover : (task : Task) → IsIdle task → task_on_cover task ≡ Nothing
+idle-cover Nothing c = refl
+idle-cover (Creating index) c = refl
+idle-cover (Destroying index) c = refl
+idle-cover (Pooling taken given) c = refl
+idle-cover (Moving index target) c = absurd c
+idle-cover (Removing index) c = absurd c
+idle-cover (Placing index) c = absurd c
+
+pub idle-at_place : (task : Task) → IsIdle task → task_at_place task ≡ Nothing
+idle-at_place Nothing c = refl
+idle-at_place (Creating index) c = refl
+idle-at_place (Destroying index) c = refl
+idle-at_place (Pooling taken given) c = refl
+idle-at_place (Moving index target) c = absurd c
+idle-at_place (Removing index) c = absurd c
+idle-at_place (Placing index) c = absurd c
+
+-- ---- words lead from a node in a tree to nodes of the same tree
+
+pub record LeadsWithin (nodes : Nodes) (word : Name → ℕ) : Type 0 where
+  pub up : (m a j : ℕ) → Stands (nodes.home m) → j < 4 → word (Parent m) ≡ place a j → nodes.home a ≡ nodes.home m
+  pub down : (n k m : ℕ) → Stands (nodes.home n) → k < 4 → word (Child n k) ≡ node_child m → nodes.home m ≡ nodes.home n
+
+module _ (nodes : Nodes) (s : Sight) where
+  up-placed : (m a j : ℕ) → j < 4 → s.word (Parent m) ≡ place a j → IsPlaced nodes s m → nodes.home a ≡ nodes.home m
+  up-placed m a j below e (as_root none root) = absurd (omega arith)
+  up-placed m a j below e (at_place n k low is child home) =
+      let same : n ≡ a = omega arith in
+      subst (λ (x : ℕ). nodes.home x ≡ nodes.home m) same home
+
+  pub down-child : (n k m : ℕ) → s.word (Child n k) ≡ node_child m → IsChild nodes s n k → nodes.home m ≡ nodes.home n
+  down-child n k m e (nothing none) = absurd (omega arith)
+  down-child n k m e (a_body i below is) = absurd (omega arith)
+  down-child n k m e (a_node x is home parent depth) =
+      let same : x ≡ m = omega arith in
+      subst (λ (y : ℕ). nodes.home y ≡ nodes.home n) same home
+
+  pub sound-leads : TreesSoundIn nodes s → LeadsWithin nodes s.word
+  sound-leads h = record {
+    up = λ m a j stands below e. up-placed m a j below e (h.sound m stands).placed;
+    down = λ n k m stands below e. down-child n k m e ((h.sound n stands).children k below);
+  }
+
+-- a published node stands
+pub published-stands : (home : Home) → IsPublished home → Stands home
+published-stands (under name) h = tt
+published-stands _ h = absurd h
+
+-- and so does one of a tree that an update is to replace
+pub old-stands : (r : Rebuild) (home : Home) → IsOldTree r home → Stands home
+old-stands r (under name) h = tt
+old-stands r _ h = absurd h
+
+pub stands-in_tree : (home : Home) → Stands home → IsInTree home
+stands-in_tree (under name) h = tt
+stands-in_tree (superseded p name) h = tt
+stands-in_tree (made p l) h = tt
+stands-in_tree _ h = absurd h
+
+-- ---- the step
+
+-- a body is as it was, but for its user number
+pub data IsAsBefore : Option Record → Option Record → Type 0 where
+  not_live : IsAsBefore None None
+  is_live : (r : Record) (user : ℕ) → IsAsBefore (Some r) (Some (record r { user = user }))
+
+module _ (kind : Kind) (core : Core) (step : Step) where
+  abbrev pub After : Core
+  After = after_step kind core step
+
+  abbrev pub Last : View
+  Last = view_after kind core step
+
+  -- ---- bodies
+
+  -- a body is as it was, and so are the words of its places, and whether the pass takes it out or places it
+  pub record Stays (i : ℕ) : Type 0 where
+    pub body : IsAsBefore (record_at (scene_of core) i) (record_at (scene_of After) i)
+    pub loc_a : word_of After (LocA i) ≡ word_of core (LocA i)
+    pub loc_b : word_of After (LocB i) ≡ word_of core (LocB i)
+    pub phase : word_of After (Phase i) ≡ word_of core (Phase i)
+    pub box : (q : ℕ) → word_of After (BoxWord i q) ≡ word_of core (BoxWord i q)
+    pub state : word_of After (State i) ≡ word_of core (State i)
+    pub layer : word_of After (Layer i) ≡ word_of core (Layer i)
+    pub removes : Removes step.view.call.task i ↔ Removes Last.call.task i
+    pub places : IsPlacing step.view.call.task i ↔ IsPlacing Last.call.task i
+
+  -- a body, or an index that is not live, stands in no tree and is not to, before the step and after it: nobody moves,
+  -- removes or places it, it has no second location, and its first one leads to no tree
+  pub record IsApart (nodes : Nodes) (i : ℕ) : Type 0 where
+    pub unseen : ¬ HasBody (scene_of core) i (λ r. r.phase ≡ In)
+    pub unseen_after : ¬ HasBody (scene_of After) i (λ r. r.phase ≡ In)
+    pub alone : (seat number : ℕ) (view : View) → IsViewAt core seat view → IsPass view number → ¬ IsHandled view.call.task i
+    pub alone_after : ¬ IsHandled Last.call.task i
+    pub second : word_of core (LocB i) ≡ 0
+    pub second_after : word_of After (LocB i) ≡ 0
+    pub off : (n k : ℕ) → k < 4 → word_of core (LocA i) ≡ place n k → ¬ IsInTree (nodes.home n)
+    pub off_after : (n k : ℕ) → k < 4 → word_of After (LocA i) ≡ place n k → ¬ IsInTree (nodes.home n)
+    -- it has a first location only while a batch holds it
+    pub dead : IsNone (record_at (scene_of After) i) → word_of After (LocA i) ≡ 0
+    pub out : HasBody (scene_of After) i (λ r. r.phase ≡ Out) → word_of After (LocA i) ≡ 0
+    -- and the slot that its phase names has no tree
+    pub unjoined : (l t root : ℕ) → HasBody (scene_of After) i (λ r. r.layer ≡ l) → word_of After (Phase i) ≡ phase_join t → word_of core (Slot l t) ≢ slot_tree root
+
+  -- ---- nodes
+
+  -- Nodes in trees keep homes, depths, children and parents, and bounds only widen. A node that comes to stand is a new
+  -- one; the same roots are named, and new ones of new nodes. The history goes on, and the update is the same
+  pub record Leaves (nodes later : Nodes) (New : ℕ → Type 0) : Type 0 where
+    pub stays : (n : ℕ) → IsInTree (nodes.home n) → later.home n ≡ nodes.home n
+    pub depth : (n : ℕ) → IsInTree (nodes.home n) → later.depth n ≡ nodes.depth n
+    pub stood : (n : ℕ) → IsInTree (later.home n) → (later.home n ≡ nodes.home n) ⊎ New n
+    pub child : (n k : ℕ) → IsInTree (nodes.home n) → word_of After (Child n k) ≡ word_of core (Child n k)
+    pub parent : (n : ℕ) → IsInTree (nodes.home n) → word_of After (Parent n) ≡ word_of core (Parent n)
+    pub wide : (n k q : ℕ) → Stands (nodes.home n) → (q < 3 → word_of After (Bound n k q) ≤ word_of core (Bound n k q)) × (3 ≤ q → word_of core (Bound n k q) ≤ word_of After (Bound n k q))
+    pub names : (name : Name) (root : ℕ) → NamesRoot name (word_of core name) root → NamesRoot name (word_of After name) root
+    pub named : (name : Name) (root : ℕ) → NamesRoot name (word_of After name) root → NamesRoot name (word_of core name) root ⊎ New root
+    pub more : List Made
+    pub goes_on : history After.log ≡ history core.log ++ more
+    pub rebuild : Last.rebuild ≡ step.view.rebuild
+
+  module _ (a : Acts core step) (nodes later : Nodes) (New : ℕ → Type 0) (m : Leaves nodes later New) where
+    pub home-forth : (n : ℕ) (home : Home) → IsInTree home → nodes.home n ≡ home → later.home n ≡ home
+    home-forth n home inside e = m.stays n (subst IsInTree (sym e) inside) ∙ e
+
+    pub home-back : (n : ℕ) (home : Home) → IsInTree home → later.home n ≡ home → (nodes.home n ≡ home) ⊎ New n
+    home-back n home inside e = elim (m.stood n (subst IsInTree (sym e) inside)) [ inl same ↦ inl (sym same ∙ e) | inr new ↦ inr new ]
+
+    pub stands-later : (n : ℕ) → Stands (nodes.home n) → Stands (later.home n)
+    stands-later n stands = subst Stands (sym (m.stays n (stands-in_tree (nodes.home n) stands))) stands
+
+    pub wider : (n k : ℕ) → Stands (nodes.home n) → Covers (bound_in (word_of After) n k) (bound_in (word_of core) n k)
+    wider n k stands q low = ((m.wide n k q stands).0 low, (m.wide n k (3 + q) stands).1 (omega arith))
+
+    -- ways up, by the words as a law reads them
+    module _ (word new : Name → ℕ) (leads : LeadsWithin nodes word) (same : (n : ℕ) → IsInTree (nodes.home n) → new (Parent n) ≡ word (Parent n)) where
+      up : (n x j : ℕ) → Stands (nodes.home n) → j < 4 → word (Parent n) ≡ place x j → Stands (nodes.home x)
+      up n x j stands below e = subst Stands (sym (leads.up n x j stands below e)) stands
+
+      pub above-stands : (n k x y : ℕ) → Stands (nodes.home n) → Above word n k x y → Stands (nodes.home x)
+      above-stands n k x y stands (here p q) = stands
+      above-stands n k x y stands (higher p q o j c d e below rest) = above-stands o j x y (up n o j stands below e) rest
+
+      pub above-forth : (n k x y : ℕ) → Stands (nodes.home n) → Above word n k x y → Above new n k x y
+      above-forth n k x y stands (here p q) = here p q
+      above-forth n k x y stands (higher p q o j c d e below rest) =
+          higher p q o j c d (same n (stands-in_tree (nodes.home n) stands) ∙ e) below (above-forth o j x y (up n o j stands below e) rest)
+
+      pub above-back : (n k x y : ℕ) → Stands (nodes.home n) → Above new n k x y → Above word n k x y
+      above-back n k x y stands (here p q) = here p q
+      above-back n k x y stands (higher p q o j c d e below rest) =
+          let old : word (Parent n) ≡ place o j = sym (same n (stands-in_tree (nodes.home n) stands)) ∙ e in
+          higher p q o j c d old below (above-back o j x y (up n o j stands below old) rest)
+
+    -- ---- what is said of updates, by the part of them that a law reads
+
+    module _ (scope : Scope) (keeps : KeepsNumber scope) (part : Rebuild → Rebuild) (reads : (bare view : View) → (scope.part bare view).rebuild ≡ option_map part view.rebuild) where
+      pub has_update : (number : ℕ) (P Q : Rebuild → Type 0) → ((r : Rebuild) → P r → Q r) → HasPass (sight scope core) number (λ v. HasUpdate v P) → HasPass (sight scope After) number (λ v. HasUpdate v Q)
+      has_update number P Q more h =
+          has-step scope keeps kind core step a.at a.pass number (λ v. HasUpdate v P) (λ v. HasUpdate v Q) h
+          (λ seat view apart found own has. some_and_map _ P Q more has)
+          (λ same has.
+          subst (λ (o : Option Rebuild). IsSomeAnd o Q) (sym (reads _ Last ∙ (ap (option_map part) m.rebuild ∙ sym (reads _ step.view)))) (some_and_map _ P Q more has))
+
+      pub each_update : (P Q : ℕ → View → Rebuild → Type 0) → EachUpdate (sight scope core) P
+          → ((number : ℕ) (view : View) (r : Rebuild) → P number (seen_of scope number view) r → Q number (seen_of scope number view) r)
+          → ((r : Rebuild) → option_map part step.view.rebuild ≡ Some r → P step.number (seen_of scope step.number step.view) r → Q step.number (seen_of scope step.number Last) r)
+          → EachUpdate (sight scope After) Q
+      each_update P Q h others own =
+          each-step scope keeps kind core step a.at a.pass (λ number v. IfSome v.rebuild (P number v)) (λ number v. IfSome v.rebuild (Q number v)) h
+          (λ seat number view apart found is has. if_some_with _ _ _ (λ r some p. others number view r p) has)
+          (λ has.
+          subst (λ (o : Option Rebuild). IfSome o (Q step.number (seen_of scope step.number Last))) (sym (reads _ Last ∙ (ap (option_map part) m.rebuild ∙ sym (reads _ step.view))))
+          (if_some_with _ _ _ (λ r some p. own r (sym (reads _ step.view) ∙ some) p) has))
+
+  -- ---- where the step stores no word of a node in a tree
+
+  -- the history goes on by what the step adds
+  pub step-goes_on : history After.log ≡ history core.log ++ history (gained_by kind core step)
+  step-goes_on = filter_map-append made_by core.log (gained_by kind core step)
+
+  -- a word that names no root says the same of all roots
+  pub roots-other : layer_of step.name ≡ None → (name : Name) (root : ℕ) → (NamesRoot name (word_of core name) root → NamesRoot name (word_of After name) root)
+      × (NamesRoot name (word_of After name) root → NamesRoot name (word_of core name) root)
+  roots-other none (Main l) root =
+      let same : word_of After (Main l) ≡ word_of core (Main l) = word-step-other kind core step (Main l) (λ e. none-some l (sym none ∙ ap layer_of (sym e))) in
+      (λ h. same ∙ h, λ h. sym same ∙ h)
+  roots-other none (Slot l t) root =
+      let same : word_of After (Slot l t) ≡ word_of core (Slot l t) = word-step-other kind core step (Slot l t) (λ e. none-some l (sym none ∙ ap layer_of (sym e))) in
+      (λ h. same ∙ h, λ h. sym same ∙ h)
+  roots-other none _ root = (λ h. h, λ h. h)
+
+  -- so it leaves all trees, where it leaves the update and no other node comes to stand in one
+  pub leaves-aside : (nodes later : Nodes) → ((n : ℕ) → IsInTree (nodes.home n) → node_in step.name ≢ Some n)
+      → ((n : ℕ) → IsInTree (nodes.home n) → later.home n ≡ nodes.home n) → ((n : ℕ) → IsInTree (nodes.home n) → later.depth n ≡ nodes.depth n) → ((n : ℕ) → IsInTree (later.home n) → later.home n ≡ nodes.home n)
+      → ((name : Name) (root : ℕ) → (NamesRoot name (word_of core name) root → NamesRoot name (word_of After name) root) × (NamesRoot name (word_of After name) root → NamesRoot name (word_of core name) root))
+      → Last.rebuild ≡ step.view.rebuild → Leaves nodes later (λ n. ⊥)
+  leaves-aside nodes later apart stays depth stood roots rebuild =
+      let word : (name : Name) (n : ℕ) → node_in name ≡ Some n → IsInTree (nodes.home n) → word_of After name ≡ word_of core name =
+      λ name n of_node inside. word-step-other kind core step name (λ e. apart n inside (ap node_in (sym e) ∙ of_node))
+      in
+      record {
+        stays = stays;
+        depth = depth;
+        stood = λ n inside. inl (stood n inside);
+        child = λ n k inside. word (Child n k) n refl inside;
+        parent = λ n inside. word (Parent n) n refl inside;
+        wide = λ n k q stands.
+            let same = word (Bound n k q) n refl (stands-in_tree (nodes.home n) stands) in
+            (λ low. omega arith, λ high. omega arith);
+        names = λ name root. (roots name root).0;
+        named = λ name root h. inl ((roots name root).1 h);
+        more = history (gained_by kind core step);
+        goes_on = step-goes_on;
+        rebuild = rebuild;
+      }
+
+  -- and with the same homes, where it stores a word of no node
+  pub leaves-same : (nodes : Nodes) → node_in step.name ≡ None → layer_of step.name ≡ None → Last.rebuild ≡ step.view.rebuild → Leaves nodes nodes (λ n. ⊥)
+  leaves-same nodes no_node no_layer rebuild =
+      leaves-aside nodes nodes (λ n inside e. none-some n (sym no_node ∙ e)) (λ n inside. refl) (λ n inside. refl) (λ n inside. refl) (roots-other no_layer) rebuild
+
+  -- a step that makes no entry leaves the scene as it was
+  pub scene-plain : ((value : ℕ) → kind.entry step.view step.name value ≡ None) → (i : ℕ) → record_at (scene_of After) i ≡ record_at (scene_of core) i
+  scene-plain plain i = ap (λ (l : List Made). record_at (scene_after core.config.bodies l) i) (step-history kind core step plain)
+
+-- ---- bodies
+
+-- what is the same is as before
+pub as_before-same : (o p : Option Record) → p ≡ o → IsAsBefore o p
+as_before-same o p e = subst (IsAsBefore o) (sym e) (go o)
+  where
+    go : (o : Option Record) → IsAsBefore o o
+    go None = not_live
+    go (Some r) = is_live r r.user
+
+module _ (P : Record → Type 0) (steady : (r : Record) (user : ℕ) → P r ↔ P (record r { user = user })) where
+  -- what does not speak of the user number holds as before
+  pub body-forth : (o p : Option Record) → IsAsBefore o p → IsSomeAnd o P → IsSomeAnd p P
+  body-forth o p not_live h = h
+  body-forth o p (is_live r user) h = (steady r user).0 h
+
+  pub body-back : (o p : Option Record) → IsAsBefore o p → IsSomeAnd p P → IsSomeAnd o P
+  body-back o p not_live h = h
+  body-back o p (is_live r user) h = (steady r user).1 h
+
+pub none-forth : (o p : Option Record) → IsAsBefore o p → IsNone o → IsNone p
+none-forth o p not_live h = h
+none-forth o p (is_live r user) h = absurd cc
+
+pub none-back : (o p : Option Record) → IsAsBefore o p → IsNone p → IsNone o
+none-back o p not_live h = h
+none-back o p (is_live r user) h = absurd cc
+
+-- the record of a body that is there was there before, with another user number
+pub record-back : (o p : Option Record) (r : Record) → IsAsBefore o p → p ≡ Some r → (user : ℕ) × (o ≡ Some (record r { user = user }))
+record-back o p r not_live e = absurd (none-some r e)
+record-back o p r (is_live old user) e = (old.user, λ i. Some (record (same i) { user = old.user }))
+  where
+    same : record old { user = user } ≡ r
+    same = same_Some (record old { user = user }) r e

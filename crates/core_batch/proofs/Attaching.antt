@@ -1,5 +1,5 @@
 -- A batch that is to be attached: what is known of its slot, its nodes and its bodies before.
-use Rattle.std.proofs.Common.{◌≡◌, ◌≢◌, ℕ, ◌<◌, true, Some, Contains, refl, ap, sym, ◌∙◌, subst, inl, inr, arith}
+use Rattle.std.proofs.Common.{List, ◌≡◌, ◌≢◌, ℕ, ◌<◌, true, Some, Contains, refl, ap, sym, ◌∙◌, subst, inl, inr, arith}
 use Rattle.std.specs.Prelude.{flat_map, slice_index}
 use Rattle.std.proofs.lemmas.Bool.{false≢true}
 use Rattle.std.proofs.lemmas.List.Elements.{Contains-append_left}
@@ -9,6 +9,8 @@ use Rattle.scene_model.specs.Scene.{Record, record_at}
 use Rattle.scene_model.specs.Step.{HasBody}
 use Rattle.word_map.specs.declared.name.Name.{Name}
 use Rattle.word_map.specs.declared.name.Name.TheVariants.{Phase, BoxWord, LocA, LocB, Child, Bound, Parent, Slot}
+use Rattle.core_state.specs.declared.view.Call.{Call}
+use Rattle.core_state.specs.Parts.{call_by_task}
 use Rattle.core_state.specs.declared.view.Task.{Task}
 use Rattle.core_state.specs.declared.view.Task.TheVariants.{Moving}
 use Rattle.core_state.specs.declared.view.Marked.{Marked}
@@ -21,7 +23,7 @@ use Rattle.core_state.specs.Space.{IsInHull}
 use Rattle.core_state.specs.Kind.{Step}
 use Rattle.core_state.specs.Formed.{IsFormed}
 use Rattle.core_state.specs.Guards.{GuardsHold, by_node}
-use Rattle.core_state.specs.Nodes.{Home, free, spare, owned, made, under, superseded, IsOwnedBy, node_in, nodes_of, Above, here, higher}
+use Rattle.core_state.specs.Nodes.{Home, free, spare, owned, made, under, superseded, returning, IsOwnedBy, node_in, nodes_of, Above, here, higher}
 use Rattle.core_state.specs.Scope.{Sight, sight, scene_in}
 use Rattle.core_state.specs.Bodies.{MovesBody, HasWholeBox, IsBetweenBoxes, IsForSlot, AreOtherSlots, all_batches}
 use Rattle.core_state.specs.BodiesAgree.{body_scope, IsHeldFor}
@@ -33,7 +35,7 @@ use Rattle.core_guard.proofs.Seats.{seat_seen, each-seat, has-seat, seat-has}
 use Rattle.core_guard.proofs.BodiesStep.{HoldsSlot, known-now}
 use Rattle.core_state.proofs.Beginning.{contains_flat, body_record, record_body}
 use Rattle.core_batch.proofs.Lists.{find-only, pairs-two}
-use Rattle.core_batch.proofs.Owning.{same-seat, number-low, slot-reserved}
+use Rattle.core_batch.proofs.Owning.{nodes-seen, same-seat, number-low, slot-reserved}
 use Rattle.core_batch.proofs.SlotLists.{is_for-true, is_for-slot}
 
 -- a pass with the batch that it attaches
@@ -65,14 +67,16 @@ owned_home (made p l) number own none = absurd (none l (ap (λ (k : ℕ). made k
 owned_home free number own none = absurd own
 owned_home spare number own none = absurd own
 owned_home (under name) number own none = absurd own
-owned_home (superseded p l) number own none = absurd own
+owned_home (superseded p name) number own none = absurd own
+owned_home (returning p) number own none = absurd own
 
 -- ---- bodies
 
 -- who stands between the box words of a body gives it another box
-moves-held : (s : Sight) (task : Task) (i : ℕ) → MovesBody task i → IsUnheld s task → ¬ HasBody (scene_in s) i (λ r. r.phase ≡ Held)
-moves-held s (Moving index target) i moves unheld held = unheld (subst (λ (k : ℕ). HasBody (scene_in s) k (λ r. r.phase ≡ Held)) (sym moves) held)
-moves-held s _ i moves unheld held = absurd moves
+moves-held : (s : Sight) (call : Call) (task : Task) (i : ℕ) → MovesBody task i → IsUnheld s (call_by_task task call).task → call.task ≡ task → ¬ HasBody (scene_in s) i (λ r. r.phase ≡ Held)
+moves-held s call (Moving index target) i moves unheld at held =
+    subst (IsUnheld s) at unheld (subst (λ (k : ℕ). HasBody (scene_in s) k (λ r. r.phase ≡ Held)) (sym moves) held)
+moves-held s call _ i moves unheld at held = absurd moves
 
 -- the body at an index, which the batch holds, stands at its place in the batch's nodes
 pub record IsJoining (core : Core) (layer slot : ℕ) (batch : Batch) (m : Marked) (i : ℕ) : Type 0 where
@@ -149,7 +153,7 @@ module _ (core : Core) (a : Attaching core) (formed : IsFormed core) where
         owned_home (h.nodes.home n) a.number
         ((h.places.owned n a.number).1
         (seat-has node_scope (λ k v. refl) core a.number (λ v. Contains (nodes_of v) n)
-        (record { seat = a.seat; view = a.view; at = a.at; pass = a.pass; holds = node_owned n inside })))
+        (record { seat = a.seat; view = a.view; at = a.at; pass = a.pass; holds = subst (λ (l : List ℕ). Contains l n) (sym (nodes-seen a.number a.view)) (node_owned n inside) })))
         (λ l e. let arena = h.places.made_trees n a.number l e in let batch = batch_node n inside in absurd (omega arith))
 
     module _ (guards : GuardsHold core) where
@@ -233,7 +237,7 @@ module _ (core : Core) (a : Attaching core) (formed : IsFormed core) where
           let from = has-seat body_scope (λ n v. refl) core number (λ v. IsBetweenBoxes v m.index) between in
           let unheld = each-seat location_scope (λ n v. refl) core (λ n v. IsUnheld (sight location_scope core) v.call.task) h.locations.unheld from.seat number from.view from.at from.pass in
           let t = body_record (record_at (scene_of core) m.index) _ (held_for m marked).held in
-          moves-held (sight location_scope core) from.view.call.task m.index from.holds.0 unheld (record_body (record_at (scene_of core) m.index) (λ r. r.phase ≡ Held) t.0 t.1 t.2.0)
+          moves-held (sight location_scope core) from.view.call from.view.call.task m.index from.holds.0 unheld refl (record_body (record_at (scene_of core) m.index) (λ r. r.phase ≡ Held) t.0 t.1 t.2.0)
 
       planned_at : (m : Marked) → m.is_placed ≡ true → IsPlannedIn (sight location_scope core) a.batch m → word_of core (LocA m.index) ≡ m.place
       planned_at m placed h =

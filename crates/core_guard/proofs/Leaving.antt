@@ -1,7 +1,7 @@
 -- What a step leaves of trees, bodies and passes. It stores one word, changes one view and the scene at few bodies: so a law
 -- is shown anew only of what the step touches, and stays of all else.
 use Rattle.std.proofs.Common.{◌≡◌, ◌≢◌, ◌⊎◌, ◌↔◌, ℕ, ◌+◌, ◌++◌, ◌<◌, ◌≤◌, List, Option, Some, None, false, refl, ap, sym, ◌∙◌, subst, inl, inr, arith}
-use Rattle.std.specs.Prelude.{IsNone, IsSomeAnd, IfSome, option_map}
+use Rattle.std.specs.Prelude.{Contains, IsNone, IsSomeAnd, IfSome, option_map}
 use Rattle.std.proofs.lemmas.List.Elements.{filter_map-append}
 use Rattle.std.proofs.lemmas.Option.{none-some, same_Some}
 use Rattle.scene_model.specs.declared.body_view.Phase.TheVariants.{Out, In}
@@ -11,7 +11,10 @@ use Rattle.scene_model.specs.Step.{HasBody}
 use Rattle.scene_model.specs.History.{scene_after}
 use Rattle.word_map.specs.Names.{IsName}
 use Rattle.word_map.specs.declared.name.Name.{Name}
-use Rattle.word_map.specs.declared.name.Name.TheVariants.{State, Phase, Layer, User, BoxWord, LocA, LocB, Child, Bound, Parent, Main, Slot}
+use Rattle.word_map.specs.declared.name.Name.TheVariants.{State, Phase, Layer, User, BoxWord, LocA, LocB, Child, Bound, Parent, Main, Slot, Reader}
+use Rattle.core_state.specs.declared.item.Store.{Store}
+use Rattle.core_state.specs.declared.view.Marked.{Marked}
+use Rattle.core_state.specs.declared.view.Batch.{Batch}
 use Rattle.core_state.specs.declared.view.Task.{Task}
 use Rattle.core_state.specs.declared.view.Task.TheVariants.{Nothing, Creating, Destroying, Pooling, Moving, Removing, Placing}
 use Rattle.core_state.specs.declared.view.Call.{Call}
@@ -24,12 +27,13 @@ use Rattle.core_state.specs.Kind.{Kind, Asking, Step, Steps, found_by, gained_by
 use Rattle.core_state.specs.Formed.{IsFormed}
 use Rattle.core_state.specs.Guards.{GuardsHold}
 use Rattle.core_state.specs.Encoding.{NamesRoot, place, node_child, phase_join, slot_tree, layer_of, Covers, bound_in}
-use Rattle.core_state.specs.Nodes.{Nodes, Home, Stands, IsInTree, IsPublished, node_in, Above, here, higher, under, made, superseded, returning}
+use Rattle.core_state.specs.Nodes.{Nodes, Home, Stands, IsInTree, IsPublished, IsOwnedBy, node_in, Above, here, higher, under, made, superseded, returning}
 use Rattle.core_state.specs.Parts.{call_by_task, call_on_places, task_on_cover, task_at_place}
 use Rattle.core_state.specs.Scope.{Scope, Sight, sight, HasPass}
-use Rattle.core_state.specs.TreesSound.{TreesSoundIn, IsChild, nothing, a_body, a_node, IsPlaced, as_root, at_place}
+use Rattle.core_state.specs.TreesSound.{TreesSoundIn, IsChild, nothing, a_body, a_node, IsPlaced, as_root, at_place, IsAsStored}
 use Rattle.core_state.specs.Updates.{EachUpdate, HasUpdate, IsOldTree, IsPlacing}
-use Rattle.core_state.specs.LocationsHold.{Removes}
+use Rattle.core_state.specs.Bodies.{all_batches}
+use Rattle.core_state.specs.LocationsHold.{Removes, location_scope, IsPlannedIn}
 use Rattle.core_state.specs.Invariants.{Invariants}
 use Rattle.core_state.proofs.Frames.{step-history}
 use Rattle.core_state.proofs.Steps.{word-step-other}
@@ -329,6 +333,21 @@ module _ (kind : Kind) (core : Core) (step : Step) where
   pub leaves-same : (nodes : Nodes) → node_in step.name ≡ None → layer_of step.name ≡ None → Last.rebuild ≡ step.view.rebuild → Leaves nodes nodes (λ n. ⊥)
   leaves-same nodes no_node no_layer rebuild =
       leaves-aside nodes nodes (λ n inside e. none-some n (sym no_node ∙ e)) (λ n inside. refl) (λ n inside. refl) (λ n inside. refl) (roots-other no_layer) rebuild
+
+  -- Each body stays as it is, or is apart from all trees before and after. The pass is in the middle of what it was in the
+  -- middle of, or does nothing with bodies in trees, before and after; it walks as before. No word of another's node is
+  -- stored, and what each pass stored in its own nodes stands; batches say where their bodies are
+  pub record Touches (nodes later : Nodes) : Type 0 where
+    pub leaves : Leaves nodes later (λ n. ⊥)
+    pub bounds : (n k q : ℕ) → Stands (nodes.home n) → word_of After (Bound n k q) ≡ word_of core (Bound n k q)
+    pub bodies : (i : ℕ) → Stays i ⊎ IsApart nodes i
+    pub call : (Last.call ≡ step.view.call) ⊎ (IsIdle step.view.call.task × IsIdle Last.call.task)
+    pub walk : Last.walk ≡ step.view.walk
+    pub reader : (p : ℕ) → word_of After (Reader p) ≡ word_of core (Reader p)
+    pub others : (n number : ℕ) → number ≢ step.number → IsOwnedBy number (nodes.home n) → (later.home n ≡ nodes.home n) × (node_in step.name ≢ Some n)
+    pub written : (store : Store) → Contains Last.written store → IfSome (node_in store.name) (λ n. IsOwnedBy step.number (later.home n) × IsAsStored (word_of After) (later.home n) store.name store.value)
+    pub held : (batch : Batch) (marked : Marked) → Contains (all_batches (sight location_scope After)) batch → Contains batch.marked marked
+        → IsPlannedIn (sight location_scope After) batch marked × (word_of After (LocB marked.index) ≡ 0)
 
   -- a step that makes no entry leaves the scene as it was
   pub scene-plain : ((value : ℕ) → kind.entry step.view step.name value ≡ None) → (i : ℕ) → record_at (scene_of After) i ≡ record_at (scene_of core) i

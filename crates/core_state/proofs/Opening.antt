@@ -177,7 +177,8 @@ NodesInOnePlace-opening c sizes =
       batches = λ batch n among. absurd (none_in batch among);
       loose = each_bare s _ refl (λ number n among. absurd (none_in n among));
       slot_trees = λ n l t e. absurd (idle_not c.nodes n IsPublished (λ h. h) (λ h. h) (subst IsPublished (sym e) tt));
-      made_trees = λ n number l. (
+      made_trees = λ n number l e. absurd (idle_not c.nodes n Stands (λ h. h) (λ h. h) (subst Stands (sym e) tt));
+      made_by = λ n number l. (
         λ e. absurd (idle_not c.nodes n Stands (λ h. h) (λ h. h) (subst Stands (sym e) tt)),
         λ h. absurd (no_bare s number _ refl (λ none. none) h),
       );

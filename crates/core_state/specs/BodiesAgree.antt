@@ -15,7 +15,7 @@ use Rattle.core_state.specs.declared.view.Marked.{Marked}
 use Rattle.core_state.specs.declared.view.Batch.{Batch}
 use Rattle.core_state.specs.declared.view.View.{View}
 use Rattle.core_state.specs.View.{Holds}
-use Rattle.core_state.specs.Parts.{call_on_body}
+use Rattle.core_state.specs.Parts.{call_without_loads}
 use Rattle.core_state.specs.Core.{Core}
 use Rattle.core_state.specs.Scope.{Scope, Sight, sight, scene_in, HasPass, EachPass}
 use Rattle.core_state.specs.Encoding.{phase_out, phase_join, reserved_by}
@@ -32,12 +32,12 @@ is_body_word (BoxWord i k) = true
 is_body_word (Slot l t) = true
 is_body_word _ = false
 
--- it reads those words, the history, and of each view the locks, the batches, and on which body it is at work
+-- it reads those words, the history, and of each view the locks, the batches, what it is at and what it stored for that
 abbrev pub body_scope : Scope
 body_scope = record {
   names = is_body_word;
   reads_history = true;
-  part = λ bare view. record bare { locks = view.locks; call = call_on_body view.call; batches = view.batches };
+  part = λ bare view. record bare { locks = view.locks; call = call_without_loads view.call; batches = view.batches };
 }
 
 -- the words of a live body are those of its record; its box words so far as they are not being stored

@@ -87,9 +87,10 @@ pub record NodesInOnePlaceIn (nodes : Nodes) (s : Sight) : Type 0 where
   -- trees of slots are of batch nodes, main trees of nodes of one arena
   pub slot_trees : (n l t : ℕ) → nodes.home n ≡ under (Slot l t) → n < s.config.nodes
   pub main_trees : (n l : ℕ) → nodes.home n ≡ under (Main l) → IsInArena s.config (arena_of s (s.word Arena) l) n
-  -- the nodes of a new tree are those in which the update has made it. All that it owns is of the arena that its trees
-  -- are to be in
-  pub made_trees : (n number l : ℕ) → (nodes.home n ≡ made number l) ↔ HasPass s number (λ view. HasUpdate view (λ r. IsMadeIn s.config r l n))
+  -- and so are those that updates make: their nodes are just those in which the update has made them. All nodes that it
+  -- owns are of the arena that its trees are to be in
+  pub made_trees : (n number l : ℕ) → nodes.home n ≡ made number l → s.config.nodes ≤ n
+  pub made_by : (n number l : ℕ) → (nodes.home n ≡ made number l) ↔ HasPass s number (λ view. HasUpdate view (λ r. IsMadeIn s.config r l n))
   pub in_arena : EachUpdate s (λ number view r. (n : ℕ) → Contains r.nodes n → IsSomeAnd r.arena (λ old. IsInArena s.config (1 - old) n))
   -- the word of the update names the pass that has one under way
   pub update : (number : ℕ) → (s.word Update ≡ suc number) ↔ HasPass s number (λ view. IsSome view.rebuild)

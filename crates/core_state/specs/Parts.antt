@@ -1,12 +1,10 @@
 -- Parts of a view that laws read: of a call those tasks of which a law speaks, of an update those fields. Any other task
 -- counts as none, and any other field is as in an update that has done nothing.
-use Rattle.std.specs.Prelude.{List, [], false, filter, Option, None, option_map}
-use Rattle.core_state.specs.declared.item.Store.{Store}
+use Rattle.std.specs.Prelude.{[], false, None}
 use Rattle.core_state.specs.declared.view.Task.{Task}
 use Rattle.core_state.specs.declared.view.Task.TheVariants.{Nothing, Creating, Destroying, Pooling, Moving, Removing, Placing}
 use Rattle.core_state.specs.declared.view.Call.{Call}
 use Rattle.core_state.specs.declared.view.Rebuild.{Rebuild}
-use Rattle.core_state.specs.Bodies.{is_box_word}
 use Rattle.core_state.specs.View.{no_call}
 
 -- ---- what a pass is in the middle of
@@ -15,18 +13,9 @@ use Rattle.core_state.specs.View.{no_call}
 abbrev pub call_at : Task → Call
 call_at task = record no_call { task = task }
 
--- tasks on bodies, by the body alone
-abbrev pub task_on_body : Task → Task
-task_on_body (Creating index) = Creating index
-task_on_body (Destroying index) = Destroying index
-task_on_body (Moving index target) = Moving index []
-task_on_body (Removing index) = Removing index
-task_on_body (Placing index) = Placing index
-task_on_body _ = Nothing
-
--- of such a call, with the box words that it stored
-abbrev pub call_on_body : Call → Call
-call_on_body call = record { task = task_on_body call.task; loads = []; stores = filter (λ s. is_box_word s.name) call.stores }
+-- what it is at, and what it stored
+abbrev pub call_without_loads : Call → Call
+call_without_loads call = record call { loads = [] }
 
 -- tasks on the pool
 abbrev pub task_on_pool : Task → Task

@@ -1,5 +1,0 @@
-use Rattle.core_batch.proofs.Attach.{GuardsHold-attach}
-use Rattle.core_batch.proofs.laws.attach_is_guarded.Goals as goal
-
-pub returns : goal.returns
-returns c = GuardsHold-attach

@@ -1,5 +1,0 @@
-use Rattle.core_batch.proofs.Attach.{Invariants-attach}
-use Rattle.core_batch.proofs.laws.attach_keeps_all.Goals as goal
-
-pub returns : goal.returns
-returns c = Invariants-attach

@@ -17,7 +17,7 @@ use Rattle.core_state.specs.declared.view.Marked.{Marked}
 use Rattle.core_state.specs.declared.view.Batch.{Batch}
 use Rattle.core_state.specs.declared.view.View.{View}
 use Rattle.core_state.specs.View.{IsPass, known_word}
-use Rattle.core_state.specs.Event.{stores_node, places as places_one}
+use Rattle.core_state.specs.Event.{stores_node, places as places_one, of_batches}
 use Rattle.core_state.specs.Encoding.{place}
 use Rattle.core_state.specs.Nodes.{node_in}
 use Rattle.core_state.specs.Batches.{change_marked, MayStoreNode, store_node, MayPlace, place_body}
@@ -161,7 +161,7 @@ module _ (p : Planned) (start view : View) where
 
 module _ (view next : View) (name : Name) (value : ℕ) (stored : Stored MayStoreNode store_node view name value next) where
   pub node-step : AtMostOneStep view next
-  node-step = one-step MayStoreNode store_node view next name value 0 stored.0 stored.1 (λ before after steps. stores_node steps)
+  node-step = one-step MayStoreNode store_node view next name value 0 stored.0 stored.1 (λ before after steps. of_batches (stores_node steps))
 
   pub node-made : (number : ℕ) → IsPass view number → MadeBy view next None
   node-made number pass = stored-made MayStoreNode store_node view next name value refl stored number pass
@@ -342,7 +342,7 @@ module _ (p : Planned) (start view next : View) (n : ℕ) (stored : Stored MaySt
 
 module _ (view next : View) (index value : ℕ) (stored : Stored MayPlace place_body view (LocA index) value next) where
   pub place-step : AtMostOneStep view next
-  place-step = one-step MayPlace place_body view next (LocA index) value 0 stored.0 stored.1 (λ before after steps. places_one steps)
+  place-step = one-step MayPlace place_body view next (LocA index) value 0 stored.0 stored.1 (λ before after steps. of_batches (places_one steps))
 
   pub place-made : (number : ℕ) → IsPass view number → MadeBy view next None
   place-made number pass = stored-made MayPlace place_body view next (LocA index) value refl stored number pass

@@ -13,7 +13,7 @@ use Rattle.core_state.specs.declared.view.Marked.{Marked}
 use Rattle.core_state.specs.declared.view.Batch.{Batch}
 use Rattle.core_state.specs.declared.view.View.{View}
 use Rattle.core_state.specs.View.{IsPass}
-use Rattle.core_state.specs.Event.{takes_back, unmarks}
+use Rattle.core_state.specs.Event.{takes_back, unmarks, of_batches}
 use Rattle.core_state.specs.Batches.{MayTakeBack, take_back, MayUnmark, unmark, change_marked, without_marked}
 use Rattle.core_state.proofs.Beginning.{contains_first}
 use Rattle.core_batch.proofs.Mapped.{AreOtherBodies, own-marks}
@@ -93,7 +93,7 @@ module _ (kept : KeptBatch) (batch : Batch) (keeps : IsKept kept batch) where
 -- the turn that takes its location back
 module _ (view next : View) (index : ℕ) (stored : Stored MayTakeBack take_back view (LocA index) 0 next) where
   pub back-step : AtMostOneStep view next
-  back-step = one-step MayTakeBack take_back view next (LocA index) 0 0 stored.0 stored.1 (λ before after steps. takes_back steps)
+  back-step = one-step MayTakeBack take_back view next (LocA index) 0 0 stored.0 stored.1 (λ before after steps. of_batches (takes_back steps))
 
   pub back-made : (number : ℕ) → IsPass view number → MadeBy view next None
   back-made number pass = stored-made MayTakeBack take_back view next (LocA index) 0 refl stored number pass
@@ -101,7 +101,7 @@ module _ (view next : View) (index : ℕ) (stored : Stored MayTakeBack take_back
 -- and the one that unmarks it
 module _ (view next : View) (index : ℕ) (stored : Stored MayUnmark unmark view (Phase index) 0 next) where
   pub unmark-step : AtMostOneStep view next
-  unmark-step = one-step MayUnmark unmark view next (Phase index) 0 0 stored.0 stored.1 (λ before after steps. unmarks steps)
+  unmark-step = one-step MayUnmark unmark view next (Phase index) 0 0 stored.0 stored.1 (λ before after steps. of_batches (unmarks steps))
 
   pub unmark-made : (number : ℕ) → IsPass view number → MadeBy view next (Some (record { pass = number; entry = Unmark index }))
   unmark-made number pass = stored-made MayUnmark unmark view next (Phase index) 0 refl stored number pass

@@ -17,7 +17,7 @@ use Rattle.core_state.specs.declared.view.View.{View}
 use Rattle.core_state.specs.Log.{word}
 use Rattle.core_state.specs.View.{IsPass, Holds, known_word, number_in}
 use Rattle.core_state.specs.Kind.{item_of}
-use Rattle.core_state.specs.Event.{loads_list, stores_pool_link, stores_pool_head, stores_pool_count}
+use Rattle.core_state.specs.Event.{loads_list, stores_pool_link, stores_pool_head, stores_pool_count, of_lists, of_pool}
 use Rattle.core_state.specs.Lists.{MayLoadList, load_list, with_task}
 use Rattle.core_state.specs.Nodes.{nodes_of, nodes_in}
 use Rattle.core_state.specs.NodesInOnePlace.{IsPooling, node_scope}
@@ -47,13 +47,13 @@ use Rattle.batch_add.proofs.GiveBodies.{nodes-many}
 
 module _ (view next : View) (found : ℕ) where
   pub load-head-step : LoadedPoolHead view next found → AtMostOneStep view next
-  load-head-step loaded = one-step MayLoadList load_list view next PoolHead 0 0 found loaded.step (λ before after steps. loads_list steps)
+  load-head-step loaded = one-step MayLoadList load_list view next PoolHead 0 0 found loaded.step (λ before after steps. of_lists (loads_list steps))
 
   pub load-head-made : LoadedPoolHead view next found → MadeBy view next None
   load-head-made loaded = made-by-step MayLoadList load_list view next PoolHead 0 0 found loaded.step
 
   pub load-count-step : LoadedCount view next found → AtMostOneStep view next
-  load-count-step loaded = one-step MayLoadList load_list view next PoolFree 0 0 found loaded.step (λ before after steps. loads_list steps)
+  load-count-step loaded = one-step MayLoadList load_list view next PoolFree 0 0 found loaded.step (λ before after steps. of_lists (loads_list steps))
 
   pub load-count-made : LoadedCount view next found → MadeBy view next None
   load-count-made loaded = made-by-step MayLoadList load_list view next PoolFree 0 0 found loaded.step
@@ -168,7 +168,7 @@ module _ (start : View) (before : List Batch) (batch : Batch) (after : List Batc
       link_sizes = ap (λ (v : View). v.config) linked.now
 
       pub link-step : AtMostOneStep view next
-      link-step = one-step MayStorePoolLink store_pool_link view next (PoolNext put.at.node) head 0 linked.step.0 linked.step.1 (λ before_it after_it steps. stores_pool_link steps)
+      link-step = one-step MayStorePoolLink store_pool_link view next (PoolNext put.at.node) head 0 linked.step.0 linked.step.1 (λ before_it after_it steps. of_pool (stores_pool_link steps))
 
       pub link-made : (number : ℕ) → IsPass view number → MadeBy view next None
       link-made number pass = stored-made MayStorePoolLink store_pool_link view next (PoolNext put.at.node) head refl linked.step number pass
@@ -205,7 +205,7 @@ module _ (start : View) (before : List Batch) (batch : Batch) (after : List Batc
     -- the node is put in front
     module _ (next : View) (gave : GaveNode view next put.at.node) where
       pub front-step : AtMostOneStep view next
-      front-step = one-step MayStorePoolHead store_pool_head view next PoolHead (suc put.at.node) 0 gave.step.0 gave.step.1 (λ before_it after_it steps. stores_pool_head steps)
+      front-step = one-step MayStorePoolHead store_pool_head view next PoolHead (suc put.at.node) 0 gave.step.0 gave.step.1 (λ before_it after_it steps. of_pool (stores_pool_head steps))
 
       pub front-made : (number : ℕ) → IsPass view number → MadeBy view next None
       front-made number pass = stored-made MayStorePoolHead store_pool_head view next PoolHead (suc put.at.node) refl gave.step number pass
@@ -325,7 +325,7 @@ module _ (start : View) (before : List Batch) (batch : Batch) (after : List Batc
       count = free + length batch.nodes
 
       pub count-step : AtMostOneStep view next
-      count-step = one-step MayStorePoolCount store_pool_count view next PoolFree count 0 stored.step.0 stored.step.1 (λ before_it after_it steps. stores_pool_count steps)
+      count-step = one-step MayStorePoolCount store_pool_count view next PoolFree count 0 stored.step.0 stored.step.1 (λ before_it after_it steps. of_pool (stores_pool_count steps))
 
       pub count-made : (number : ℕ) → IsPass view number → MadeBy view next None
       count-made number pass = stored-made MayStorePoolCount store_pool_count view next PoolFree count refl stored.step number pass

@@ -9,7 +9,7 @@ use Rattle.core_state.specs.declared.view.Task.TheVariants.{Nothing}
 use Rattle.core_state.specs.declared.view.Batch.{Batch}
 use Rattle.core_state.specs.declared.view.View.{View}
 use Rattle.core_state.specs.View.{IsPass}
-use Rattle.core_state.specs.Event.{lets_slot_go}
+use Rattle.core_state.specs.Event.{lets_slot_go, of_batches}
 use Rattle.core_state.specs.Bodies.{AreOtherSlots}
 use Rattle.core_state.specs.Batches.{MayLetSlotGo, let_slot_go, without_batch, batch_for, nodes_for, written_outside}
 use Rattle.core_state.proofs.Beginning.{contains_first}
@@ -92,7 +92,7 @@ module _ (start : View) (before : List Batch) (batch : Batch) (after : List Batc
 -- the turn
 module _ (view next : View) (layer slot : ℕ) (stored : Stored MayLetSlotGo let_slot_go view (Slot layer slot) 0 next) where
   pub slot-step : AtMostOneStep view next
-  slot-step = one-step MayLetSlotGo let_slot_go view next (Slot layer slot) 0 0 stored.0 stored.1 (λ before_it after_it steps. lets_slot_go steps)
+  slot-step = one-step MayLetSlotGo let_slot_go view next (Slot layer slot) 0 0 stored.0 stored.1 (λ before_it after_it steps. of_batches (lets_slot_go steps))
 
   pub slot-turn-made : (number : ℕ) → IsPass view number → MadeBy view next None
   slot-turn-made number pass = stored-made MayLetSlotGo let_slot_go view next (Slot layer slot) 0 refl stored number pass

@@ -27,7 +27,7 @@ use Rattle.core_state.specs.declared.view.View.{View}
 use Rattle.core_state.specs.Log.{word}
 use Rattle.core_state.specs.View.{IsPass, Holds, known_word}
 use Rattle.core_state.specs.Encoding.{phase_join}
-use Rattle.core_state.specs.Event.{marks as marks_body}
+use Rattle.core_state.specs.Event.{marks as marks_body, of_batches}
 use Rattle.core_state.specs.Quietly.{IsSteady}
 use Rattle.core_state.specs.Bodies.{IsForSlot}
 use Rattle.core_state.specs.Batches.{is_for, change_batch, marked_now, MayMark, mark}
@@ -199,7 +199,7 @@ module _ (layer slot : ℕ) (start : View) (before : List Batch) (batch : Batch)
         ∙ (λ i. before ++ (record batch { marked = sym (map-append marked_as marks.bodies (body ∷ [])) i }) ∷ [])))
 
     pub mark-step : AtMostOneStep view next
-    mark-step = one-step MayMark mark view next name value 0 stored.0 stored.1 (λ early late steps. marks_body steps)
+    mark-step = one-step MayMark mark view next name value 0 stored.0 stored.1 (λ early late steps. of_batches (marks_body steps))
 
     pub mark-made : (number : ℕ) → IsPass view number → MadeBy view next (Some (record { pass = number; entry = Mark body_id.index }))
     mark-made number pass = stored-made MayMark mark view next name value refl stored number pass

@@ -14,7 +14,7 @@ use Rattle.core_state.specs.Log.{word}
 use Rattle.core_state.specs.View.{IsPass, known_word, number_in}
 use Rattle.core_state.specs.Operation.{Operation, compare_exchange, stores, stored_by}
 use Rattle.core_state.specs.Kind.{Kind, Asking, Step, found_by, item_of, gained_by}
-use Rattle.core_state.specs.Event.{loads_slot, reserves}
+use Rattle.core_state.specs.Event.{loads_slot, reserves, of_batches}
 use Rattle.core_state.specs.Encoding.{reserved_by}
 use Rattle.core_state.specs.Bodies.{IsForSlot}
 use Rattle.core_state.specs.Batches.{MayLoadSlot, load_slot, MayReserve, reserve, new_batch}
@@ -199,7 +199,7 @@ module _ (before after : SlotSearch) (found : ℕ) (view next : View) (noted : H
 
 module _ (view next : View) (layer slot found : ℕ) (stepped : Stepped MayLoadSlot load_slot view (Slot layer slot) 0 0 found next) where
   pub slot-step : AtMostOneStep view next
-  slot-step = one-step MayLoadSlot load_slot view next (Slot layer slot) 0 0 found stepped (λ before after steps. loads_slot steps)
+  slot-step = one-step MayLoadSlot load_slot view next (Slot layer slot) 0 0 found stepped (λ before after steps. of_batches (loads_slot steps))
 
   pub slot-made : MadeBy view next None
   slot-made = made-by-step MayLoadSlot load_slot view next (Slot layer slot) 0 0 found stepped
@@ -238,7 +238,7 @@ may-reserve view layer slot number own pass is =
 -- it found another word
 module _ (view next : View) (layer slot own found : ℕ) (stepped : Stepped MayReserve reserve view (Slot layer slot) 0 own found next) where
   pub reserve-step : AtMostOneStep view next
-  reserve-step = one-step MayReserve reserve view next (Slot layer slot) 0 own found stepped (λ before after steps. reserves steps)
+  reserve-step = one-step MayReserve reserve view next (Slot layer slot) 0 own found stepped (λ before after steps. of_batches (reserves steps))
 
   module _ (other : found ≢ 0) where
     left_so : (v : View) → reserve.leaves v (Slot layer slot) found 0 own ≡ v

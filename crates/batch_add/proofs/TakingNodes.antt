@@ -18,7 +18,7 @@ use Rattle.core_state.specs.declared.view.View.{View}
 use Rattle.core_state.specs.Log.{word, IsPrefix}
 use Rattle.core_state.specs.View.{IsPass, number_in, known_word, mode_of}
 use Rattle.core_state.specs.Quietly.{IsSteady}
-use Rattle.core_state.specs.Event.{loads_list, stores_pool_head, stores_pool_count}
+use Rattle.core_state.specs.Event.{loads_list, stores_pool_head, stores_pool_count, of_lists, of_pool}
 use Rattle.core_state.specs.Lists.{MayLoadList, load_list}
 use Rattle.core_state.specs.NodesInOnePlace.{IsPooling}
 use Rattle.core_state.specs.Pool.{IsPoolTask, HasPool, TakesNode, MayStorePoolHead, store_pool_head, one_taken, MayStorePoolCount, store_pool_count}
@@ -178,7 +178,7 @@ some_staged start operation view stage some = record { worked = some.worked; fre
 
 module _ (view next : View) (name : Name) (found : ℕ) (stepped : Stepped MayLoadList load_list view name 0 0 found next) where
   pub pool-step : AtMostOneStep view next
-  pool-step = one-step MayLoadList load_list view next name 0 0 found stepped (λ before after steps. loads_list steps)
+  pool-step = one-step MayLoadList load_list view next name 0 0 found stepped (λ before after steps. of_lists (loads_list steps))
 
   pub pool-made : MadeBy view next None
   pool-made = made-by-step MayLoadList load_list view next name 0 0 found stepped
@@ -245,7 +245,7 @@ takes-node start operation view node link preparing at = record {
 
 module _ (view next : View) (node link : ℕ) (took : TookNode view next node link) where
   pub took-step : AtMostOneStep view next
-  took-step = one-step MayStorePoolHead store_pool_head view next PoolHead link 0 took.step.0 took.step.1 (λ before after steps. stores_pool_head steps)
+  took-step = one-step MayStorePoolHead store_pool_head view next PoolHead link 0 took.step.0 took.step.1 (λ before after steps. of_pool (stores_pool_head steps))
 
   pub took-made : (number : ℕ) → IsPass view number → MadeBy view next None
   took-made number pass = stored-made MayStorePoolHead store_pool_head view next PoolHead link refl took.step number pass
@@ -367,7 +367,7 @@ may-count start operation view rest some at =
 
 module _ (view next : View) (left : ℕ) (stored : StoredCount view next left) where
   pub count-step : AtMostOneStep view next
-  count-step = one-step MayStorePoolCount store_pool_count view next PoolFree left 0 stored.step.0 stored.step.1 (λ before after steps. stores_pool_count steps)
+  count-step = one-step MayStorePoolCount store_pool_count view next PoolFree left 0 stored.step.0 stored.step.1 (λ before after steps. of_pool (stores_pool_count steps))
 
   pub count-made : (number : ℕ) → IsPass view number → MadeBy view next None
   count-made number pass = stored-made MayStorePoolCount store_pool_count view next PoolFree left refl stored.step number pass

@@ -10,7 +10,7 @@ use Rattle.core_state.specs.declared.view.Task.TheVariants.{Nothing}
 use Rattle.core_state.specs.declared.view.View.{View}
 use Rattle.core_state.specs.View.{mode_of, mode_after, HoldsNot, IsPass, no_call}
 use Rattle.core_state.specs.Locking.{MayRelease, release}
-use Rattle.core_state.specs.Event.{releases}
+use Rattle.core_state.specs.Event.{releases, of_locks}
 use Rattle.pass_table.specs.Holding.{LetGo, IsAtRest}
 use Rattle.pass_table.specs.Turning.{AtMostOneStep, MadeBy}
 use Rattle.pass_table.specs.Calls.{Adds, IsCalling, RestsAgain}
@@ -19,7 +19,7 @@ use Rattle.pass_table.proofs.Calling.{Adds-refl, adds-none, stepped-left, callin
 
 module _ (view next : View) (lock found : ℕ) (go : LetGo view lock found next) where
   pub let-go-step : AtMostOneStep view next
-  let-go-step = one-step MayRelease release view next (Lock lock) go.0 0 found go.1 (λ before after steps. releases steps)
+  let-go-step = one-step MayRelease release view next (Lock lock) go.0 0 found go.1 (λ before after steps. of_locks (releases steps))
 
   pub let-go-made : MadeBy view next None
   let-go-made = made-by-step MayRelease release view next (Lock lock) go.0 0 found go.1

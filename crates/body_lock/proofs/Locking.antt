@@ -15,7 +15,7 @@ use Rattle.core_state.specs.declared.view.Task.TheVariants.{Nothing}
 use Rattle.core_state.specs.declared.view.View.{View}
 use Rattle.core_state.specs.View.{mode_of, Holds, HoldsNot, IsPass, number_of, known_word}
 use Rattle.core_state.specs.Lives.{MayLoadBody, under_stripe, load_body}
-use Rattle.core_state.specs.Event.{loads_body}
+use Rattle.core_state.specs.Event.{loads_body, of_bodies}
 use Rattle.pass_table.specs.Stepping.{Stepped}
 use Rattle.pass_table.specs.Knowing.{KnowsMore}
 use Rattle.pass_table.specs.Holding.{MayLetGo, LetGo, IsAtRest}
@@ -245,7 +245,7 @@ gone-leaves id mode start view next state found rest gone go =
 module _ (operation : LockOp) (view next : View) (stage : operation.stage ≡ Held) (state index : ℕ) (names : index ≡ operation.id.index)
     (step : Stepped MayLoadBody load_body view (State index) 0 0 state next) where
   state-step : AtMostOneStep view next
-  state-step = one-step MayLoadBody load_body view next (State index) 0 0 state step (λ before after steps. loads_body steps)
+  state-step = one-step MayLoadBody load_body view next (State index) 0 0 state step (λ before after steps. of_bodies (loads_body steps))
 
   state-loaded : (first : LockOp) (start : View) → IsLocking first start operation view → Loaded view next (State first.id.index) state
   state-loaded first start locking =

@@ -18,7 +18,7 @@ use Rattle.core_state.specs.declared.view.Role.{Role}
 use Rattle.core_state.specs.declared.view.View.{View}
 use Rattle.core_state.specs.View.{IsPass, Holds, number_in, mode_of}
 use Rattle.core_state.specs.Core.{Core}
-use Rattle.core_state.specs.Event.{creates}
+use Rattle.core_state.specs.Event.{creates, of_bodies}
 use Rattle.core_state.specs.Kind.{Step, item_of}
 use Rattle.core_state.specs.Scope.{sight, scene_in}
 use Rattle.core_state.specs.Guards.{scene_at}
@@ -104,7 +104,7 @@ module _ (first : CreateOp) (start view : View) (index state value : ℕ) (begun
         ∙ (λ i. Some (Create index (at.2 0 (omega arith) i) first.bounds (at.2 1 (omega arith) i)))
 
     pub creation-step : AtMostOneStep view next
-    creation-step = one-step MayCreate create view next (State index) value 0 stored.0 stored.1 (λ before after steps. creates steps)
+    creation-step = one-step MayCreate create view next (State index) value 0 stored.0 stored.1 (λ before after steps. of_bodies (creates steps))
 
     pub creation-made : (number : ℕ) → IsPass view number → MadeBy view next (Some (record { pass = number; entry = entry }))
     creation-made number pass =

@@ -13,7 +13,7 @@ use Rattle.core_state.specs.declared.view.Task.{Task}
 use Rattle.core_state.specs.declared.view.Task.TheVariants.{Nothing, Creating}
 use Rattle.core_state.specs.declared.view.View.{View}
 use Rattle.core_state.specs.View.{IsPass, known_word}
-use Rattle.core_state.specs.Event.{loads_list, stores_head, stores_field}
+use Rattle.core_state.specs.Event.{loads_list, stores_head, stores_field, of_lists, of_bodies}
 use Rattle.core_state.specs.Lists.{MayLoadList, load_list, MayStoreHead, store_head}
 use Rattle.core_state.specs.Lives.{MayLoadBody, load_body, IsCreating, IsFieldOf, MayStoreField, store_field}
 use Rattle.pass_table.specs.Stepping.{Stepped, Stored}
@@ -61,7 +61,7 @@ doing-left view next task doing =
 -- ---- the head
 
 pub head-step : (view next : View) (head : ℕ) → LoadedHead view next head → AtMostOneStep view next
-head-step view next head loaded = one-step MayLoadList load_list view next SlotHead 0 0 head loaded.step (λ before after steps. loads_list steps)
+head-step view next head loaded = one-step MayLoadList load_list view next SlotHead 0 0 head loaded.step (λ before after steps. of_lists (loads_list steps))
 
 pub head-made : (view next : View) (head : ℕ) → LoadedHead view next head → MadeBy view next None
 head-made view next head loaded = made-by-step MayLoadList load_list view next SlotHead 0 0 head loaded.step
@@ -91,7 +91,7 @@ module _ (first : CreateOp) (start view next : View) (head : ℕ) (loaded : Load
 -- ---- the link, and the head's store
 
 pub link-step : (view next : View) (index link : ℕ) → LoadedLink view next index link → AtMostOneStep view next
-link-step view next index link loaded = one-step MayLoadList load_list view next (SlotNext index) 0 0 link loaded.step (λ before after steps. loads_list steps)
+link-step view next index link loaded = one-step MayLoadList load_list view next (SlotNext index) 0 0 link loaded.step (λ before after steps. of_lists (loads_list steps))
 
 pub link-made : (view next : View) (index link : ℕ) → LoadedLink view next index link → MadeBy view next None
 link-made view next index link loaded = made-by-step MayLoadList load_list view next (SlotNext index) 0 0 link loaded.step
@@ -105,7 +105,7 @@ link-loaded first start view next index link rest loaded at = (
 )
 
 pub took-step : (view next : View) (index link : ℕ) → TookOff view next index link → AtMostOneStep view next
-took-step view next index link took = one-step MayStoreHead store_head view next SlotHead link 0 took.step.0 took.step.1 (λ before after steps. stores_head steps)
+took-step view next index link took = one-step MayStoreHead store_head view next SlotHead link 0 took.step.0 took.step.1 (λ before after steps. of_lists (stores_head steps))
 
 pub took-made : (view next : View) (number index link : ℕ) → IsPass view number → TookOff view next index link → MadeBy view next None
 took-made view next number index link pass took = stored-made MayStoreHead store_head view next SlotHead link refl took.step number pass
@@ -182,7 +182,7 @@ no-state index (suc (suc side)) same = absurd cc
 
 module _ (view next : View) (index number value : ℕ) (stored : Stored MayStoreField store_field view (field_name index number) value next) where
   pub field-step : AtMostOneStep view next
-  field-step = one-step MayStoreField store_field view next (field_name index number) value 0 stored.0 stored.1 (λ before after steps. stores_field steps)
+  field-step = one-step MayStoreField store_field view next (field_name index number) value 0 stored.0 stored.1 (λ before after steps. of_bodies (stores_field steps))
 
   pub field-made : (own : ℕ) → IsPass view own → MadeBy view next None
   field-made own pass = stored-made MayStoreField store_field view next (field_name index number) value refl stored own pass

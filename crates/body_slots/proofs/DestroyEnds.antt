@@ -19,7 +19,7 @@ use Rattle.core_state.specs.declared.view.Task.{Task}
 use Rattle.core_state.specs.declared.view.Task.TheVariants.{Nothing, Destroying}
 use Rattle.core_state.specs.declared.view.View.{View}
 use Rattle.core_state.specs.View.{IsPass, Holds, known_word, number_in, mode_of}
-use Rattle.core_state.specs.Event.{stores_link, stores_head, destroys}
+use Rattle.core_state.specs.Event.{stores_link, stores_head, destroys, of_lists, of_bodies}
 use Rattle.core_state.specs.Kind.{Step, item_of}
 use Rattle.core_state.specs.Guards.{scene_at}
 use Rattle.core_state.specs.Scope.{sight, scene_in}
@@ -81,7 +81,7 @@ head-loaded id start view next head begun loaded at =
 
 module _ (view next : View) (index head : ℕ) (linked : LinkedTo view next index head) where
   pub linked-step : AtMostOneStep view next
-  linked-step = one-step MayStoreLink store_link view next (SlotNext index) head 0 linked.step.0 linked.step.1 (λ before after steps. stores_link steps)
+  linked-step = one-step MayStoreLink store_link view next (SlotNext index) head 0 linked.step.0 linked.step.1 (λ before after steps. of_lists (stores_link steps))
 
   pub linked-made : (number : ℕ) → IsPass view number → MadeBy view next None
   linked-made number pass = stored-made MayStoreLink store_link view next (SlotNext index) head refl linked.step number pass
@@ -97,7 +97,7 @@ link-stored id start view next head begun linked at = (
 
 module _ (view next : View) (index : ℕ) (put : PutInFront view next index) where
   pub put-step : AtMostOneStep view next
-  put-step = one-step MayStoreHead store_head view next SlotHead (suc index) 0 put.step.0 put.step.1 (λ before after steps. stores_head steps)
+  put-step = one-step MayStoreHead store_head view next SlotHead (suc index) 0 put.step.0 put.step.1 (λ before after steps. of_lists (stores_head steps))
 
   pub put-made : (number : ℕ) → IsPass view number → MadeBy view next None
   put-made number pass = stored-made MayStoreHead store_head view next SlotHead (suc index) refl put.step number pass
@@ -130,7 +130,7 @@ module _ (id : Id) (start view : View) (value : ℕ) (begun : IsBegunFor id star
     destruction = step_by stored.1.seat view stored.1.number (State id.index) value 0
 
     pub destruction-step : AtMostOneStep view next
-    destruction-step = one-step MayDestroy destroy view next (State id.index) value 0 stored.0 stored.1 (λ before after steps. destroys steps)
+    destruction-step = one-step MayDestroy destroy view next (State id.index) value 0 stored.0 stored.1 (λ before after steps. of_bodies (destroys steps))
 
     pub destruction-made : (number : ℕ) → IsPass view number → MadeBy view next (Some (record { pass = number; entry = Destroy id.index }))
     destruction-made number pass = stored-made MayDestroy destroy view next (State id.index) value refl stored number pass

@@ -15,7 +15,7 @@ use Rattle.core_state.specs.View.{known_word}
 use Rattle.core_state.specs.Core.{Core, IsViewAt, word_of}
 use Rattle.core_state.specs.Operation.{stores}
 use Rattle.core_state.specs.Kind.{Kind, Asking, Step, after_step}
-use Rattle.core_state.specs.Event.{loads_body, loads_slot}
+use Rattle.core_state.specs.Event.{loads_body, loads_slot, of_bodies, of_batches}
 use Rattle.core_state.specs.Guards.{scene_at}
 use Rattle.core_state.specs.Scope.{sight, scene_in}
 use Rattle.core_state.specs.BodiesAgree.{BodiesAgree, body_scope, HasWordsOf}
@@ -64,7 +64,7 @@ module _ (view next : View) (name : Name) (found : ℕ) where
   loaded-body stepped = stepped-loaded MayLoadBody load_body view next name 0 0 found stepped (λ v n f a b. refl) (λ word operand. refl)
 
   pub body-load-step : Stepped MayLoadBody load_body view name 0 0 found next → AtMostOneStep view next
-  body-load-step stepped = one-step MayLoadBody load_body view next name 0 0 found stepped (λ before after steps. loads_body steps)
+  body-load-step stepped = one-step MayLoadBody load_body view next name 0 0 found stepped (λ before after steps. of_bodies (loads_body steps))
 
   pub body-load-made : Stepped MayLoadBody load_body view name 0 0 found next → MadeBy view next None
   body-load-made stepped = made-by-step MayLoadBody load_body view next name 0 0 found stepped
@@ -74,7 +74,7 @@ module _ (view next : View) (name : Name) (found : ℕ) where
   loaded-slot stepped = stepped-loaded MayLoadSlot load_slot view next name 0 0 found stepped (λ v n f a b. refl) (λ word operand. refl)
 
   pub slot-load-step : Stepped MayLoadSlot load_slot view name 0 0 found next → AtMostOneStep view next
-  slot-load-step stepped = one-step MayLoadSlot load_slot view next name 0 0 found stepped (λ before after steps. loads_slot steps)
+  slot-load-step stepped = one-step MayLoadSlot load_slot view next name 0 0 found stepped (λ before after steps. of_batches (loads_slot steps))
 
   pub slot-load-made : Stepped MayLoadSlot load_slot view name 0 0 found next → MadeBy view next None
   slot-load-made stepped = made-by-step MayLoadSlot load_slot view next name 0 0 found stepped

@@ -25,7 +25,7 @@ use Rattle.core_state.specs.declared.view.View.{View}
 use Rattle.core_state.specs.Log.{word, history, IsPrefix}
 use Rattle.core_state.specs.View.{number_in, IsPass, known_word, mode_of, mode_after, no_call}
 use Rattle.core_state.specs.Locking.{MayRelease, release}
-use Rattle.core_state.specs.Event.{releases}
+use Rattle.core_state.specs.Event.{releases, of_locks}
 use Rattle.core_state.specs.Core.{word_of, scene_of}
 use Rattle.core_state.specs.Guards.{scene_at}
 use Rattle.core_state.specs.Operation.{Operation, store, stores, stored_by}
@@ -324,7 +324,7 @@ module _ (start view next : View) (steps : List LockStep) (task : Task) (entries
 
 module _ (view next : View) (lock found : ℕ) (go : LetGo view lock found next) where
   pub released-step : AtMostOneStep view next
-  released-step = one-step MayRelease release view next (Lock lock) go.0 0 found go.1 (λ before after steps. releases steps)
+  released-step = one-step MayRelease release view next (Lock lock) go.0 0 found go.1 (λ before after steps. of_locks (releases steps))
 
   pub released-made : (number : ℕ) → IsPass view number → MadeBy view next None
   released-made number pass = made-entry MayRelease release view next (Lock lock) go.0 0 found go.1 number _ pass refl

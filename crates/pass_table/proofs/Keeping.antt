@@ -15,7 +15,7 @@ use Rattle.core_state.specs.View.{known_alone, own_known, number_in, IsPass}
 use Rattle.core_state.specs.Core.{Core, IsViewAt, opening}
 use Rattle.core_state.specs.Kind.{Kind, Asking, Step, Steps, left_by, item_of, gained_by, view_after, after_step}
 use Rattle.core_state.specs.Seats.{Opens, Visits, Joins, after_split, visitor_of, joined_view, spent_view}
-use Rattle.core_state.specs.Event.{Event, opens_pass, splits_visitor, joins_visitor, looks, loads_lock, takes_read, takes_write, releases, loads_list, stores_link, stores_head, stores_field, creates, destroys, loads_body, sets_user, loads_slot, reserves, marks, stores_node, places, attaches, takes_back, unmarks, lets_slot_go, stores_pool_link, stores_pool_head, stores_pool_count}
+use Rattle.core_state.specs.Event.{Event, opens_pass, splits_visitor, joins_visitor, looks, loads_lock, takes_read, takes_write, releases, loads_list, stores_link, stores_head, stores_field, creates, destroys, loads_body, sets_user, loads_slot, reserves, marks, stores_node, places, attaches, takes_back, unmarks, lets_slot_go, stores_pool_link, stores_pool_head, stores_pool_count, of_locks, of_lists, of_bodies, of_batches, of_pool}
 use Rattle.core_state.specs.Formed.{AreApart, IsSoundView, IsFormed}
 use Rattle.core_state.proofs.Lookups.{at_set}
 use Rattle.core_state.proofs.Prefixes.{IsPrefix-refl, IsPrefix-trans}
@@ -186,30 +186,30 @@ OwnAreKnown-event before after (opens_pass e) formed own = OwnAreKnown-opens bef
 OwnAreKnown-event before after (splits_visitor e) formed own = OwnAreKnown-visits before after e own
 OwnAreKnown-event before after (joins_visitor e) formed own = OwnAreKnown-joins before after e formed own
 OwnAreKnown-event before after (looks e) formed own = OwnAreKnown-steps _ _ before after e formed own
-OwnAreKnown-event before after (loads_lock e) formed own = OwnAreKnown-steps _ _ before after e formed own
-OwnAreKnown-event before after (takes_read e) formed own = OwnAreKnown-steps _ _ before after e formed own
-OwnAreKnown-event before after (takes_write e) formed own = OwnAreKnown-steps _ _ before after e formed own
-OwnAreKnown-event before after (releases e) formed own = OwnAreKnown-steps _ _ before after e formed own
-OwnAreKnown-event before after (loads_list e) formed own = OwnAreKnown-steps _ _ before after e formed own
-OwnAreKnown-event before after (stores_link e) formed own = OwnAreKnown-steps _ _ before after e formed own
-OwnAreKnown-event before after (stores_head e) formed own = OwnAreKnown-steps _ _ before after e formed own
-OwnAreKnown-event before after (stores_field e) formed own = OwnAreKnown-steps _ _ before after e formed own
-OwnAreKnown-event before after (creates e) formed own = OwnAreKnown-steps _ _ before after e formed own
-OwnAreKnown-event before after (destroys e) formed own = OwnAreKnown-steps _ _ before after e formed own
-OwnAreKnown-event before after (loads_body e) formed own = OwnAreKnown-steps _ _ before after e formed own
-OwnAreKnown-event before after (sets_user e) formed own = OwnAreKnown-steps _ _ before after e formed own
-OwnAreKnown-event before after (loads_slot e) formed own = OwnAreKnown-steps _ _ before after e formed own
-OwnAreKnown-event before after (reserves e) formed own = OwnAreKnown-steps _ _ before after e formed own
-OwnAreKnown-event before after (marks e) formed own = OwnAreKnown-steps _ _ before after e formed own
-OwnAreKnown-event before after (stores_node e) formed own = OwnAreKnown-steps _ _ before after e formed own
-OwnAreKnown-event before after (places e) formed own = OwnAreKnown-steps _ _ before after e formed own
-OwnAreKnown-event before after (attaches e) formed own = OwnAreKnown-steps _ _ before after e formed own
-OwnAreKnown-event before after (takes_back e) formed own = OwnAreKnown-steps _ _ before after e formed own
-OwnAreKnown-event before after (unmarks e) formed own = OwnAreKnown-steps _ _ before after e formed own
-OwnAreKnown-event before after (lets_slot_go e) formed own = OwnAreKnown-steps _ _ before after e formed own
-OwnAreKnown-event before after (stores_pool_link e) formed own = OwnAreKnown-steps _ _ before after e formed own
-OwnAreKnown-event before after (stores_pool_head e) formed own = OwnAreKnown-steps _ _ before after e formed own
-OwnAreKnown-event before after (stores_pool_count e) formed own = OwnAreKnown-steps _ _ before after e formed own
+OwnAreKnown-event before after (of_locks (loads_lock e)) formed own = OwnAreKnown-steps _ _ before after e formed own
+OwnAreKnown-event before after (of_locks (takes_read e)) formed own = OwnAreKnown-steps _ _ before after e formed own
+OwnAreKnown-event before after (of_locks (takes_write e)) formed own = OwnAreKnown-steps _ _ before after e formed own
+OwnAreKnown-event before after (of_locks (releases e)) formed own = OwnAreKnown-steps _ _ before after e formed own
+OwnAreKnown-event before after (of_lists (loads_list e)) formed own = OwnAreKnown-steps _ _ before after e formed own
+OwnAreKnown-event before after (of_lists (stores_link e)) formed own = OwnAreKnown-steps _ _ before after e formed own
+OwnAreKnown-event before after (of_lists (stores_head e)) formed own = OwnAreKnown-steps _ _ before after e formed own
+OwnAreKnown-event before after (of_bodies (stores_field e)) formed own = OwnAreKnown-steps _ _ before after e formed own
+OwnAreKnown-event before after (of_bodies (creates e)) formed own = OwnAreKnown-steps _ _ before after e formed own
+OwnAreKnown-event before after (of_bodies (destroys e)) formed own = OwnAreKnown-steps _ _ before after e formed own
+OwnAreKnown-event before after (of_bodies (loads_body e)) formed own = OwnAreKnown-steps _ _ before after e formed own
+OwnAreKnown-event before after (of_bodies (sets_user e)) formed own = OwnAreKnown-steps _ _ before after e formed own
+OwnAreKnown-event before after (of_batches (loads_slot e)) formed own = OwnAreKnown-steps _ _ before after e formed own
+OwnAreKnown-event before after (of_batches (reserves e)) formed own = OwnAreKnown-steps _ _ before after e formed own
+OwnAreKnown-event before after (of_batches (marks e)) formed own = OwnAreKnown-steps _ _ before after e formed own
+OwnAreKnown-event before after (of_batches (stores_node e)) formed own = OwnAreKnown-steps _ _ before after e formed own
+OwnAreKnown-event before after (of_batches (places e)) formed own = OwnAreKnown-steps _ _ before after e formed own
+OwnAreKnown-event before after (of_batches (attaches e)) formed own = OwnAreKnown-steps _ _ before after e formed own
+OwnAreKnown-event before after (of_batches (takes_back e)) formed own = OwnAreKnown-steps _ _ before after e formed own
+OwnAreKnown-event before after (of_batches (unmarks e)) formed own = OwnAreKnown-steps _ _ before after e formed own
+OwnAreKnown-event before after (of_batches (lets_slot_go e)) formed own = OwnAreKnown-steps _ _ before after e formed own
+OwnAreKnown-event before after (of_pool (stores_pool_link e)) formed own = OwnAreKnown-steps _ _ before after e formed own
+OwnAreKnown-event before after (of_pool (stores_pool_head e)) formed own = OwnAreKnown-steps _ _ before after e formed own
+OwnAreKnown-event before after (of_pool (stores_pool_count e)) formed own = OwnAreKnown-steps _ _ before after e formed own
 
 pub Stands-event : (before after : Core) → Event before after → Stands before → Stands after
 Stands-event before after event stands = record {

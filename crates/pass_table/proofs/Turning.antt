@@ -17,7 +17,7 @@ use Rattle.core_state.specs.Core.{Core}
 use Rattle.core_state.specs.Kind.{Kind, Asking, Step, Steps, item_of, found_by, gained_by, after_step}
 use Rattle.core_state.specs.Locking.{MayLoadLock, load_lock, take}
 use Rattle.core_state.specs.Looking.{MayLook, look}
-use Rattle.core_state.specs.Event.{Event, looks, loads_lock, takes_read, takes_write}
+use Rattle.core_state.specs.Event.{Event, looks, loads_lock, takes_read, takes_write, of_locks}
 use Rattle.pass_table.specs.Stepping.{step_by, Stepped}
 use Rattle.pass_table.specs.Knowing.{Looked}
 use Rattle.pass_table.specs.Trying.{LoadedLock, MayTake, ExchangedLock}
@@ -109,12 +109,12 @@ looked-step view next looked = one-step MayLook look view next Update 0 0 looked
 -- ---- the turns that take a lock
 
 pub loaded-step : (view next : View) (lock found : ℕ) → LoadedLock view next lock found → AtMostOneStep view next
-loaded-step view next lock found step = one-step MayLoadLock load_lock view next (Lock lock) 0 0 found step (λ before after steps. loads_lock steps)
+loaded-step view next lock found step = one-step MayLoadLock load_lock view next (Lock lock) 0 0 found step (λ before after steps. of_locks (loads_lock steps))
 
 -- it makes no entry
 pub loaded-made : (view next : View) (lock found : ℕ) → LoadedLock view next lock found → MadeBy view next None
 loaded-made view next lock found step = made-by-step MayLoadLock load_lock view next (Lock lock) 0 0 found step
 
 pub exchanged-step : (view next : View) (lock : ℕ) (mode : Mode) (expected found : ℕ) → ExchangedLock view next lock mode expected found → AtMostOneStep view next
-exchanged-step view next lock Read expected found made = one-step (MayTake Read) (take Read) view next (Lock lock) expected made.put found made.step (λ before after steps. takes_read steps)
-exchanged-step view next lock Write expected found made = one-step (MayTake Write) (take Write) view next (Lock lock) expected made.put found made.step (λ before after steps. takes_write steps)
+exchanged-step view next lock Read expected found made = one-step (MayTake Read) (take Read) view next (Lock lock) expected made.put found made.step (λ before after steps. of_locks (takes_read steps))
+exchanged-step view next lock Write expected found made = one-step (MayTake Write) (take Write) view next (Lock lock) expected made.put found made.step (λ before after steps. of_locks (takes_write steps))

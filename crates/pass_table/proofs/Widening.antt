@@ -6,7 +6,7 @@ use Rattle.word_map.specs.declared.name.Name.{Name}
 use Rattle.word_map.specs.declared.name.Name.TheVariants.{Lock, SlotHead, SlotNext, State, User, Bound, Slot, Phase, LocA, PoolNext, PoolHead, PoolFree}
 use Rattle.core_state.specs.Core.{Core, word_of}
 use Rattle.core_state.specs.Kind.{Kind, Asking, Steps}
-use Rattle.core_state.specs.Event.{Event, opens_pass, splits_visitor, joins_visitor, looks, loads_lock, takes_read, takes_write, releases, loads_list, stores_link, stores_head, stores_field, creates, destroys, loads_body, sets_user, loads_slot, reserves, marks, places, attaches, takes_back, unmarks, lets_slot_go, stores_pool_link, stores_pool_head, stores_pool_count, stores_node}
+use Rattle.core_state.specs.Event.{Event, opens_pass, splits_visitor, joins_visitor, looks, loads_lock, takes_read, takes_write, releases, loads_list, stores_link, stores_head, stores_field, creates, destroys, loads_body, sets_user, loads_slot, reserves, marks, places, attaches, takes_back, unmarks, lets_slot_go, stores_pool_link, stores_pool_head, stores_pool_count, stores_node, of_locks, of_lists, of_bodies, of_batches, of_pool}
 use Rattle.core_state.specs.Looking.{look}
 use Rattle.core_state.specs.Locking.{load_lock, take_read, take_write, release}
 use Rattle.core_state.specs.Lists.{load_list, store_link, store_head}
@@ -68,29 +68,29 @@ module _ (before after : Core) (h : Invariants before) where
   event_widens (splits_visitor e) = unseen h.nodes before after (visits-unseen before after e)
   event_widens (joins_visitor e) = unseen h.nodes before after (joins-unseen before after e)
   event_widens (looks e) = unseen h.nodes before after (load-unseen _ look before after look-plain e)
-  event_widens (loads_lock e) = unseen h.nodes before after (load-unseen _ load_lock before after load_lock-plain e)
-  event_widens (loads_list e) = unseen h.nodes before after (load-unseen _ load_list before after load_list-plain e)
-  event_widens (loads_body e) = unseen h.nodes before after (load-unseen _ load_body before after load_body-plain e)
-  event_widens (loads_slot e) = unseen h.nodes before after (load-unseen _ load_slot before after load_slot-plain e)
-  event_widens (stores_field e) =
+  event_widens (of_locks (loads_lock e)) = unseen h.nodes before after (load-unseen _ load_lock before after load_lock-plain e)
+  event_widens (of_lists (loads_list e)) = unseen h.nodes before after (load-unseen _ load_list before after load_list-plain e)
+  event_widens (of_bodies (loads_body e)) = unseen h.nodes before after (load-unseen _ load_body before after load_body-plain e)
+  event_widens (of_batches (loads_slot e)) = unseen h.nodes before after (load-unseen _ load_slot before after load_slot-plain e)
+  event_widens (of_bodies (stores_field e)) =
       let asked = e.allowed.asked in
       on_other h.nodes _ store_field before after e (λ n k q same. subst (λ (name : Name). IsFieldOf e.step.view.config asked.index name e.step.first) (sym same) asked.field)
-  event_widens (stores_node e) = on_own before after h e
-  event_widens (takes_read e) = let asked = e.allowed.asked in aside h.nodes _ take_read before after e (Lock asked.lock) asked.names (λ none. none)
-  event_widens (takes_write e) = let asked = e.allowed.asked in aside h.nodes _ take_write before after e (Lock asked.lock) asked.names (λ none. none)
-  event_widens (releases e) = let asked = e.allowed.asked in aside h.nodes _ release before after e (Lock asked.lock) asked.names (λ none. none)
-  event_widens (stores_link e) = let asked = e.allowed.asked in aside h.nodes _ store_link before after e (SlotNext asked.index) asked.names (λ none. none)
-  event_widens (stores_head e) = let asked = e.allowed.asked in aside h.nodes _ store_head before after e SlotHead asked.names (λ none. none)
-  event_widens (creates e) = let asked = e.allowed.asked in aside h.nodes _ create before after e (State asked.index) asked.names (λ none. none)
-  event_widens (destroys e) = let asked = e.allowed.asked in aside h.nodes _ destroy before after e (State asked.index) asked.names (λ none. none)
-  event_widens (sets_user e) = let asked = e.allowed.asked in aside h.nodes _ set_user before after e (User asked.index) asked.names (λ none. none)
-  event_widens (reserves e) = let asked = e.allowed.asked in aside h.nodes _ reserve before after e (Slot asked.layer asked.slot) asked.names (λ none. none)
-  event_widens (marks e) = let asked = e.allowed.asked in aside h.nodes _ mark before after e (Phase asked.index) asked.names (λ none. none)
-  event_widens (places e) = let asked = e.allowed.asked in aside h.nodes _ place_body before after e (LocA asked.m.index) asked.names (λ none. none)
-  event_widens (attaches e) = let asked = e.allowed.asked in aside h.nodes _ attach before after e (Slot asked.layer asked.slot) asked.names (λ none. none)
-  event_widens (takes_back e) = let asked = e.allowed.asked in aside h.nodes _ take_back before after e (LocA asked.m.index) asked.names (λ none. none)
-  event_widens (unmarks e) = let asked = e.allowed.asked in aside h.nodes _ unmark before after e (Phase asked.m.index) asked.names (λ none. none)
-  event_widens (lets_slot_go e) = let asked = e.allowed.asked in aside h.nodes _ let_slot_go before after e (Slot asked.layer asked.slot) asked.names (λ none. none)
-  event_widens (stores_pool_link e) = let asked = e.allowed.asked in aside h.nodes _ store_pool_link before after e (PoolNext asked.node) asked.names (λ none. none)
-  event_widens (stores_pool_head e) = let asked = e.allowed.asked in aside h.nodes _ store_pool_head before after e PoolHead asked.names (λ none. none)
-  event_widens (stores_pool_count e) = let asked = e.allowed.asked in aside h.nodes _ store_pool_count before after e PoolFree asked.names (λ none. none)
+  event_widens (of_batches (stores_node e)) = on_own before after h e
+  event_widens (of_locks (takes_read e)) = let asked = e.allowed.asked in aside h.nodes _ take_read before after e (Lock asked.lock) asked.names (λ none. none)
+  event_widens (of_locks (takes_write e)) = let asked = e.allowed.asked in aside h.nodes _ take_write before after e (Lock asked.lock) asked.names (λ none. none)
+  event_widens (of_locks (releases e)) = let asked = e.allowed.asked in aside h.nodes _ release before after e (Lock asked.lock) asked.names (λ none. none)
+  event_widens (of_lists (stores_link e)) = let asked = e.allowed.asked in aside h.nodes _ store_link before after e (SlotNext asked.index) asked.names (λ none. none)
+  event_widens (of_lists (stores_head e)) = let asked = e.allowed.asked in aside h.nodes _ store_head before after e SlotHead asked.names (λ none. none)
+  event_widens (of_bodies (creates e)) = let asked = e.allowed.asked in aside h.nodes _ create before after e (State asked.index) asked.names (λ none. none)
+  event_widens (of_bodies (destroys e)) = let asked = e.allowed.asked in aside h.nodes _ destroy before after e (State asked.index) asked.names (λ none. none)
+  event_widens (of_bodies (sets_user e)) = let asked = e.allowed.asked in aside h.nodes _ set_user before after e (User asked.index) asked.names (λ none. none)
+  event_widens (of_batches (reserves e)) = let asked = e.allowed.asked in aside h.nodes _ reserve before after e (Slot asked.layer asked.slot) asked.names (λ none. none)
+  event_widens (of_batches (marks e)) = let asked = e.allowed.asked in aside h.nodes _ mark before after e (Phase asked.index) asked.names (λ none. none)
+  event_widens (of_batches (places e)) = let asked = e.allowed.asked in aside h.nodes _ place_body before after e (LocA asked.m.index) asked.names (λ none. none)
+  event_widens (of_batches (attaches e)) = let asked = e.allowed.asked in aside h.nodes _ attach before after e (Slot asked.layer asked.slot) asked.names (λ none. none)
+  event_widens (of_batches (takes_back e)) = let asked = e.allowed.asked in aside h.nodes _ take_back before after e (LocA asked.m.index) asked.names (λ none. none)
+  event_widens (of_batches (unmarks e)) = let asked = e.allowed.asked in aside h.nodes _ unmark before after e (Phase asked.m.index) asked.names (λ none. none)
+  event_widens (of_batches (lets_slot_go e)) = let asked = e.allowed.asked in aside h.nodes _ let_slot_go before after e (Slot asked.layer asked.slot) asked.names (λ none. none)
+  event_widens (of_pool (stores_pool_link e)) = let asked = e.allowed.asked in aside h.nodes _ store_pool_link before after e (PoolNext asked.node) asked.names (λ none. none)
+  event_widens (of_pool (stores_pool_head e)) = let asked = e.allowed.asked in aside h.nodes _ store_pool_head before after e PoolHead asked.names (λ none. none)
+  event_widens (of_pool (stores_pool_count e)) = let asked = e.allowed.asked in aside h.nodes _ store_pool_count before after e PoolFree asked.names (λ none. none)

@@ -1,7 +1,7 @@
 //! Single steps: one function for each atomic operation, for all kinds.
 ghost use Rattle.std.specs.Prelude.{◌≡◌};
 ghost use Rattle.word_map.specs.Layout.{name_of};
-ghost use Rattle.core_state.specs.Operation.{load, store, fetch_add, compare_exchange};
+ghost use Rattle.core_state.specs.Operation.{load, store, exchange, compare_exchange, fetch_add, fetch_min, fetch_max};
 ghost use Rattle.pass_table.specs.Stepping.{MayStep, Stepped, Stored};
 
 use crate::rule::{Seat, Words};
@@ -97,4 +97,40 @@ pub(crate) fn store<K: Kind>(table: &Words, seat: &mut Seat, place: usize, value
     ensures step { Stored K.asks K.kind seat.old.me.0 (name_of table.now.key place) value seat.new.me.0 }
 {
     table.store::<ToldOfStore<K>>(seat, place, value);
+}
+
+/// An exchange at a place: exactly one step of the kind, whose operation has to be an exchange. It answers the word
+/// that it found.
+pub(crate) fn exchange<K: Kind>(table: &Words, seat: &mut Seat, place: usize, value: u64) -> u64
+    requires own { seat.old.table_id ≡ table.now.table_id }
+    requires exchanges { K.kind.operation ≡ exchange }
+    requires may { MayStep K.asks table.now.key table.now.table_id seat.old.me place value 0 }
+    ensures seat { (seat.new.table_id ≡ seat.old.table_id) × (seat.new.me.1 ≡ seat.old.me.1) }
+    ensures step { Stepped K.asks K.kind seat.old.me.0 (name_of table.now.key place) value 0 result seat.new.me.0 }
+{
+    table.swap::<Told<K>>(seat, place, value)
+}
+
+/// A fetch-min at a place: exactly one step of the kind, whose operation has to be a fetch-min. It answers the word
+/// that it found.
+pub(crate) fn fetch_min<K: Kind>(table: &Words, seat: &mut Seat, place: usize, value: u64) -> u64
+    requires own { seat.old.table_id ≡ table.now.table_id }
+    requires lessens { K.kind.operation ≡ fetch_min }
+    requires may { MayStep K.asks table.now.key table.now.table_id seat.old.me place value 0 }
+    ensures seat { (seat.new.table_id ≡ seat.old.table_id) × (seat.new.me.1 ≡ seat.old.me.1) }
+    ensures step { Stepped K.asks K.kind seat.old.me.0 (name_of table.now.key place) value 0 result seat.new.me.0 }
+{
+    table.fetch_min::<Told<K>>(seat, place, value)
+}
+
+/// A fetch-max at a place: exactly one step of the kind, whose operation has to be a fetch-max. It answers the word
+/// that it found.
+pub(crate) fn fetch_max<K: Kind>(table: &Words, seat: &mut Seat, place: usize, value: u64) -> u64
+    requires own { seat.old.table_id ≡ table.now.table_id }
+    requires raises { K.kind.operation ≡ fetch_max }
+    requires may { MayStep K.asks table.now.key table.now.table_id seat.old.me place value 0 }
+    ensures seat { (seat.new.table_id ≡ seat.old.table_id) × (seat.new.me.1 ≡ seat.old.me.1) }
+    ensures step { Stepped K.asks K.kind seat.old.me.0 (name_of table.now.key place) value 0 result seat.new.me.0 }
+{
+    table.fetch_max::<Told<K>>(seat, place, value)
 }

@@ -7,7 +7,7 @@ ghost use Rattle.core_state.specs.declared.view.Mode.{Mode};
 ghost use Rattle.core_state.specs.declared.view.Mode.TheVariants.{Read};
 ghost use Rattle.pass_table.specs.Holding.{MayLetGo, LetGo};
 ghost use Rattle.word_map.specs.Names.{IsName};
-ghost use Rattle.core_state.specs.Operation.{load, store, fetch_add, compare_exchange};
+ghost use Rattle.core_state.specs.Operation.{load, store, exchange, compare_exchange, fetch_min, fetch_max};
 ghost use Rattle.pass_table.specs.Stepping.{Stepped, Stored};
 ghost use Rattle.pass_table.specs.Passes.{view_of, IsOf};
 
@@ -84,6 +84,48 @@ impl Pass {
             return Err(found);
         }
         Ok(())
+    }
+
+    /// An exchange of a word, of a kind that leaves the locks of the pass as they are. It answers the word found.
+    #[inline(always)]
+    pub(crate) fn swap<K: StillKind>(&mut self, world: &World, name: Name, value: u64) -> u64
+        requires of { IsOf world.now self.old }
+        requires named { IsName world.now.map name }
+        requires exchanges { K.kind.operation ≡ exchange }
+        requires asks { K.asks (view_of self.old) name value 0 }
+        ensures of { IsOf world.now self.new }
+        ensures step { Stepped K.asks K.kind (view_of self.old) name value 0 result (view_of self.new) }
+    {
+        let place = world.map.place(name);
+        step::exchange::<K>(&world.table.shared, &mut self.seat, place, value)
+    }
+
+    /// A fetch-min of a word, of a kind that leaves the locks of the pass as they are. It answers the word found.
+    #[inline(always)]
+    pub(crate) fn fetch_min<K: StillKind>(&mut self, world: &World, name: Name, value: u64) -> u64
+        requires of { IsOf world.now self.old }
+        requires named { IsName world.now.map name }
+        requires lessens { K.kind.operation ≡ fetch_min }
+        requires asks { K.asks (view_of self.old) name value 0 }
+        ensures of { IsOf world.now self.new }
+        ensures step { Stepped K.asks K.kind (view_of self.old) name value 0 result (view_of self.new) }
+    {
+        let place = world.map.place(name);
+        step::fetch_min::<K>(&world.table.shared, &mut self.seat, place, value)
+    }
+
+    /// A fetch-max of a word, of a kind that leaves the locks of the pass as they are. It answers the word found.
+    #[inline(always)]
+    pub(crate) fn fetch_max<K: StillKind>(&mut self, world: &World, name: Name, value: u64) -> u64
+        requires of { IsOf world.now self.old }
+        requires named { IsName world.now.map name }
+        requires raises { K.kind.operation ≡ fetch_max }
+        requires asks { K.asks (view_of self.old) name value 0 }
+        ensures of { IsOf world.now self.new }
+        ensures step { Stepped K.asks K.kind (view_of self.old) name value 0 result (view_of self.new) }
+    {
+        let place = world.map.place(name);
+        step::fetch_max::<K>(&world.table.shared, &mut self.seat, place, value)
     }
 
     /// A compare and exchange of a lock's word, which takes the lock where it finds the word expected.

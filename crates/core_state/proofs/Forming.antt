@@ -26,7 +26,7 @@ use Rattle.core_state.specs.Core.{Core, IsViewAt, opening}
 use Rattle.core_state.specs.Operation.{stores}
 use Rattle.core_state.specs.Kind.{Kind, Asking, Step, IsAllowed, Steps, found_by, left_by, item_of, gained_by, log_after, view_after, after_step}
 use Rattle.core_state.specs.Seats.{Opens, Visits, Joins, after_split, visitor_of, joined_view, spent_view}
-use Rattle.core_state.specs.Event.{Event, opens_pass, splits_visitor, joins_visitor, looks, loads_lock, takes_read, takes_write, releases, loads_list, stores_link, stores_head, stores_field, creates, destroys, loads_body, sets_user, loads_slot, reserves, marks, stores_node, places, attaches, takes_back, unmarks, lets_slot_go, stores_pool_link, stores_pool_head, stores_pool_count, Run, begins, goes_on}
+use Rattle.core_state.specs.Event.{Event, opens_pass, splits_visitor, joins_visitor, looks, of_locks, of_lists, of_bodies, of_batches, of_pool, of_walks, of_moves, LockEvent, loads_lock, takes_read, takes_write, releases, ListEvent, loads_list, stores_link, stores_head, BodyEvent, stores_field, creates, destroys, loads_body, sets_user, BatchEvent, loads_slot, reserves, marks, stores_node, places, attaches, takes_back, unmarks, lets_slot_go, PoolEvent, stores_pool_link, stores_pool_head, stores_pool_count, WalkEvent, begins_walk, ends_walk, MoveEvent, loads_parent, Run, begins, goes_on}
 use Rattle.core_state.specs.Formed.{IsMadeOn, IsSoundItem, HasNumbers, AreApart, IsSoundView, IsFormed}
 use Rattle.std.proofs.lemmas.Option.{same_Some, none-some}
 use Rattle.core_state.proofs.Lookups.{at_set, at_push}
@@ -347,35 +347,60 @@ joins-said : (view : View) (name : Name) → IfSome (joined_by view name) (λ en
 joins-said view (Slot layer slot) = joining-said layer slot (batch_for layer slot view)
 joins-said view _ = tt
 
+-- each group of kinds
+IsFormed-locks : (before after : Core) → LockEvent before after → IsFormed before → IsFormed after
+IsFormed-locks before after (loads_lock e) formed = IsFormed-steps _ _ before after (says-nothing _ (λ view name value. refl)) e formed
+IsFormed-locks before after (takes_read e) formed = IsFormed-steps _ _ before after (says-nothing _ (λ view name value. refl)) e formed
+IsFormed-locks before after (takes_write e) formed = IsFormed-steps _ _ before after (says-nothing _ (λ view name value. refl)) e formed
+IsFormed-locks before after (releases e) formed = IsFormed-steps _ _ before after (says-nothing _ (λ view name value. refl)) e formed
+
+IsFormed-lists : (before after : Core) → ListEvent before after → IsFormed before → IsFormed after
+IsFormed-lists before after (loads_list e) formed = IsFormed-steps _ _ before after (says-nothing _ (λ view name value. refl)) e formed
+IsFormed-lists before after (stores_link e) formed = IsFormed-steps _ _ before after (says-nothing _ (λ view name value. refl)) e formed
+IsFormed-lists before after (stores_head e) formed = IsFormed-steps _ _ before after (says-nothing _ (λ view name value. refl)) e formed
+
+IsFormed-bodies : (before after : Core) → BodyEvent before after → IsFormed before → IsFormed after
+IsFormed-bodies before after (stores_field e) formed = IsFormed-steps _ _ before after (says-nothing _ (λ view name value. refl)) e formed
+IsFormed-bodies before after (creates e) formed = IsFormed-steps _ _ before after (record { said = λ view name value. creates-said view name }) e formed
+IsFormed-bodies before after (destroys e) formed = IsFormed-steps _ _ before after (record { said = λ view name value. destroys-said name }) e formed
+IsFormed-bodies before after (loads_body e) formed = IsFormed-steps _ _ before after (says-nothing _ (λ view name value. refl)) e formed
+IsFormed-bodies before after (sets_user e) formed = IsFormed-steps _ _ before after (record { said = λ view name value. user-said name value }) e formed
+
+IsFormed-batches : (before after : Core) → BatchEvent before after → IsFormed before → IsFormed after
+IsFormed-batches before after (loads_slot e) formed = IsFormed-steps _ _ before after (says-nothing _ (λ view name value. refl)) e formed
+IsFormed-batches before after (reserves e) formed = IsFormed-steps _ _ before after (says-nothing _ (λ view name value. refl)) e formed
+IsFormed-batches before after (marks e) formed = IsFormed-steps _ _ before after (record { said = λ view name value. marks-said name }) e formed
+IsFormed-batches before after (stores_node e) formed = IsFormed-steps _ _ before after (says-nothing _ (λ view name value. refl)) e formed
+IsFormed-batches before after (places e) formed = IsFormed-steps _ _ before after (says-nothing _ (λ view name value. refl)) e formed
+IsFormed-batches before after (attaches e) formed = IsFormed-steps _ _ before after (record { said = λ view name value. joins-said view name }) e formed
+IsFormed-batches before after (takes_back e) formed = IsFormed-steps _ _ before after (says-nothing _ (λ view name value. refl)) e formed
+IsFormed-batches before after (unmarks e) formed = IsFormed-steps _ _ before after (record { said = λ view name value. unmarks-said name }) e formed
+IsFormed-batches before after (lets_slot_go e) formed = IsFormed-steps _ _ before after (says-nothing _ (λ view name value. refl)) e formed
+
+IsFormed-pool : (before after : Core) → PoolEvent before after → IsFormed before → IsFormed after
+IsFormed-pool before after (stores_pool_link e) formed = IsFormed-steps _ _ before after (says-nothing _ (λ view name value. refl)) e formed
+IsFormed-pool before after (stores_pool_head e) formed = IsFormed-steps _ _ before after (says-nothing _ (λ view name value. refl)) e formed
+IsFormed-pool before after (stores_pool_count e) formed = IsFormed-steps _ _ before after (says-nothing _ (λ view name value. refl)) e formed
+
+IsFormed-walks : (before after : Core) → WalkEvent before after → IsFormed before → IsFormed after
+IsFormed-walks before after (begins_walk e) formed = IsFormed-steps _ _ before after (says-nothing _ (λ view name value. refl)) e formed
+IsFormed-walks before after (ends_walk e) formed = IsFormed-steps _ _ before after (says-nothing _ (λ view name value. refl)) e formed
+
+IsFormed-moves : (before after : Core) → MoveEvent before after → IsFormed before → IsFormed after
+IsFormed-moves before after (loads_parent index e) formed = IsFormed-steps _ _ before after (says-nothing _ (λ view name value. refl)) e formed
+
 pub IsFormed-event : (before after : Core) → Event before after → IsFormed before → IsFormed after
 IsFormed-event before after (opens_pass e) formed = IsFormed-opens before after e formed
 IsFormed-event before after (splits_visitor e) formed = IsFormed-visits before after e formed
 IsFormed-event before after (joins_visitor e) formed = IsFormed-joins before after e formed
 IsFormed-event before after (looks e) formed = IsFormed-steps _ _ before after (says-nothing _ (λ view name value. refl)) e formed
-IsFormed-event before after (loads_lock e) formed = IsFormed-steps _ _ before after (says-nothing _ (λ view name value. refl)) e formed
-IsFormed-event before after (takes_read e) formed = IsFormed-steps _ _ before after (says-nothing _ (λ view name value. refl)) e formed
-IsFormed-event before after (takes_write e) formed = IsFormed-steps _ _ before after (says-nothing _ (λ view name value. refl)) e formed
-IsFormed-event before after (releases e) formed = IsFormed-steps _ _ before after (says-nothing _ (λ view name value. refl)) e formed
-IsFormed-event before after (loads_list e) formed = IsFormed-steps _ _ before after (says-nothing _ (λ view name value. refl)) e formed
-IsFormed-event before after (stores_link e) formed = IsFormed-steps _ _ before after (says-nothing _ (λ view name value. refl)) e formed
-IsFormed-event before after (stores_head e) formed = IsFormed-steps _ _ before after (says-nothing _ (λ view name value. refl)) e formed
-IsFormed-event before after (stores_field e) formed = IsFormed-steps _ _ before after (says-nothing _ (λ view name value. refl)) e formed
-IsFormed-event before after (creates e) formed = IsFormed-steps _ _ before after (record { said = λ view name value. creates-said view name }) e formed
-IsFormed-event before after (destroys e) formed = IsFormed-steps _ _ before after (record { said = λ view name value. destroys-said name }) e formed
-IsFormed-event before after (loads_body e) formed = IsFormed-steps _ _ before after (says-nothing _ (λ view name value. refl)) e formed
-IsFormed-event before after (sets_user e) formed = IsFormed-steps _ _ before after (record { said = λ view name value. user-said name value }) e formed
-IsFormed-event before after (loads_slot e) formed = IsFormed-steps _ _ before after (says-nothing _ (λ view name value. refl)) e formed
-IsFormed-event before after (reserves e) formed = IsFormed-steps _ _ before after (says-nothing _ (λ view name value. refl)) e formed
-IsFormed-event before after (marks e) formed = IsFormed-steps _ _ before after (record { said = λ view name value. marks-said name }) e formed
-IsFormed-event before after (stores_node e) formed = IsFormed-steps _ _ before after (says-nothing _ (λ view name value. refl)) e formed
-IsFormed-event before after (places e) formed = IsFormed-steps _ _ before after (says-nothing _ (λ view name value. refl)) e formed
-IsFormed-event before after (attaches e) formed = IsFormed-steps _ _ before after (record { said = λ view name value. joins-said view name }) e formed
-IsFormed-event before after (takes_back e) formed = IsFormed-steps _ _ before after (says-nothing _ (λ view name value. refl)) e formed
-IsFormed-event before after (unmarks e) formed = IsFormed-steps _ _ before after (record { said = λ view name value. unmarks-said name }) e formed
-IsFormed-event before after (lets_slot_go e) formed = IsFormed-steps _ _ before after (says-nothing _ (λ view name value. refl)) e formed
-IsFormed-event before after (stores_pool_link e) formed = IsFormed-steps _ _ before after (says-nothing _ (λ view name value. refl)) e formed
-IsFormed-event before after (stores_pool_head e) formed = IsFormed-steps _ _ before after (says-nothing _ (λ view name value. refl)) e formed
-IsFormed-event before after (stores_pool_count e) formed = IsFormed-steps _ _ before after (says-nothing _ (λ view name value. refl)) e formed
+IsFormed-event before after (of_locks e) formed = IsFormed-locks before after e formed
+IsFormed-event before after (of_lists e) formed = IsFormed-lists before after e formed
+IsFormed-event before after (of_bodies e) formed = IsFormed-bodies before after e formed
+IsFormed-event before after (of_batches e) formed = IsFormed-batches before after e formed
+IsFormed-event before after (of_pool e) formed = IsFormed-pool before after e formed
+IsFormed-event before after (of_walks e) formed = IsFormed-walks before after e formed
+IsFormed-event before after (of_moves e) formed = IsFormed-moves before after e formed
 
 -- the only seat of the opening
 opening-only : (c : Config) (seat : ℕ) (view : View) → IsViewAt (opening c) seat view → (seat ≡ 0) × (blank_view c (Pass 0 (c.passes - 1)) ≡ view)

@@ -1,4 +1,4 @@
--- The events of the core, a constructor for each kind of step, and runs.
+-- The events of the core, by groups, with a constructor for each kind of step, and runs.
 use Rattle.std.specs.Prelude.{◌≢◌, ℕ}
 use Rattle.core_state.specs.declared.view.Role.TheVariants.{Visitor}
 use Rattle.core_state.specs.declared.view.View.{View}
@@ -11,6 +11,56 @@ use Rattle.core_state.specs.Lists.{MayLoadList, load_list, MayStoreLink, store_l
 use Rattle.core_state.specs.Lives.{MayStoreField, store_field, MayCreate, create, MayDestroy, destroy, MayLoadBody, load_body, MaySetUser, set_user}
 use Rattle.core_state.specs.Batches.{MayLoadSlot, load_slot, MayReserve, reserve, MayMark, mark, MayStoreNode, store_node, MayPlace, place_body, MayAttach, attach, MayTakeBack, take_back, MayUnmark, unmark, MayLetSlotGo, let_slot_go}
 use Rattle.core_state.specs.Pool.{MayStorePoolLink, store_pool_link, MayStorePoolHead, store_pool_head, MayStorePoolCount, store_pool_count}
+use Rattle.core_state.specs.Walks.{MayBegin, begin_walk, MayEnd, end_walk}
+use Rattle.core_state.specs.Moving.{MayLoadParentMoving, load_parent_moving}
+
+-- a step on a lock
+pub data LockEvent (before after : Core) : Type 0 where
+  loads_lock : Steps MayLoadLock load_lock before after → LockEvent before after
+  takes_read : Steps MayRead take_read before after → LockEvent before after
+  takes_write : Steps MayWrite take_write before after → LockEvent before after
+  releases : Steps MayRelease release before after → LockEvent before after
+
+-- a step on a list of free places
+pub data ListEvent (before after : Core) : Type 0 where
+  loads_list : Steps MayLoadList load_list before after → ListEvent before after
+  stores_link : Steps MayStoreLink store_link before after → ListEvent before after
+  stores_head : Steps MayStoreHead store_head before after → ListEvent before after
+
+-- a step on the words of a body
+pub data BodyEvent (before after : Core) : Type 0 where
+  stores_field : Steps MayStoreField store_field before after → BodyEvent before after
+  creates : Steps MayCreate create before after → BodyEvent before after
+  destroys : Steps MayDestroy destroy before after → BodyEvent before after
+  loads_body : Steps MayLoadBody load_body before after → BodyEvent before after
+  sets_user : Steps MaySetUser set_user before after → BodyEvent before after
+
+-- a step on a slot, or on what a batch holds
+pub data BatchEvent (before after : Core) : Type 0 where
+  loads_slot : Steps MayLoadSlot load_slot before after → BatchEvent before after
+  reserves : Steps MayReserve reserve before after → BatchEvent before after
+  marks : Steps MayMark mark before after → BatchEvent before after
+  stores_node : Steps MayStoreNode store_node before after → BatchEvent before after
+  places : Steps MayPlace place_body before after → BatchEvent before after
+  attaches : Steps MayAttach attach before after → BatchEvent before after
+  takes_back : Steps MayTakeBack take_back before after → BatchEvent before after
+  unmarks : Steps MayUnmark unmark before after → BatchEvent before after
+  lets_slot_go : Steps MayLetSlotGo let_slot_go before after → BatchEvent before after
+
+-- a step on the pool of batch nodes
+pub data PoolEvent (before after : Core) : Type 0 where
+  stores_pool_link : Steps MayStorePoolLink store_pool_link before after → PoolEvent before after
+  stores_pool_head : Steps MayStorePoolHead store_pool_head before after → PoolEvent before after
+  stores_pool_count : Steps MayStorePoolCount store_pool_count before after → PoolEvent before after
+
+-- the beginning or end of a walk
+pub data WalkEvent (before after : Core) : Type 0 where
+  begins_walk : Steps MayBegin begin_walk before after → WalkEvent before after
+  ends_walk : Steps MayEnd end_walk before after → WalkEvent before after
+
+-- a step of a move
+pub data MoveEvent (before after : Core) : Type 0 where
+  loads_parent : (index : ℕ) → Steps (MayLoadParentMoving index) (load_parent_moving index) before after → MoveEvent before after
 
 -- one event leads from the one core to the other; docs/steps.md has the kinds by number
 pub data Event (before after : Core) : Type 0 where
@@ -18,30 +68,13 @@ pub data Event (before after : Core) : Type 0 where
   splits_visitor : Visits before after → Event before after
   joins_visitor : Joins before after → Event before after
   looks : Steps MayLook look before after → Event before after
-  loads_lock : Steps MayLoadLock load_lock before after → Event before after
-  takes_read : Steps MayRead take_read before after → Event before after
-  takes_write : Steps MayWrite take_write before after → Event before after
-  releases : Steps MayRelease release before after → Event before after
-  loads_list : Steps MayLoadList load_list before after → Event before after
-  stores_link : Steps MayStoreLink store_link before after → Event before after
-  stores_head : Steps MayStoreHead store_head before after → Event before after
-  stores_field : Steps MayStoreField store_field before after → Event before after
-  creates : Steps MayCreate create before after → Event before after
-  destroys : Steps MayDestroy destroy before after → Event before after
-  loads_body : Steps MayLoadBody load_body before after → Event before after
-  sets_user : Steps MaySetUser set_user before after → Event before after
-  loads_slot : Steps MayLoadSlot load_slot before after → Event before after
-  reserves : Steps MayReserve reserve before after → Event before after
-  marks : Steps MayMark mark before after → Event before after
-  stores_node : Steps MayStoreNode store_node before after → Event before after
-  places : Steps MayPlace place_body before after → Event before after
-  attaches : Steps MayAttach attach before after → Event before after
-  takes_back : Steps MayTakeBack take_back before after → Event before after
-  unmarks : Steps MayUnmark unmark before after → Event before after
-  lets_slot_go : Steps MayLetSlotGo let_slot_go before after → Event before after
-  stores_pool_link : Steps MayStorePoolLink store_pool_link before after → Event before after
-  stores_pool_head : Steps MayStorePoolHead store_pool_head before after → Event before after
-  stores_pool_count : Steps MayStorePoolCount store_pool_count before after → Event before after
+  of_locks : LockEvent before after → Event before after
+  of_lists : ListEvent before after → Event before after
+  of_bodies : BodyEvent before after → Event before after
+  of_batches : BatchEvent before after → Event before after
+  of_pool : PoolEvent before after → Event before after
+  of_walks : WalkEvent before after → Event before after
+  of_moves : MoveEvent before after → Event before after
 
 -- events one after the other
 pub data Run (first : Core) : Core → Type 0 where

@@ -37,3 +37,6 @@ pub mod Unseen
 pub mod Guards
 pub mod Broken
 pub mod Quietly
+pub mod Walks
+pub mod Moving
+pub mod Removing

@@ -15,3 +15,5 @@ pub mod OneBody
 pub mod LivesAgree
 pub mod BodiesAlike
 pub mod OffTrees
+pub mod TreesLeft
+pub mod WalksLeft

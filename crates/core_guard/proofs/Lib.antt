@@ -17,3 +17,4 @@ pub mod BodiesAlike
 pub mod OffTrees
 pub mod TreesLeft
 pub mod WalksLeft
+pub mod ReadersLeft

@@ -18,3 +18,5 @@ pub mod OffTrees
 pub mod TreesLeft
 pub mod WalksLeft
 pub mod ReadersLeft
+pub mod PlacesStay
+pub mod PlacesLeft

@@ -15,3 +15,5 @@ pub mod OneBody
 pub mod LivesAgree
 pub mod BodiesAlike
 pub mod CoverLeft
+pub mod Holders
+pub mod LivesGuarded

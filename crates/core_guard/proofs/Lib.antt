@@ -20,3 +20,6 @@ pub mod WalksLeft
 pub mod ReadersLeft
 pub mod PlacesStay
 pub mod PlacesLeft
+pub mod CoverLeft
+pub mod Holders
+pub mod LivesGuarded

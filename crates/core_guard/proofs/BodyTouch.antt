@@ -26,6 +26,7 @@ use Rattle.core_state.specs.View.{IsPass, Holds}
 use Rattle.core_state.specs.Core.{Core, word_of, scene_of, IsViewAt}
 use Rattle.core_state.specs.Kind.{Kind, Step, view_after, after_step, log_after}
 use Rattle.core_state.specs.Encoding.{body_child, place, phase_join, slot_tree, layer_of}
+use Rattle.core_state.specs.Parts.{call_by_task, call_on_places}
 use Rattle.core_state.specs.Nodes.{Nodes, Home, node_in, Stands, IsInTree, IsOwnedBy, owned, made}
 use Rattle.core_state.specs.Scope.{Sight, sight, bare_view, scene_in}
 use Rattle.core_state.specs.TreesSound.{tree_scope, IsAsStored}
@@ -85,6 +86,16 @@ handled-stripe s view (Moving index target) i same h = subst (λ (k : ℕ). Hold
 handled-stripe s view (Removing index) i same h = subst (λ (k : ℕ). Holds view (stripe_of s.config k) Write) same h
 handled-stripe s view (Placing index) i same h = subst (λ (k : ℕ). Holds view (stripe_of s.config k) Write) same h
 handled-stripe s view _ i handled h = absurd handled
+
+-- who takes a body out, as far as places tell, handles it
+pub removes-handled : (call : Call) (i : ℕ) → Removes (call_on_places call).task i → IsHandled call.task i
+removes-handled call i h = go call.task refl h
+  where
+    go : (task : Task) → call.task ≡ task → Removes (call_by_task task call).task i → IsHandled call.task i
+    go (Moving index target) e h = absurd (subst (λ (t : Task). Removes t i) e h)
+    go (Removing index) e h = subst (λ (t : Task). IsHandled t i) (sym e) (subst (λ (t : Task). Removes t i) e h)
+    go (Placing index) e h = absurd (subst (λ (t : Task). Removes t i) e h)
+    go _ e h = absurd h
 
 -- ---- stores
 
@@ -178,33 +189,38 @@ module _ (kind : Kind) (core : Core) (step : Step) where
 
   -- ---- where its batches say that bodies are
 
-  -- as before, where the pass keeps its batches and no location is stored
-  pub held-kept : (a : Acts core step) → (Last kind core step).batches ≡ step.view.batches → ((i : ℕ) → word_of (After kind core step) (LocA i) ≡ word_of core (LocA i))
-      → ((i : ℕ) → word_of (After kind core step) (LocB i) ≡ word_of core (LocB i)) → (batch : Batch) (marked : Marked) → Contains (all_batches (sight location_scope (After kind core step))) batch → Contains batch.marked marked
+  -- no location is stored
+  pub location-words : is_location_store step.name ≡ false → (i : ℕ) → (word_of (After kind core step) (LocA i) ≡ word_of core (LocA i)) × (word_of (After kind core step) (LocB i) ≡ word_of core (LocB i))
+  location-words unstored i = (
+    word-step-other kind core step (LocA i) (λ e. true≢false (ap is_location_store e ∙ unstored)),
+    word-step-other kind core step (LocB i) (λ e. true≢false (ap is_location_store e ∙ unstored)),
+  )
+
+  -- and the pass keeps its batches
+  pub held-kept : (a : Acts core step) → (Last kind core step).batches ≡ step.view.batches → is_location_store step.name ≡ false
+      → (batch : Batch) (marked : Marked) → Contains (all_batches (sight location_scope (After kind core step))) batch → Contains batch.marked marked
       → IsPlannedIn (sight location_scope (After kind core step)) batch marked × (word_of (After kind core step) (LocB marked.index) ≡ 0)
-  held-kept a batches first second batch m among marked =
+  held-kept a batches unstored batch m among marked =
       let same : all_batches (sight location_scope (After kind core step)) ≡ all_batches (sight location_scope core) =
       flat-step location_scope (λ n v. refl) kind core step a.at a.pass (λ v. v.batches) batches
       in
       let old = a.laws.locations.held batch m (subst (λ (l : List Batch). Contains l batch) same among) marked in
+      let words = location-words unstored m.index in
       (subst
       (λ (x : ℕ). ((m.is_placed ≡ false) × (x ≡ 0)) ⊎ ((m.is_placed ≡ true) × (x ≡ m.place) × ((n k : ℕ) × (k < 4) × (m.place ≡ place n k) × Contains batch.nodes n)))
-      (sym (first m.index)) old.0, second m.index ∙ old.1)
+      (sym words.0) old.0, words.1 ∙ old.1)
 
   -- ---- the scene after an entry
 
   module _ (entry : Entry) (stores : kind.operation ≡ store) (makes : kind.entry step.view step.name step.first ≡ Some entry) where
-    pub scene-entry : scene_of (After kind core step) ≡ after_entry (scene_of core) entry
-    scene-entry =
-        ap (λ (l : List Made). scene_after core.config.bodies l) (history-made kind core step entry stores makes)
-        ∙ scene-made core.config.bodies step.number (history core.log) entry
-
-    pub record-entry : (i : ℕ) → record_at (scene_of (After kind core step)) i ≡ record_at (after_entry (scene_of core) entry) i
-    record-entry i = ap (λ (s : Scene). record_at s i) scene-entry
+    pub record-made : (i : ℕ) → record_at (scene_of (After kind core step)) i
+        ≡ record_at (scene_after core.config.bodies (history core.log ++ record { pass = step.number; entry = entry } ∷ [])) i
+    record-made i = ap (λ (l : List Made). record_at (scene_after core.config.bodies l) i) (history-made kind core step entry stores makes)
 
     -- of a body of which it does not speak
     pub record-other : (i : ℕ) → place_at (after_entry (scene_of core) entry) i ≡ place_at (scene_of core) i → record_at (scene_of (After kind core step)) i ≡ record_at (scene_of core) i
-    record-other i same = record-entry i ∙ ap (λ (p : Place). p.body) same
+    record-other i same =
+        record-made i ∙ (ap (λ (s : Scene). record_at s i) (scene-made core.config.bodies step.number (history core.log) entry) ∙ ap (λ (p : Place). p.body) same)
 
   -- ---- bodies that stand in no tree
 
@@ -237,14 +253,15 @@ module _ (kind : Kind) (core : Core) (step : Step) where
 
   pub bare-apart : (nodes : Nodes) (i : ℕ) → is_location_store step.name ≡ false → IsBare i → IsApart kind core step nodes i
   bare-apart nodes i unstored b =
-      let first : word_of (After kind core step) (LocA i) ≡ 0 = word-step-other kind core step (LocA i) (λ e. true≢false (ap is_location_store e ∙ unstored)) ∙ b.places.0 in
+      let words = location-words unstored i in
+      let first : word_of (After kind core step) (LocA i) ≡ 0 = words.0 ∙ b.places.0 in
       record {
         unseen = b.unseen;
         unseen_after = b.unseen_after;
         alone = b.alone;
         alone_after = b.alone_after;
         second = b.places.1;
-        second_after = word-step-other kind core step (LocB i) (λ e. true≢false (ap is_location_store e ∙ unstored)) ∙ b.places.1;
+        second_after = words.1 ∙ b.places.1;
         off = λ n k below e. absurd (no_place (word_of core (LocA i)) n k b.places.0 e);
         off_after = λ n k below e. absurd (no_place (word_of (After kind core step) (LocA i)) n k first e);
         dead = λ none. first;

@@ -16,3 +16,4 @@ pub mod LivesAgree
 pub mod BodiesAlike
 pub mod BodyTouch
 pub mod LivesTouch
+pub mod LockSteps

@@ -17,3 +17,4 @@ pub mod BodiesAlike
 pub mod BodyTouch
 pub mod LivesTouch
 pub mod LockSteps
+pub mod ListSteps

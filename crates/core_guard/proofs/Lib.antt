@@ -23,3 +23,7 @@ pub mod PlacesLeft
 pub mod CoverLeft
 pub mod Holders
 pub mod LivesGuarded
+pub mod BodyTouch
+pub mod LivesTouch
+pub mod LockSteps
+pub mod ListSteps

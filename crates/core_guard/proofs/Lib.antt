@@ -14,3 +14,4 @@ pub mod ListsAgree
 pub mod OneBody
 pub mod LivesAgree
 pub mod BodiesAlike
+pub mod NodesLeft

@@ -6,3 +6,9 @@ pub mod PlacedAgree
 pub mod PhaseAgree
 pub mod Attaching
 pub mod Attached
+pub mod NodesStep
+pub mod Rehome
+pub mod PoolSteps
+pub mod BatchesStep
+pub mod BodiesAside
+pub mod Newest

@@ -8,3 +8,9 @@ pub mod Attaching
 pub mod Attached
 pub mod AttachLeaves
 pub mod AttachCover
+pub mod NodesStep
+pub mod Rehome
+pub mod PoolSteps
+pub mod BatchesStep
+pub mod BodiesAside
+pub mod Newest

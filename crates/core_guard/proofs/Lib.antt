@@ -27,3 +27,4 @@ pub mod BodyTouch
 pub mod LivesTouch
 pub mod LockSteps
 pub mod ListSteps
+pub mod NodesLeft

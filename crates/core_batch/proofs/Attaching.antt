@@ -1,5 +1,5 @@
 -- A batch that is to be attached: what is known of its slot, its nodes and its bodies before.
-use Rattle.std.proofs.Common.{List, ◌≡◌, ◌≢◌, ℕ, ◌<◌, true, Some, Contains, refl, ap, sym, ◌∙◌, subst, inl, inr, arith}
+use Rattle.std.proofs.Common.{List, ◌≡◌, ◌≢◌, ℕ, ◌<◌, true, Option, Some, None, IsSomeAnd, Contains, refl, ap, sym, ◌∙◌, subst, inl, inr, arith}
 use Rattle.std.specs.Prelude.{flat_map, slice_index}
 use Rattle.std.proofs.lemmas.Bool.{false≢true}
 use Rattle.std.proofs.lemmas.List.Elements.{Contains-append_left}
@@ -72,10 +72,14 @@ owned_home (returning p) number own none = absurd own
 
 -- ---- bodies
 
+held-once : (o : Option Record) → IsSomeAnd o (λ r. r.phase ≢ Held) → ¬ IsSomeAnd o (λ r. r.phase ≡ Held)
+held-once None h held = h
+held-once (Some r) h held = h held
+
 -- who stands between the box words of a body gives it another box
 moves-held : (s : Sight) (call : Call) (task : Task) (i : ℕ) → MovesBody task i → IsUnheld s (call_by_task task call).task → call.task ≡ task → ¬ HasBody (scene_in s) i (λ r. r.phase ≡ Held)
 moves-held s call (Moving index target) i moves unheld at held =
-    subst (IsUnheld s) at unheld (subst (λ (k : ℕ). HasBody (scene_in s) k (λ r. r.phase ≡ Held)) (sym moves) held)
+    held-once (record_at (scene_in s) index) (subst (IsUnheld s) at unheld) (subst (λ (k : ℕ). HasBody (scene_in s) k (λ r. r.phase ≡ Held)) (sym moves) held)
 moves-held s call _ i moves unheld at held = absurd moves
 
 -- the body at an index, which the batch holds, stands at its place in the batch's nodes

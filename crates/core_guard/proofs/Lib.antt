@@ -28,3 +28,4 @@ pub mod LivesTouch
 pub mod LockSteps
 pub mod ListSteps
 pub mod NodesLeft
+pub mod HandledLive

@@ -288,8 +288,8 @@ module _ (kind : Kind) (core : Core) (step : Step) (a : Acts core step) (later :
     climbs-forth call _ stay n k h = absurd h
 
     pub unheld-forth : (task : Task) → ((i : ℕ) → IsHandled task i → Stays kind core step i) → IsUnheld Was task → IsUnheld Is task
-    unheld-forth (Moving index target) stay h = λ held. h (phase-back index (stay index refl) (λ r. r.phase ≡ Held) (λ r user. (λ t. t, λ t. t)) held)
-    unheld-forth (Placing index) stay h = λ held. h (phase-back index (stay index refl) (λ r. r.phase ≡ Held) (λ r user. (λ t. t, λ t. t)) held)
+    unheld-forth (Moving index target) stay h = phase-forth index (stay index refl) (λ r. r.phase ≢ Held) (λ r user. (λ t. t, λ t. t)) h
+    unheld-forth (Placing index) stay h = phase-forth index (stay index refl) (λ r. r.phase ≢ Held) (λ r user. (λ t. t, λ t. t)) h
     unheld-forth _ stay h = tt
 
     pub taken-forth : (call : Call) (i : ℕ) → Stays kind core step i → IsTakenOut nodes Was (acting call rebuild) i → IsTakenOut later Is (acting call rebuild) i

@@ -177,10 +177,10 @@ abbrev pub IsWidenedOnWay : Sight → View → Type 0
 IsWidenedOnWay s view = (a b q value : ℕ) → Contains view.call.stores (record { name = Bound a b q; value = value }) →
     (n : ℕ) × (k : ℕ) × ClimbsFrom s view view.call.task n k × Above s.word n k a b
 
--- who gives a body another box, or places it, has found it not held
+-- who gives a body another box, or places it, has found it live and not held
 abbrev pub IsUnheld : Sight → Task → Type 0
-IsUnheld s (Moving index target) = ¬ HasBody (scene_in s) index (λ r. r.phase ≡ Held)
-IsUnheld s (Placing index) = ¬ HasBody (scene_in s) index (λ r. r.phase ≡ Held)
+IsUnheld s (Moving index target) = HasBody (scene_in s) index (λ r. r.phase ≢ Held)
+IsUnheld s (Placing index) = HasBody (scene_in s) index (λ r. r.phase ≢ Held)
 IsUnheld s _ = ⊤
 
 pub record LocationsHoldIn (nodes : Nodes) (s : Sight) : Type 0 where

@@ -32,7 +32,7 @@ module _ (core : Core) (a : Attaching core) (acts : Acts core (step_of core a)) 
   treeless = no_tree core a acts.formed acts.laws
 
   module _ (m : Leaves attach core (step_of core a) acts.laws.nodes Later (λ n. Contains a.batch.nodes n)) where
-    fresh : IsFresh attach core (step_of core a) acts acts.laws.nodes Later (λ n. Contains a.batch.nodes n) m
+    fresh : IsFresh attach core (step_of core a) Later (λ n. Contains a.batch.nodes n)
     fresh = record {
       unreplaced = λ number view among pass.
           if_some_map view.rebuild _ _
@@ -72,13 +72,13 @@ module _ (core : Core) (a : Attaching core) (acts : Acts core (step_of core a)) 
       joined_layer : (l : ℕ) → HasBody (scene_of (core_after core a)) i (λ r. r.layer ≡ l) → a.layer ≡ l
       joined_layer l body = sym j.in_layer ∙ subst (λ (o : Option Record). IsSomeAnd o (λ r. r.layer ≡ l)) (scene_now i ∙ now) body
 
-      joins-so : IsOff attach core (step_of core a) acts acts.laws.nodes Later (λ n. Contains a.batch.nodes n) m i
+      joins-so : IsOff attach core (step_of core a) acts.laws.nodes Later i
       joins-so = record {
         covered = record {
           covered = λ r e inside.
               let same : in_phase In j.body ≡ r = same_Some (in_phase In j.body) r (sym (scene_now i ∙ now) ∙ e) in
               let home = under_slot j.entered.node j.entered.in_batch in
-              subst (λ (b : Record). IsCovered Later (Now attach core (step_of core a) acts acts.laws.nodes Later (λ n. Contains a.batch.nodes n) m) i b.layer) same
+              subst (λ (b : Record). IsCovered Later (Now attach core (step_of core a)) i b.layer) same
               (
                 j.entered.node,
                 j.entered.child,

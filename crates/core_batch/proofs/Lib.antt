@@ -14,3 +14,4 @@ pub mod PoolSteps
 pub mod BatchesStep
 pub mod BodiesAside
 pub mod Newest
+pub mod BatchGuards

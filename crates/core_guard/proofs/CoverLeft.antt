@@ -113,7 +113,7 @@ still_done v w r i calm (inr given) = inr given
 
 -- ---- the history goes on
 
-had_as-grown : (s : Sight) (more : List Made) (from : ℕ) (n : Noted) (box : Sides) → HadAs s from n box → HadAs (record s { history = s.history ++ more }) from n box
+pub had_as-grown : (s : Sight) (more : List Made) (from : ℕ) (n : Noted) (box : Sides) → HadAs s from n box → HadAs (record s { history = s.history ++ more }) from n box
 had_as-grown s more from n box h =
     let longer = length-grown s.history more in
     (
@@ -123,7 +123,7 @@ had_as-grown s more from n box h =
       subst (λ (scene : _). HasBody scene n.index (λ r. (r.generation ≡ n.generation) × (r.layer ≡ n.layer) × (box ≡ sides_of (words_of r.bounds)))) (sym (point-grown s.config.bodies s.history more h.0 h.2)) h.3,
     )
 
-module _ (kind : Kind) (core : Core) (step : Step) (a : Acts core step) (nodes later : Nodes) (New : ℕ → Type 0) (m : Leaves kind core step nodes later New) where
+module _ (kind : Kind) (core : Core) (step : Step) where
   abbrev pub Past : Sight
   Past = sight cover_scope core
 
@@ -131,27 +131,34 @@ module _ (kind : Kind) (core : Core) (step : Step) (a : Acts core step) (nodes l
   Now = sight cover_scope (After kind core step)
 
   -- a new node is in no tree that an update is to replace, or has taken out of sight
-  pub record IsFresh : Type 0 where
+  pub record IsFresh (later : Nodes) (New : ℕ → Type 0) : Type 0 where
     pub unreplaced : EachUpdate Past (λ number view r. (n : ℕ) → New n → ¬ IsOldTree r (later.home n))
     pub seen : (n number : ℕ) (name : Name) → New n → later.home n ≢ superseded number name
 
-  -- the first location of a body leads to no tree that was there, and no update is to place the body
-  pub record IsOff (i : ℕ) : Type 0 where
+  -- the first location of a body leads to no tree that was there, and nobody begins to place the body
+  pub record IsOff (nodes later : Nodes) (i : ℕ) : Type 0 where
     pub covered : BodyIsCovered later Now i
     pub off : (n k : ℕ) → k < 4 → word_of (After kind core step) (LocA i) ≡ place n k → ¬ IsInTree (nodes.home n)
     pub unjoined : (l t root : ℕ) → HasBody (scene_in Now) i (λ r. r.layer ≡ l) → word_of (After kind core step) (Phase i) ≡ phase_join t → word_of core (Slot l t) ≢ slot_tree root
     pub calm : IsPlacing (Last kind core step).call.task i → IsPlacing step.view.call.task i
 
   -- it is shown anew of a body
-  pub record IsAnew (i : ℕ) : Type 0 where
+  pub record IsAnew (later : Nodes) (i : ℕ) : Type 0 where
     pub covered : BodyIsCovered later Now i
     pub noted : EachUpdate Now (λ number view r. IsNotedRight later Now view r i)
 
-  pub data BodyAfter (i : ℕ) : Type 0 where
-    as_it_was : Stays kind core step i → BodyAfter i
-    apart : IsApart kind core step nodes i → BodyAfter i
-    off_trees : IsOff i → BodyAfter i
-    anew : IsAnew i → BodyAfter i
+  pub data BodyAfter (nodes later : Nodes) (i : ℕ) : Type 0 where
+    as_it_was : Stays kind core step i → BodyAfter nodes later i
+    apart : IsApart kind core step nodes i → BodyAfter nodes later i
+    off_trees : IsOff nodes later i → BodyAfter nodes later i
+    anew : IsAnew later i → BodyAfter nodes later i
+
+module _ (kind : Kind) (core : Core) (step : Step) (a : Acts core step) (nodes later : Nodes) (New : ℕ → Type 0) (m : Leaves kind core step nodes later New) where
+  abbrev Old : Sight
+  Old = Past kind core step
+
+  abbrev Seen : Sight
+  Seen = Now kind core step
 
   old-forth : (r : Rebuild) (n : ℕ) → IsOldTree r (nodes.home n) → IsOldTree r (later.home n)
   old-forth r n h = subst (IsOldTree r) (sym (m.stays n (stands-in_tree (nodes.home n) (old-stands r (nodes.home n) h)))) h
@@ -159,12 +166,12 @@ module _ (kind : Kind) (core : Core) (step : Step) (a : Acts core step) (nodes l
   -- ---- a body that stays
 
   module _ (i : ℕ) (b : Stays kind core step i) where
-    covered-forth : BodyIsCovered nodes Past i → IsFresh → BodyIsCovered later Now i
+    covered-forth : BodyIsCovered nodes Old i → IsFresh kind core step later New → BodyIsCovered later Seen i
     covered-forth h fresh = record {
       covered = λ r e inside.
           let before = record-back _ _ r b.body e in
           let t = h.covered (record r { user = before.0 }) before.1 inside in
-          let location : IsLocation Now i t.0 t.1 = (t.2.0, elim (t.2.1) [ inl e ↦ inl (b.loc_a ∙ e) | inr e ↦ inr (b.loc_b ∙ e) ]) in
+          let location : IsLocation Seen i t.0 t.1 = (t.2.0, elim (t.2.1) [ inl e ↦ inl (b.loc_a ∙ e) | inr e ↦ inr (b.loc_b ∙ e) ]) in
           let same = sym (m.stays t.0 (stands-in_tree (nodes.home t.0) (published-stands (nodes.home t.0) t.3))) in
           (t.0, t.1, location, subst IsPublished same t.3, subst (IsOfLayer r.layer) same t.4);
       replaced = λ n k number name below location home none.
@@ -174,39 +181,39 @@ module _ (kind : Kind) (core : Core) (step : Step) (a : Acts core step) (nodes l
           ];
     }
 
-    old_tree-forth : (r : Rebuild) → IsInOldTree nodes Past r i → IsInOldTree later Now r i
+    old_tree-forth : (r : Rebuild) → IsInOldTree nodes Old r i → IsInOldTree later Seen r i
     old_tree-forth r h = (h.0, h.1, h.2, b.loc_a ∙ h.3, old-forth r h.0 h.4)
 
-    removed-forth : IsRemoved Past i → IsRemoved Now i
+    removed-forth : IsRemoved Old i → IsRemoved Seen i
     removed-forth h = (
       h.0,
       has-step cover_scope (λ k v. refl) kind core step a.at a.pass h.0 (λ v. Removes v.call.task i) (λ v. Removes v.call.task i) h.1 (λ seat view apart found own removes. removes)
       (λ same removes. (removes-seen (Last kind core step).call.task i).0 (b.removes.0 ((removes-seen step.view.call.task i).1 removes))),
     )
 
-    same_body-forth : (n : Noted) → n.index ≡ i → IsSameBody Past n → IsSameBody Now n
+    same_body-forth : (n : Noted) → n.index ≡ i → IsSameBody Old n → IsSameBody Seen n
     same_body-forth n same h =
         body-forth (λ r. (r.generation ≡ n.generation) × (r.layer ≡ n.layer)) (λ r user. (λ x. x, λ x. x)) _ _ (subst (Stays kind core step) (sym same) b).body h
 
-    looks-back : (n : Noted) → n.index ≡ i → LooksAsNoted Now n → LooksAsNoted Past n
+    looks-back : (n : Noted) → n.index ≡ i → LooksAsNoted Seen n → LooksAsNoted Old n
     looks-back n same h =
         let at = subst (Stays kind core step) (sym same) b in
         record { state = sym at.state ∙ h.state; location = sym at.loc_a ∙ h.location }
 
-    as_noted-forth : (n : Noted) → n.index ≡ i → IsAsNoted Past n → IsAsNoted Now n
+    as_noted-forth : (n : Noted) → n.index ≡ i → IsAsNoted Old n → IsAsNoted Seen n
     as_noted-forth n same h =
         let at = subst (Stays kind core step) (sym same) b in
         record {
           looks = record { state = at.state ∙ h.looks.state; location = at.loc_a ∙ h.looks.location };
-          phase = λ left. at.phase ∙ h.phase (λ removed. left (subst (IsRemoved Now) (sym same) (removed-forth (subst (IsRemoved Past) same removed))));
+          phase = λ left. at.phase ∙ h.phase (λ removed. left (subst (IsRemoved Seen) (sym same) (removed-forth (subst (IsRemoved Old) same removed))));
           layer = at.layer ∙ h.layer;
           same = same_body-forth n same h.same;
         }
 
   -- ---- a body that is in no tree that was there
 
-  module _ (fresh : IsFresh) where
-    apart-off : (i : ℕ) → IsApart kind core step nodes i → IsOff i
+  module _ (fresh : IsFresh kind core step later New) where
+    apart-off : (i : ℕ) → IsApart kind core step nodes i → IsOff kind core step nodes later i
     apart-off i b = record {
       covered = record {
         covered = λ r e inside. absurd (b.unseen_after (subst (λ (o : Option Record). IsSomeAnd o (λ q. q.phase ≡ In)) (sym e) inside));
@@ -233,9 +240,9 @@ module _ (kind : Kind) (core : Core) (step : Step) (a : Acts core step) (nodes l
 
     -- in which the pass that has it is to place the same bodies
     module _ (v w : View) (i : ℕ) (done : IsDone v r i → IsDone w r i) where
-      stays-right : Stays kind core step i → (IsDone w r i → IsDone v r i) → IsNotedRight nodes Past v r i → IsNotedRight later Now w r i
+      stays-right : Stays kind core step i → (IsDone w r i → IsDone v r i) → IsNotedRight nodes Old v r i → IsNotedRight later Seen w r i
       stays-right b undone h =
-          let tree-back : IsInOldTree later Now r i → IsInOldTree nodes Past r i = λ t. (t.0, t.1, t.2, sym b.loc_a ∙ t.3, old-back t.0 t.4) in
+          let tree-back : IsInOldTree later Seen r i → IsInOldTree nodes Old r i = λ t. (t.0, t.1, t.2, sym b.loc_a ∙ t.3, old-back t.0 t.4) in
           let opened-back : IsOpen w r i → IsOpen v r i = λ o. (o.0, λ is. o.1 (done is)) in
           record {
             to_place = λ l t root passed merged body joins.
@@ -257,12 +264,12 @@ module _ (kind : Kind) (core : Core) (step : Step) (a : Acts core step) (nodes l
             exchanged = λ begun n among same. done (h.exchanged begun n among same);
           }
 
-      off-right : IsOff i → KeepsMerged Past r → IsNotedRight nodes Past v r i → IsNotedRight later Now w r i
+      off-right : IsOff kind core step nodes later i → KeepsMerged Old r → IsNotedRight nodes Old v r i → IsNotedRight later Seen w r i
       off-right b merged h =
           let nowhere : (n k : ℕ) → k < 4 → word_of (After kind core step) (LocA i) ≡ place n k → ¬ IsOldTree r (nodes.home n) =
           λ n k below location old. b.off n k below location (stands-in_tree (nodes.home n) (old-stands r (nodes.home n) old))
           in
-          let treeless : ¬ IsInOldTree later Now r i = λ t. nowhere t.0 t.1 t.2 t.3 (old-back t.0 t.4) in
+          let treeless : ¬ IsInOldTree later Seen r i = λ t. nowhere t.0 t.1 t.2 t.3 (old-back t.0 t.4) in
           record {
             to_place = λ l t root passed still body joins. absurd (b.unjoined l t root body joins (merged.stand l t root still));
             all_noted = λ opened tree. absurd (treeless tree);
@@ -279,11 +286,11 @@ module _ (kind : Kind) (core : Core) (step : Step) (a : Acts core step) (nodes l
 
   -- what is said of an update before
   record WasRight (view : View) (r : Rebuild) : Type 0 where
-    right : (i : ℕ) → IsNotedRight nodes Past view r i
-    rest : RestHolds Past r
+    right : (i : ℕ) → IsNotedRight nodes Old view r i
+    rest : RestHolds Old r
     fresh : (n : ℕ) → New n → ¬ IsOldTree r (later.home n)
 
-  was-right : BodiesCovered nodes core → IsFresh → EachUpdate Past (λ number view r. WasRight view r)
+  was-right : BodiesCovered nodes core → IsFresh kind core step later New → EachUpdate Old (λ number view r. WasRight view r)
   was-right h fresh number view among pass =
       let places = if_some_both view.rebuild _ _ (h.to_place number view among pass) (h.notes number view among pass) in
       let kept = if_some_both view.rebuild _ _ (h.merged number view among pass) (h.exchanged number view among pass) in
@@ -291,27 +298,27 @@ module _ (kind : Kind) (core : Core) (step : Step) (a : Acts core step) (nodes l
       (λ r t.
       let notes = t.0.0.1 in
       record {
-        right = right-of nodes Past view r t.0.0.0 notes t.0.1.1;
+        right = right-of nodes Old view r t.0.0.0 notes t.0.1.1;
         rest = record { located = notes.located; once = notes.once; passed = notes.passed; boxes = notes.boxes; begun = notes.begun; merged = t.0.1.0 };
         fresh = t.1;
       })
       (if_some_both view.rebuild _ _ (if_some_both view.rebuild _ _ places kept) (fresh.unreplaced number view among pass))
 
-  rest-forth : (r : Rebuild) → RestHolds Past r → RestHolds Now r
+  rest-forth : (r : Rebuild) → RestHolds Old r → RestHolds Seen r
   rest-forth r h = record {
     located = h.located;
     once = h.once;
     passed = h.passed;
     boxes = λ n among.
-        subst (λ (l : List Made). HadAs (record Past { history = l }) r.from n (sides_of n.bounds)) (sym m.goes_on) (had_as-grown Past m.more r.from n (sides_of n.bounds) (h.boxes n among));
-    begun = let begun = h.begun in let longer = length-grown Past.history m.more in let now = ap length m.goes_on in omega arith;
+        subst (λ (l : List Made). HadAs (record Old { history = l }) r.from n (sides_of n.bounds)) (sym m.goes_on) (had_as-grown Old m.more r.from n (sides_of n.bounds) (h.boxes n among));
+    begun = let begun = h.begun in let longer = length-grown Old.history m.more in let now = ap length m.goes_on in omega arith;
     merged = record { stand = λ l t root still. m.names (Slot l t) root (h.merged.stand l t root still); read = h.merged.read; each_once = h.merged.each_once };
   }
 
   -- ---- the law
 
-  module _ (h : BodiesCovered nodes core) (fresh : IsFresh) (bodies : (i : ℕ) → BodyAfter i) where
-    body-later : (i : ℕ) → BodyIsCovered later Now i
+  module _ (h : BodiesCovered nodes core) (fresh : IsFresh kind core step later New) (bodies : (i : ℕ) → BodyAfter kind core step nodes later i) where
+    body-later : (i : ℕ) → BodyIsCovered later Seen i
     body-later i =
         elim (bodies i) [
           | as_it_was b ↦ covered-forth i b (record { covered = h.covered i; replaced = h.replaced i }) fresh
@@ -322,14 +329,14 @@ module _ (kind : Kind) (core : Core) (step : Step) (a : Acts core step) (nodes l
 
     -- what is said of an update after
     abbrev IsRight : View → Rebuild → Type 0
-    IsRight view r = RestHolds Now r × ((i : ℕ) → IsAnew i ⊎ IsNotedRight later Now view r i)
+    IsRight view r = RestHolds Seen r × ((i : ℕ) → IsAnew kind core step later i ⊎ IsNotedRight later Seen view r i)
 
-    rights-forth : (v w : View) (r : Rebuild) → ((i : ℕ) → Stays kind core step i → IsPlacing v.call.task i ↔ IsPlacing w.call.task i) → ((i : ℕ) → IsOff i → IsPlacing w.call.task i → IsPlacing v.call.task i)
+    rights-forth : (v w : View) (r : Rebuild) → ((i : ℕ) → Stays kind core step i → IsPlacing v.call.task i ↔ IsPlacing w.call.task i) → ((i : ℕ) → IsOff kind core step nodes later i → IsPlacing w.call.task i → IsPlacing v.call.task i)
         → WasRight v r → IsRight w r
     rights-forth v w r same calm was = (
       rest-forth r was.rest,
       λ i.
-      let off : IsOff i → IsNotedRight later Now w r i = λ b. off-right r was.fresh v w i (still_done v w r i (calm i b)) b was.rest.merged (was.right i) in
+      let off : IsOff kind core step nodes later i → IsNotedRight later Seen w r i = λ b. off-right r was.fresh v w i (still_done v w r i (calm i b)) b was.rest.merged (was.right i) in
       elim (bodies i) [
         | as_it_was b ↦ inr (stays-right r was.fresh v w i (still_done v w r i (same i b).1) b (still_done w v r i (same i b).0) (was.right i))
         | apart b ↦ inr (off (apart-off fresh i b))
@@ -338,7 +345,7 @@ module _ (kind : Kind) (core : Core) (step : Step) (a : Acts core step) (nodes l
       ],
     )
 
-    right-seen : EachUpdate Now (λ number view r. IsRight view r)
+    right-seen : EachUpdate Seen (λ number view r. IsRight view r)
     right-seen =
         each_update kind core step a nodes later New m cover_scope (λ k v. refl) update_on_cover (λ k v. refl) (λ number view r. WasRight view r) (λ number view r. IsRight view r) (was-right h fresh)
         (λ number view r was. rights-forth (seen_of cover_scope number view) (seen_of cover_scope number view) r (λ i b. (λ x. x, λ x. x)) (λ i b x. x) was)
@@ -351,10 +358,10 @@ module _ (kind : Kind) (core : Core) (step : Step) (a : Acts core step) (nodes l
         ))
         (λ i b x. (places-seen step.view.call.task i).0 (b.calm ((places-seen (Last kind core step).call.task i).1 x))) was)
 
-    right-later : EachUpdate Now (λ number view r. RestHolds Now r × ((i : ℕ) → IsNotedRight later Now view r i))
+    right-later : EachUpdate Seen (λ number view r. RestHolds Seen r × ((i : ℕ) → IsNotedRight later Seen view r i))
     right-later number view among pass = go view.rebuild (right-seen number view among pass) (λ i b. b.noted number view among pass)
       where
-        go : (o : Option Rebuild) → IfSome o (λ r. IsRight view r) → ((i : ℕ) → IsAnew i → IfSome o (λ r. IsNotedRight later Now view r i)) → IfSome o (λ r. RestHolds Now r × ((i : ℕ) → IsNotedRight later Now view r i))
+        go : (o : Option Rebuild) → IfSome o (λ r. IsRight view r) → ((i : ℕ) → IsAnew kind core step later i → IfSome o (λ r. IsNotedRight later Seen view r i)) → IfSome o (λ r. RestHolds Seen r × ((i : ℕ) → IsNotedRight later Seen view r i))
         go None old new = tt
         go (Some r) old new = (old.0, λ i. elim (old.1 i) [ inl b ↦ new i b | inr right ↦ right ])
 
@@ -363,7 +370,7 @@ module _ (kind : Kind) (core : Core) (step : Step) (a : Acts core step) (nodes l
       covered = λ i. (body-later i).covered;
       replaced = λ i. (body-later i).replaced;
       to_place = λ number view among pass. if_some_map view.rebuild _ _ (λ r t i. (t.1 i).to_place) (right-later number view among pass);
-      notes = λ number view among pass. if_some_map view.rebuild _ _ (λ r t. notes-of later Now view r t.0 t.1) (right-later number view among pass);
+      notes = λ number view among pass. if_some_map view.rebuild _ _ (λ r t. notes-of later Seen view r t.0 t.1) (right-later number view among pass);
       merged = λ number view among pass. if_some_map view.rebuild _ _ (λ r t. t.0.merged) (right-later number view among pass);
       exchanged = λ number view among pass. if_some_map view.rebuild _ _ (λ r t begun n listed. (t.1 n.index).exchanged begun n listed refl) (right-later number view among pass);
     }

@@ -51,7 +51,19 @@ pub record PassIsPlaced (nodes : Nodes) (s : Sight) (call : Call) (rebuild : Opt
 
 -- of a view it reads what was stored alone
 pub taken-out : (nodes : Nodes) (s : Sight) (v w : View) (i : ℕ) → w.call.stores ≡ v.call.stores → IsTakenOut nodes s v i → IsTakenOut nodes s w i
-taken-out nodes s v w i same h = record { out = h.out; cleared = λ n k location. let t = h.cleared n k location in (t.0, elim (t.1) [ inl e ↦ inl e | inr e ↦ inr (e.0, ap has_cleared_location same ∙ e.1, λ among. e.2 (subst (λ (l : List Store). Contains l (record { name = Child n k; value = 0 })) same among)) ]); live = h.live }
+taken-out nodes s v w i same h = record {
+  out = h.out;
+  cleared = λ n k location.
+      let t = h.cleared n k location in
+      (
+        t.0,
+        elim (t.1) [
+          | inl e ↦ inl e
+          | inr e ↦ inr (e.0, ap has_cleared_location same ∙ e.1, λ among. e.2 (subst (λ (l : List Store). Contains l (record { name = Child n k; value = 0 })) same among))
+        ],
+      );
+  live = h.live;
+}
 
 live-stands : (home : Home) → IsLive home → Stands home
 live-stands (under name) h = tt

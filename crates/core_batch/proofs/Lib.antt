@@ -15,3 +15,4 @@ pub mod BatchesStep
 pub mod BodiesAside
 pub mod Newest
 pub mod BatchGuards
+pub mod AttachPlaces

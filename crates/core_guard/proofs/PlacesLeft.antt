@@ -47,6 +47,7 @@ module _ (kind : Kind) (core : Core) (step : Step) where
         → IsPlannedAt nodes Old step.number (seen_of location_scope step.number step.view) r noted
         → IsPlannedAt later Now step.number (seen_of location_scope step.number (Last kind core step)) r noted
 
+  -- what becomes of a body
   pub data BodyLeft (nodes later : Nodes) (i : ℕ) : Type 0 where
     body_stays : Stays kind core step i → BodyLeft nodes later i
     body_apart : IsApart kind core step nodes i → BodyLeft nodes later i
@@ -58,6 +59,7 @@ module _ (kind : Kind) (core : Core) (step : Step) where
     pass_stays : call_on_places (Last kind core step).call ≡ call_on_places step.view.call
         → ((i : ℕ) → IsHandled (call_on_places step.view.call).task i → Stays kind core step i) → PassLeft later
 
+  -- all that is to be shown
   pub record LeavesPlaces (nodes later : Nodes) (New : ℕ → Type 0) : Type 0 where
     pub bodies : (i : ℕ) → BodyLeft nodes later i
     pub own : PassLeft later

@@ -1,5 +1,5 @@
 -- What the law of locations says of one body, one pass and one update, and that it stays where the step leaves them.
-use Rattle.std.proofs.Common.{◌≡◌, ◌≢◌, ◌↔◌, ℕ, ◌<◌, ◌≤◌, List, Option, Some, refl, ap, sym, ◌∙◌, subst, inl, inr, arith}
+use Rattle.std.proofs.Common.{◌≡◌, ◌≢◌, ◌↔◌, ℕ, ◌<◌, ◌≤◌, List, Option, Some, None, refl, ap, sym, ◌∙◌, subst, inl, inr, arith}
 use Rattle.std.specs.Prelude.{Contains, IsNone, IsSomeAnd, length}
 use Rattle.fixed_box.specs.FixBox.{words_of}
 use Rattle.scene_model.specs.declared.body_view.Phase.TheVariants.{Out, Held, In}
@@ -13,7 +13,8 @@ use Rattle.core_state.specs.declared.view.Call.{Call}
 use Rattle.core_state.specs.declared.view.Noted.{Noted}
 use Rattle.core_state.specs.declared.view.Rebuild.{Rebuild}
 use Rattle.core_state.specs.declared.view.View.{View}
-use Rattle.core_state.specs.Core.{Core, scene_of}
+use Rattle.core_state.specs.View.{IsPass}
+use Rattle.core_state.specs.Core.{Core, scene_of, IsViewAt}
 use Rattle.core_state.specs.Kind.{Kind, Step}
 use Rattle.core_state.specs.Encoding.{body_child, place, Sides, sides_of, Covers, bound_in}
 use Rattle.core_state.specs.Parts.{call_by_task, call_on_places, update_on_places}
@@ -21,8 +22,9 @@ use Rattle.core_state.specs.Nodes.{Nodes, Home, under, superseded, IsLive, Stand
 use Rattle.core_state.specs.Scope.{Sight, sight, scene_in, bare_view, HasPass, EachPass}
 use Rattle.core_state.specs.TreesSound.{tree_scope}
 use Rattle.core_state.specs.Updates.{HasUpdate, IsStillMerged, IsSameBody, IsPlacing, IsDone}
-use Rattle.core_state.specs.LocationsHold.{LocationsHoldIn, location_scope, IsLocation, IsAt, Encloses, box_in, Removes, IsRemoved, IsTakenOut, has_cleared_location, IsPlacedNow, IsWhere, in_slot, in_main, in_old, in_merged, IsSecondFor, IsSecond, IsPlannedAt, IsPublishedAt, GivesBox, IsWidened, IsStillWide, ClimbsFrom, IsOnItsWay, IsWidenedOnWay, IsUnheld}
-use Rattle.core_guard.proofs.Seats.{has-step}
+use Rattle.core_state.specs.LocationsHold.{LocationsHold, LocationsHoldIn, location_scope, IsLocation, IsAt, Encloses, box_in, Removes, IsRemoved, IsTakenOut, has_cleared_location, IsPlacedNow, IsWhere, in_slot, in_main, in_old, in_merged, IsSecondFor, IsSecond, IsPlannedAt, IsPublishedAt, GivesBox, IsWidened, IsStillWide, ClimbsFrom, IsOnItsWay, IsWidenedOnWay, IsUnheld}
+use Rattle.core_state.proofs.Beginning.{record_body}
+use Rattle.core_guard.proofs.Seats.{each-seat, has-step}
 use Rattle.core_guard.proofs.Leaving.{Acts, IsHandled, IsIdle, idle-unhandled, LeadsWithin, sound-leads, IsAsBefore, After, Last, Stays, IsApart, Leaves, home-forth, stands-later, wider, above-stands, above-forth, above-back, has_update, body-forth, body-back, none-back, record-back, stands-in_tree}
 
 -- ---- what the law says of one body, and of one pass
@@ -49,10 +51,19 @@ pub record PassIsPlaced (nodes : Nodes) (s : Sight) (call : Call) (rebuild : Opt
 
 -- of a view it reads what was stored alone
 pub taken-out : (nodes : Nodes) (s : Sight) (v w : View) (i : ℕ) → w.call.stores ≡ v.call.stores → IsTakenOut nodes s v i → IsTakenOut nodes s w i
-taken-out nodes s v w i same h = record { out = h.out; cleared = λ n k location. let t = h.cleared n k location in (t.0, elim (t.1) [ inl e ↦ inl e | inr e ↦ inr (e.0, ap has_cleared_location same ∙ e.1, λ among. e.2 (subst (λ (l : List Store). Contains l (record { name = Child n k; value = 0 })) same among)) ]); live = h.live }
-
-body-there : (o : Option Record) (P : Record → Type 0) (r : Record) → o ≡ Some r → P r → IsSomeAnd o P
-body-there o P r e p = subst (λ (x : Option Record). IsSomeAnd x P) (sym e) p
+taken-out nodes s v w i same h = record {
+  out = h.out;
+  cleared = λ n k location.
+      let t = h.cleared n k location in
+      (
+        t.0,
+        elim (t.1) [
+          | inl e ↦ inl e
+          | inr e ↦ inr (e.0, ap has_cleared_location same ∙ e.1, λ among. e.2 (subst (λ (l : List Store). Contains l (record { name = Child n k; value = 0 })) same among))
+        ],
+      );
+  live = h.live;
+}
 
 live-stands : (home : Home) → IsLive home → Stands home
 live-stands (under name) h = tt
@@ -133,6 +144,29 @@ places-seen one other i more h = task-seen (λ task. IsPlacing task i) (places-b
 gives-climbs : (s : Sight) (view : View) (task : Task) (i n k : ℕ) (box : Sides) → GivesBox task i box → IsLocation s i n k → ClimbsFrom s view task n k
 gives-climbs s view (Moving index target) i n k box gives location = subst (λ (j : ℕ). IsLocation s j n k) (sym gives.0) location
 gives-climbs s view _ i n k box gives location = absurd gives
+
+-- ---- held bodies
+
+held-unhandled : (s : Sight) (task : Task) (i : ℕ) → IsUnheld s task → (Removes task i → HasBody (scene_in s) i (λ r. r.phase ≡ Out)) → HasBody (scene_in s) i (λ r. r.phase ≡ Held) → ¬ IsHandled task i
+held-unhandled s (Moving index target) i unheld out held e = unheld (subst (λ (j : ℕ). HasBody (scene_in s) j (λ r. r.phase ≡ Held)) (sym e) held)
+held-unhandled s (Placing index) i unheld out held e = unheld (subst (λ (j : ℕ). HasBody (scene_in s) j (λ r. r.phase ≡ Held)) (sym e) held)
+held-unhandled s (Removing index) i unheld out held e = go (record_at (scene_in s) i) (out e) held
+  where
+    out_held : Out ≡ Held → ⊥
+    out_held e = absurd cc
+    go : (o : Option Record) → IsSomeAnd o (λ r. r.phase ≡ Out) → IsSomeAnd o (λ r. r.phase ≡ Held) → ⊥
+    go None h k = h
+    go (Some r) h k = out_held (sym h ∙ k)
+held-unhandled s _ i unheld out held h = h
+
+-- nobody moves a held body, takes it out or places it
+pub held-alone : (nodes : Nodes) (core : Core) → LocationsHold nodes core → (i : ℕ) → HasBody (scene_of core) i (λ r. r.phase ≡ Held)
+    → (seat number : ℕ) (view : View) → IsViewAt core seat view → IsPass view number → ¬ IsHandled view.call.task i
+held-alone nodes core h i held seat number view at pass handled =
+    let s = sight location_scope core in
+    let p = each-seat location_scope (λ k v. refl) core (λ k v. PassIsPlaced nodes s v.call v.rebuild) (pass-placed nodes s h) seat number view at pass in
+    held-unhandled s (call_on_places view.call).task i p.unheld (λ removes. (p.removed i removes).out) held
+    (task-seen (λ task. IsHandled task i) (λ task calm. idle-unhandled task i calm) view.call handled)
 
 pub covers-more : (a b c : Sides) → Covers a b → Covers b c → Covers a c
 covers-more a b c ab bc q low = let x = ab q low in let y = bc q low in (omega arith, omega arith)
@@ -267,8 +301,8 @@ module _ (kind : Kind) (core : Core) (step : Step) (a : Acts core step) (later :
 
     pub apart-placed : BodyIsPlaced later Is i
     apart-placed = record {
-      at = λ r n k e inside location. absurd (b.unseen_after (body-there _ (λ x. x.phase ≡ In) r e inside));
-      first = λ r n k e inside below location. absurd (b.unseen_after (body-there _ (λ x. x.phase ≡ In) r e inside));
+      at = λ r n k e inside location. absurd (b.unseen_after (record_body _ (λ x. x.phase ≡ In) r e inside));
+      first = λ r n k e inside below location. absurd (b.unseen_after (record_body _ (λ x. x.phase ≡ In) r e inside));
       second = λ other. absurd (other b.second_after);
       dead = λ none. (b.dead none, b.second_after);
       out = λ body kept. (b.out body, b.second_after);

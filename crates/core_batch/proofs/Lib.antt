@@ -16,3 +16,4 @@ pub mod BodiesAside
 pub mod Newest
 pub mod BatchGuards
 pub mod AttachPlaces
+pub mod HeldFacts

@@ -17,3 +17,4 @@ pub mod Newest
 pub mod BatchGuards
 pub mod AttachPlaces
 pub mod HeldFacts
+pub mod AttachTrees

@@ -61,8 +61,8 @@ module _ (kind : Kind) (core : Core) (step : Step) (nodes later : Nodes) where
   KeepsBoxes = (n k : ℕ) → Stands (nodes.home n) → IsBox (bound_in (word_of core) n k) → IsBox (bound_in (word_of (After kind core step)) n k)
 
   -- a node that this pass owns, and that stands in no tree, keeps its home and its words
-  abbrev pub LeavesOwned : ℕ → Type 0
-  LeavesOwned number = (n : ℕ) → nodes.home n ≡ owned number → (later.home n ≡ nodes.home n) × (node_in step.name ≢ Some n)
+  abbrev pub LeavesNode : ℕ → ℕ → Type 0
+  LeavesNode number n = nodes.home n ≡ owned number → (later.home n ≡ nodes.home n) × (node_in step.name ≢ Some n)
 
   -- what the stepping pass has stored in its own nodes stands there
   abbrev pub HasStored : Type 0
@@ -200,10 +200,10 @@ module _ (kind : Kind) (core : Core) (step : Step) (a : Acts core step) (later :
   -- ---- what passes stored
 
   -- a store of a pass whose own nodes the step leaves
-  home-stored : (number : ℕ) (store : Store) (n : ℕ) (home : Home) → LeavesOwned kind core step nodes later number → node_in store.name ≡ Some n → nodes.home n ≡ home → IsOwnedBy number home
+  home-stored : (number : ℕ) (store : Store) (n : ℕ) (home : Home) → LeavesNode kind core step nodes later number n → node_in store.name ≡ Some n → nodes.home n ≡ home → IsOwnedBy number home
       → IsAsStored (word_of core) home store.name store.value → (later.home n ≡ home) × IsAsStored (word_of (After kind core step)) home store.name store.value
   home-stored number store n (owned p) leaves of_node at owns h =
-      let left = leaves n (at ∙ ap owned owns) in
+      let left = leaves (at ∙ ap owned owns) in
       (left.0 ∙ at, word-step-other kind core step store.name (λ e. left.1 (ap node_in (sym e) ∙ of_node)) ∙ h)
   home-stored number store n (made p l) leaves of_node at owns h = (m.stays n (subst IsInTree (sym at) tt) ∙ at, go store.name of_node h)
     where
@@ -230,21 +230,23 @@ module _ (kind : Kind) (core : Core) (step : Step) (a : Acts core step) (later :
       if_some_with (node_in store.name) _ _
       (λ n e t. (t.0, stored-same (word_of (After kind core step)) Is.word (later.home n) store.name store.value (node-word (After kind core step) store.name n e) t.1)) h
 
-  left-stored : (number : ℕ) (store : Store) → LeavesOwned kind core step nodes later number → Says nodes Was.word number store → Says later (word_of (After kind core step)) number store
+  left-stored : (number : ℕ) (store : Store) → ((n : ℕ) → node_in store.name ≡ Some n → LeavesNode kind core step nodes later number n) → Says nodes Was.word number store → Says later (word_of (After kind core step)) number store
   left-stored number store leaves h =
       if_some_with (node_in store.name) _ _
       (λ n e t.
-      let left = home-stored number store n (nodes.home n) leaves e refl t.0 (stored-same Was.word (word_of core) (nodes.home n) store.name store.value (sym (node-word core store.name n e)) t.1) in
+      let left = home-stored number store n (nodes.home n) (leaves n e) e refl t.0 (stored-same Was.word (word_of core) (nodes.home n) store.name store.value (sym (node-word core store.name n e)) t.1) in
       subst (λ (home : Home). IsOwnedBy number home × IsAsStored (word_of (After kind core step)) home store.name store.value) (sym left.0) (t.0, left.1)) h
 
-  -- a pass that leaves its own nodes, and of what it stored forgets at most, has stored it still
-  pub stored-left : LeavesOwned kind core step nodes later step.number → ((store : Store) → Contains (Last kind core step).written store → Contains step.view.written store) → HasStored kind core step nodes later
-  stored-left leaves fewer store among =
-      left-stored step.number store leaves (each-seat tree_scope (λ k v. refl) core _ a.laws.trees.stored step.seat step.number step.view a.at a.pass store (fewer store among))
+  -- what the stepping pass still knows to have stored stands, where the step leaves the nodes of it
+  pub stored-left : ((store : Store) → Contains (Last kind core step).written store → Contains step.view.written store × ((n : ℕ) → node_in store.name ≡ Some n → LeavesNode kind core step nodes later step.number n))
+      → HasStored kind core step nodes later
+  stored-left fewer store among =
+      let t = fewer store among in
+      left-stored step.number store t.1 (each-seat tree_scope (λ k v. refl) core _ a.laws.trees.stored step.seat step.number step.view a.at a.pass store t.0)
 
   -- ---- the law
 
-  pub TreesSound-leaves : ComeSound kind core step nodes later New → KeepsBoxes kind core step nodes later → ((number : ℕ) → number ≢ step.number → LeavesOwned kind core step nodes later number)
+  pub TreesSound-leaves : ComeSound kind core step nodes later New → KeepsBoxes kind core step nodes later → ((n number : ℕ) → number ≢ step.number → LeavesNode kind core step nodes later number n)
       → HasStored kind core step nodes later → TreesSound later (After kind core step)
   TreesSound-leaves come boxes others stored =
       let h = a.laws.trees in
@@ -254,7 +256,7 @@ module _ (kind : Kind) (core : Core) (step : Step) (a : Acts core step) (later :
         stored =
             each-step tree_scope (λ k v. refl) kind core step a.at a.pass (λ number view. (store : Store) → Contains view.written store → Says nodes Was.word number store)
             (λ number view. (store : Store) → Contains view.written store → Says later Is.word number store) h.stored
-            (λ seat number view apart at pass was store among. seen-stored number store (left-stored number store (others number (other-number core step a seat number view apart at pass)) (was store among)))
+            (λ seat number view apart at pass was store among. seen-stored number store (left-stored number store (λ n e. others n number (other-number core step a seat number view apart at pass)) (was store among)))
             (λ was store among. seen-stored step.number store (stored store among));
         made_roots = each-forth (λ number r. RootsMade nodes Was number r) (λ number r. RootsMade later Is number r) h.made_roots
             (λ number r old l root planned from e. bare-forth root (made number l) tt (old l root planned from e));
@@ -275,4 +277,4 @@ module _ (kind : Kind) (core : Core) (step : Step) (a : Acts core step) (later :
   pub TreesSound-touches : TreesSound later (After kind core step)
   TreesSound-touches =
       TreesSound-leaves kind core step a later (λ n. ⊥) t.leaves (come-none kind core step a.laws.nodes later) boxes-touched
-      (λ number other n e. t.others n number other (subst (IsOwnedBy number) (sym e) refl)) t.written
+      (λ n number other e. t.others n number other (subst (IsOwnedBy number) (sym e) refl)) t.written

@@ -12,3 +12,5 @@ pub mod PoolSteps
 pub mod BatchesStep
 pub mod BodiesAside
 pub mod Newest
+pub mod PoolHeads
+pub mod Taking

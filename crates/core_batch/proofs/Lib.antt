@@ -14,3 +14,4 @@ pub mod BodiesAside
 pub mod Newest
 pub mod PoolHeads
 pub mod Taking
+pub mod Giving

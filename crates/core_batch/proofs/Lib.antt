@@ -15,3 +15,5 @@ pub mod Newest
 pub mod PoolHeads
 pub mod Taking
 pub mod Giving
+pub mod SlotSteps
+pub mod AttachNodes

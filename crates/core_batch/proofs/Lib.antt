@@ -18,3 +18,8 @@ pub mod BatchGuards
 pub mod AttachPlaces
 pub mod HeldFacts
 pub mod AttachTrees
+pub mod PoolHeads
+pub mod Taking
+pub mod Giving
+pub mod SlotSteps
+pub mod AttachNodes

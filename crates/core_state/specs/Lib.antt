@@ -40,3 +40,7 @@ pub mod Quietly
 pub mod Walks
 pub mod Moving
 pub mod Removing
+pub mod Noting
+pub mod Placing
+pub mod Exchanging
+pub mod Retiring

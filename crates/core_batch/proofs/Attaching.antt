@@ -1,5 +1,5 @@
 -- A batch that is to be attached: what is known of its slot, its nodes and its bodies before.
-use Rattle.std.proofs.Common.{List, ◌≡◌, ◌≢◌, ℕ, ◌<◌, true, Option, Some, None, IsSomeAnd, Contains, refl, ap, sym, ◌∙◌, subst, inl, inr, arith}
+use Rattle.std.proofs.Common.{List, ◌≡◌, ◌≢◌, ℕ, ◌<◌, true, Some, Contains, refl, ap, sym, ◌∙◌, subst, inl, inr, arith}
 use Rattle.std.specs.Prelude.{flat_map, slice_index}
 use Rattle.std.proofs.lemmas.Bool.{false≢true}
 use Rattle.std.proofs.lemmas.List.Elements.{Contains-append_left}
@@ -33,6 +33,7 @@ use Rattle.core_state.specs.Batches.{is_for, batch_for, IsPart, nothing, a_body,
 use Rattle.core_state.specs.Invariants.{Invariants}
 use Rattle.core_guard.proofs.Seats.{seat_seen, each-seat, has-seat, seat-has}
 use Rattle.core_guard.proofs.BodiesStep.{HoldsSlot, known-now}
+use Rattle.core_guard.proofs.Leaving.{held-once}
 use Rattle.core_state.proofs.Beginning.{contains_flat, body_record, record_body}
 use Rattle.core_batch.proofs.Lists.{find-only, pairs-two}
 use Rattle.core_batch.proofs.Owning.{nodes-seen, same-seat, number-low, slot-reserved}
@@ -71,10 +72,6 @@ owned_home (superseded p name) number own none = absurd own
 owned_home (returning p) number own none = absurd own
 
 -- ---- bodies
-
-held-once : (o : Option Record) → IsSomeAnd o (λ r. r.phase ≢ Held) → ¬ IsSomeAnd o (λ r. r.phase ≡ Held)
-held-once None h held = h
-held-once (Some r) h held = h held
 
 -- who stands between the box words of a body gives it another box
 moves-held : (s : Sight) (call : Call) (task : Task) (i : ℕ) → MovesBody task i → IsUnheld s (call_by_task task call).task → call.task ≡ task → ¬ HasBody (scene_in s) i (λ r. r.phase ≡ Held)

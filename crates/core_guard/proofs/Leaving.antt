@@ -4,7 +4,7 @@ use Rattle.std.proofs.Common.{◌≡◌, ◌≢◌, ◌⊎◌, ◌↔◌, ℕ, �
 use Rattle.std.specs.Prelude.{Contains, IsNone, IsSomeAnd, IfSome, option_map}
 use Rattle.std.proofs.lemmas.List.Elements.{filter_map-append}
 use Rattle.std.proofs.lemmas.Option.{none-some, same_Some}
-use Rattle.scene_model.specs.declared.body_view.Phase.TheVariants.{Out, In}
+use Rattle.scene_model.specs.declared.body_view.Phase.TheVariants.{Out, Held, In}
 use Rattle.scene_model.specs.declared.entry.Made.{Made}
 use Rattle.scene_model.specs.Scene.{Record, record_at}
 use Rattle.scene_model.specs.Step.{HasBody}
@@ -388,3 +388,8 @@ record-back o p r (is_live old user) e = (old.user, λ i. Some (record (same i) 
   where
     same : record old { user = user } ≡ r
     same = same_Some (record old { user = user }) r e
+
+-- a body that is not held is not held
+pub held-once : (o : Option Record) → IsSomeAnd o (λ r. r.phase ≢ Held) → ¬ IsSomeAnd o (λ r. r.phase ≡ Held)
+held-once None h held = h
+held-once (Some r) h held = h held

@@ -14,7 +14,6 @@ pub mod ListsAgree
 pub mod OneBody
 pub mod LivesAgree
 pub mod BodiesAlike
-pub mod OffTrees
 pub mod TreesLeft
 pub mod WalksLeft
 pub mod ReadersLeft
@@ -29,3 +28,6 @@ pub mod LockSteps
 pub mod ListSteps
 pub mod NodesLeft
 pub mod HandledLive
+pub mod Touched
+pub mod LockKeep
+pub mod LivesKeep

@@ -25,7 +25,7 @@ use Rattle.core_state.specs.Updates.{HasUpdate, IsStillMerged, IsSameBody, IsPla
 use Rattle.core_state.specs.LocationsHold.{LocationsHold, LocationsHoldIn, location_scope, IsLocation, IsAt, Encloses, box_in, Removes, IsRemoved, IsTakenOut, has_cleared_location, IsPlacedNow, IsWhere, in_slot, in_main, in_old, in_merged, IsSecondFor, IsSecond, IsPlannedAt, IsPublishedAt, GivesBox, IsWidened, IsStillWide, ClimbsFrom, IsOnItsWay, IsWidenedOnWay, IsUnheld}
 use Rattle.core_state.proofs.Beginning.{record_body}
 use Rattle.core_guard.proofs.Seats.{each-seat, has-step}
-use Rattle.core_guard.proofs.Leaving.{Acts, IsHandled, IsIdle, idle-unhandled, LeadsWithin, sound-leads, IsAsBefore, After, Last, Stays, IsApart, Leaves, home-forth, stands-later, wider, above-stands, above-forth, above-back, has_update, body-forth, body-back, none-back, record-back, stands-in_tree}
+use Rattle.core_guard.proofs.Leaving.{Acts, IsHandled, IsIdle, idle-unhandled, LeadsWithin, sound-leads, IsAsBefore, After, Last, Stays, IsApart, Leaves, home-forth, stands-later, wider, above-stands, above-forth, above-back, has_update, body-forth, body-back, none-back, record-back, stands-in_tree, held-once}
 
 -- ---- what the law says of one body, and of one pass
 
@@ -148,8 +148,8 @@ gives-climbs s view _ i n k box gives location = absurd gives
 -- ---- held bodies
 
 held-unhandled : (s : Sight) (task : Task) (i : ℕ) → IsUnheld s task → (Removes task i → HasBody (scene_in s) i (λ r. r.phase ≡ Out)) → HasBody (scene_in s) i (λ r. r.phase ≡ Held) → ¬ IsHandled task i
-held-unhandled s (Moving index target) i unheld out held e = unheld (subst (λ (j : ℕ). HasBody (scene_in s) j (λ r. r.phase ≡ Held)) (sym e) held)
-held-unhandled s (Placing index) i unheld out held e = unheld (subst (λ (j : ℕ). HasBody (scene_in s) j (λ r. r.phase ≡ Held)) (sym e) held)
+held-unhandled s (Moving index target) i unheld out held e = held-once (record_at (scene_in s) index) unheld (subst (λ (j : ℕ). HasBody (scene_in s) j (λ r. r.phase ≡ Held)) (sym e) held)
+held-unhandled s (Placing index) i unheld out held e = held-once (record_at (scene_in s) index) unheld (subst (λ (j : ℕ). HasBody (scene_in s) j (λ r. r.phase ≡ Held)) (sym e) held)
 held-unhandled s (Removing index) i unheld out held e = go (record_at (scene_in s) i) (out e) held
   where
     out_held : Out ≡ Held → ⊥

@@ -15,3 +15,4 @@ pub mod OneBody
 pub mod LivesAgree
 pub mod BodiesAlike
 pub mod ReadersLeft
+pub mod WalkReaders

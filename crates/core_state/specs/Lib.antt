@@ -37,3 +37,4 @@ pub mod Unseen
 pub mod Guards
 pub mod Broken
 pub mod Quietly
+pub mod Walks

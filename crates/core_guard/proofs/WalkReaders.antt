@@ -169,12 +169,12 @@ module _ (kind : Kind) (core : Core) (step : Step) (a : Acts core step) (names :
   odd-after own number =
       elim (cases_eq number step.number) [
         | inl same ↦ subst (λ (p : ℕ). (Now.word (Reader p) % 2 ≡ 1) ↔ HasPass Now p (λ view. view.walk.is_on ≡ true)) (sym same) (
-            λ e. seat-has reader_scope (λ k v. refl) (After kind core step) step.number (λ v. v.walk.is_on ≡ true)
-                (record { seat = step.seat; view = Last kind core step; at = view-step kind core step a.at; pass = a.pass; holds = own.0 e }),
-            λ has. own.1
-                (has-unstep reader_scope (λ k v. refl) kind core step a.at a.pass step.number (λ v. (Last kind core step).walk.is_on ≡ true) (λ v. v.walk.is_on ≡ true) has
-                (λ seat view apart found pass on. absurd (other-number core step a seat step.number view apart found pass refl)) (λ same on. on)).3,
-          )
+          λ e. seat-has reader_scope (λ k v. refl) (After kind core step) step.number (λ v. v.walk.is_on ≡ true)
+              (record { seat = step.seat; view = Last kind core step; at = view-step kind core step a.at; pass = a.pass; holds = own.0 e }),
+          λ has. own.1
+              (has-unstep reader_scope (λ k v. refl) kind core step a.at a.pass step.number (λ v. (Last kind core step).walk.is_on ≡ true) (λ v. v.walk.is_on ≡ true) has
+              (λ seat view apart found pass on. absurd (other-number core step a seat step.number view apart found pass refl)) (λ same on. on)).3,
+        )
         | inr other ↦
             let word : Now.word (Reader number) % 2 ≡ Old.word (Reader number) % 2 = ap (λ (x : ℕ). x % 2) (other-reader number other) in (
               λ e. has-step reader_scope (λ k v. refl) kind core step a.at a.pass number (λ v. v.walk.is_on ≡ true) (λ v. v.walk.is_on ≡ true) ((a.laws.readers.odd number).0 (sym word ∙ e))

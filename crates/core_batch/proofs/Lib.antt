@@ -23,3 +23,4 @@ pub mod Taking
 pub mod Giving
 pub mod SlotSteps
 pub mod AttachNodes
+pub mod AttachReaders

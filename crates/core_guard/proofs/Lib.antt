@@ -31,3 +31,4 @@ pub mod HandledLive
 pub mod Touched
 pub mod LockKeep
 pub mod LivesKeep
+pub mod WalkReaders

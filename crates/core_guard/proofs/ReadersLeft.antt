@@ -78,9 +78,10 @@ pairs-again : {X : Type 0} (R Q : X → X → Type 0) (xs : List X) → ((x y : 
 pairs-again R Q xs more h i j d below inside =
     more (get_or xs i d) (get_or xs j d) (i, omega arith, get_or_default xs i (get_or xs i d) d (omega arith)) (j, inside, get_or_default xs j (get_or xs j d) d inside) (h i j d below inside)
 
-some_unit : (o : Option Rebuild) → IfSome o (λ r. Unit {0})
-some_unit None = tt
-some_unit (Some r) = tt
+-- what holds of all holds of what is there
+pub some-all : {X : Type 0} (o : Option X) (P : X → Type 0) → ((x : X) → P x) → IfSome o P
+some-all None P h = tt
+some-all (Some x) P h = h x
 
 live-stands : (home : Home) → IsLive home → Stands home
 live-stands (under name) h = tt
@@ -167,6 +168,11 @@ climbs-seen : (nodes : Nodes) (s : Sight) (task : Task) → ClimbsInTrees nodes 
 climbs-seen nodes s (Moving index target) h = h
 climbs-seen nodes s (Removing index) h = h
 climbs-seen nodes s _ h = tt
+
+climbs-was : (nodes : Nodes) (s : Sight) (task : Task) → ClimbsInTrees nodes s (task_at_place task) → ClimbsInTrees nodes s task
+climbs-was nodes s (Moving index target) h = h
+climbs-was nodes s (Removing index) h = h
+climbs-was nodes s _ h = tt
 
 -- ---- the step
 
@@ -329,6 +335,14 @@ module _ (kind : Kind) (core : Core) (step : Step) (a : Acts core step) (later :
   climbs-forth (Removing index) same climbs = let t = same index refl in climb-forth index t.0 t.1 climbs
   climbs-forth _ same climbs = tt
 
+  -- a pass that is in the middle of what it was in the middle of climbs in trees still
+  pub climbs-own : (Last kind core step).call ≡ step.view.call
+      → ((i : ℕ) → IsHandled step.view.call.task i → (word_of (After kind core step) (LocA i) ≡ word_of core (LocA i)) × (word_of (After kind core step) (LocB i) ≡ word_of core (LocB i)))
+      → ClimbsInTrees later Now (Last kind core step).call.task
+  climbs-own call same =
+      let was = each-seat reader_scope (λ k v. refl) core _ a.laws.readers.climbs step.seat step.number step.view a.at a.pass in
+      subst (λ (c : Call). ClimbsInTrees later Now c.task) (sym call) (climbs-was later Now step.view.call.task (climbs-forth step.view.call.task same was))
+
   -- ---- bounds of new trees
 
   abbrev Fresh : ℕ → Rebuild → Type 0
@@ -487,7 +501,7 @@ module _ (kind : Kind) (core : Core) (step : Step) (a : Acts core step) (later :
   layers-kept t l q side (inr coming) = inr (coming.0, coming-forth t coming.0 q side coming.1, layer-forth coming.0 l (coming-keeps t coming.0 q side coming.1) coming.2)
 
   pub gives-kept : KeepsTargets → EachUpdate Old (λ number view r. (noted : Noted) (q side : ℕ) → Contains r.noted noted → IsSideOf Old r noted q side → IsSideOf Now r noted q side)
-  gives-kept t number view among pass = if_some_map view.rebuild (λ r. Unit {0}) _ (λ r has. gives r) (some_unit view.rebuild)
+  gives-kept t number view among pass = some-all view.rebuild _ gives
     where
       gives : (r : Rebuild) (noted : Noted) (q side : ℕ) → Contains r.noted noted → IsSideOf Old r noted q side → IsSideOf Now r noted q side
       gives r noted q side among (inl had) = inl (had.0, had_as-forth r.from noted had.0 had.1, had.2)
@@ -507,11 +521,6 @@ idle-climbs : (nodes : Nodes) (s : Sight) (task : Task) → IsIdle task → Clim
 idle-climbs nodes s (Moving index target) calm = absurd calm
 idle-climbs nodes s (Removing index) calm = absurd calm
 idle-climbs nodes s _ calm = tt
-
-climbs-was : (nodes : Nodes) (s : Sight) (task : Task) → ClimbsInTrees nodes s (task_at_place task) → ClimbsInTrees nodes s task
-climbs-was nodes s (Moving index target) h = h
-climbs-was nodes s (Removing index) h = h
-climbs-was nodes s _ h = tt
 
 module _ (kind : Kind) (core : Core) (step : Step) (a : Acts core step) (later : Nodes) (t : Touches kind core step a.laws.nodes later) where
   abbrev None_new : ℕ → Type 0
@@ -535,18 +544,13 @@ module _ (kind : Kind) (core : Core) (step : Step) (a : Acts core step) (later :
     places = λ seat number view apart at pass i handled. let s = handled-stays seat number view at pass i handled in (s.loc_a, s.loc_b);
     climbs =
         elim (t.call) [
-          | inl same ↦
-              let was = each-seat reader_scope (λ k v. refl) core _ a.laws.readers.climbs step.seat step.number step.view a.at a.pass in
-              let now = climbs-forth kind core step a later None_new t.leaves step.view.call.task
-              (λ i handled. let s = handled-stays step.seat step.number step.view a.at a.pass i handled in (s.loc_a, s.loc_b)) was
-              in
-              subst (λ (c : Call). ClimbsInTrees later (sight reader_scope (After kind core step)) c.task) (sym same) (climbs-was later (sight reader_scope (After kind core step)) step.view.call.task now)
+          | inl same ↦ climbs-own kind core step a later None_new t.leaves same (λ i handled. let s = handled-stays step.seat step.number step.view a.at a.pass i handled in (s.loc_a, s.loc_b))
           | inr calm ↦ idle-climbs later (sight reader_scope (After kind core step)) (Last kind core step).call.task calm.1
         ];
     layers = layers-kept kind core step a later None_new t.leaves keeps;
     gives = gives-kept kind core step a later None_new t.leaves keeps;
     live = λ n k q l live layer. inl (t.bounds n k q (live-stands (a.laws.nodes.home n) live));
-    fresh = λ number view among pass. if_some_map view.rebuild (λ r. Unit {0}) _ (λ r has n k q l home. inl (t.bounds n k q (subst Stands (sym home) tt))) (some_unit view.rebuild);
+    fresh = λ number view among pass. some-all view.rebuild _ (λ r n k q l home. inl (t.bounds n k q (subst Stands (sym home) tt)));
     new = λ n k l none. absurd none;
     unmade = λ n number l none. absurd none;
   }

@@ -16,3 +16,4 @@ pub mod LivesAgree
 pub mod BodiesAlike
 pub mod TreesLeft
 pub mod WalksLeft
+pub mod Opened

@@ -56,8 +56,8 @@ owned-one : (p q : ℕ) → owned p ≡ owned q → p ≡ q
 owned-one p q e = subst (IsOwnedBy q) (sym e) refl
 
 module _ (core : Core) (a : Attaching core) (acts : Acts core (step_of core a)) where
-  abbrev Is : Sight
-  Is = sight tree_scope (core_after core a)
+  abbrev Now : Sight
+  Now = sight tree_scope (core_after core a)
 
   abbrev Later : Nodes
   Later = nodes_after acts.laws.nodes core a
@@ -65,10 +65,10 @@ module _ (core : Core) (a : Attaching core) (acts : Acts core (step_of core a)) 
   abbrev Whole : IsWholeTree (word_of core) a.batch a.root
   Whole = whole_now core a acts.formed acts.laws acts.guards
 
-  child : (n k : ℕ) → Is.word (Child n k) ≡ word_of core (Child n k)
+  child : (n k : ℕ) → Now.word (Child n k) ≡ word_of core (Child n k)
   child n k = word-other core a (Child n k) (λ e. absurd cc)
 
-  parent : (n : ℕ) → Is.word (Parent n) ≡ word_of core (Parent n)
+  parent : (n : ℕ) → Now.word (Parent n) ≡ word_of core (Parent n)
   parent n = word-other core a (Parent n) (λ e. absurd cc)
 
   bound : (n k : ℕ) → bound_in (word_of core) n k ≡ bound_in (word_of (core_after core a)) n k
@@ -87,21 +87,21 @@ module _ (core : Core) (a : Attaching core) (acts : Acts core (step_of core a)) 
       let low = live_below core.config.layers (scene_of core) m.index consistent (record_live (record_at (scene_of core) m.index) j.body j.live) in
       subst (λ (n : ℕ). m.index < n) (bodies-after core.config.bodies (history core.log)) low
 
-  part_child : (n k : ℕ) → Contains a.batch.nodes n → IsPart (word_of core) a.batch a.whole.depth n k → IsChild Later Is n k
+  part_child : (n k : ℕ) → Contains a.batch.nodes n → IsPart (word_of core) a.batch a.whole.depth n k → IsChild Later Now n k
   part_child n k inside (part_nothing e) = nothing (child n k ∙ e)
   part_child n k inside (part_body m marked at e) = a_body m.index (marked_below m marked) (child n k ∙ e)
   part_child n k inside (part_node c below e up depth) =
       a_node c (child n k ∙ e) (home-now c below ∙ sym (home-now n inside)) (parent c ∙ up)
       (depth-inside acts.laws.nodes core a c below ∙ (depth ∙ ap suc (sym (depth-inside acts.laws.nodes core a n inside))))
 
-  placed_inside : (n : ℕ) → Contains a.batch.nodes n → IsPlaced Later Is n
+  placed_inside : (n : ℕ) → Contains a.batch.nodes n → IsPlaced Later Now n
   placed_inside n inside =
       elim (Whole.under_root n inside) [
-        | inl top ↦ as_root (parent n ∙ top.1) (subst (λ (home : Home). IsRootOf Is home n) (sym (home-now n inside)) (word-slot core a ∙ ap slot_tree (sym top.0)))
+        | inl top ↦ as_root (parent n ∙ top.1) (subst (λ (home : Home). IsRootOf Now home n) (sym (home-now n inside)) (word-slot core a ∙ ap slot_tree (sym top.0)))
         | inr t ↦ at_place t.0 t.1 t.2 (parent n ∙ t.4) (child t.0 t.1 ∙ t.5) (home-now t.0 t.3 ∙ sym (home-now n inside))
       ]
 
-  sound_inside : (n : ℕ) → Contains a.batch.nodes n → IsSoundNode Later Is n
+  sound_inside : (n : ℕ) → Contains a.batch.nodes n → IsSoundNode Later Now n
   sound_inside n inside = record {
     children = λ k below. part_child n k inside (Whole.parts n k inside below);
     placed = placed_inside n inside;

@@ -32,3 +32,4 @@ pub mod Touched
 pub mod LockKeep
 pub mod LivesKeep
 pub mod WalkReaders
+pub mod Opened

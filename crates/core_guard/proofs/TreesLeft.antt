@@ -84,58 +84,58 @@ module _ (kind : Kind) (core : Core) (step : Step) (a : Acts core step) (later :
   abbrev nodes : Nodes
   nodes = a.laws.nodes
 
-  abbrev Was : Sight
-  Was = sight tree_scope core
+  abbrev Old : Sight
+  Old = sight tree_scope core
 
-  abbrev Is : Sight
-  Is = sight tree_scope (After kind core step)
+  abbrev Now : Sight
+  Now = sight tree_scope (After kind core step)
 
   -- ---- roots
 
-  names-back : (name : Name) (root : ℕ) → NamesRoot name (Is.word name) root → NamesRoot name (Was.word name) root ⊎ New root
+  names-back : (name : Name) (root : ℕ) → NamesRoot name (Now.word name) root → NamesRoot name (Old.word name) root ⊎ New root
   names-back (Main l) root h = m.named (Main l) root h
   names-back (Slot l t) root h = m.named (Slot l t) root h
   names-back _ root h = absurd h
 
-  names-forth : (name : Name) (root : ℕ) → NamesRoot name (Was.word name) root → NamesRoot name (Is.word name) root
+  names-forth : (name : Name) (root : ℕ) → NamesRoot name (Old.word name) root → NamesRoot name (Now.word name) root
   names-forth (Main l) root h = m.names (Main l) root h
   names-forth (Slot l t) root h = m.names (Slot l t) root h
   names-forth _ root h = absurd h
 
-  names-seen : (name : Name) (root : ℕ) → NamesRoot name (Is.word name) root → NamesRoot name (word_of (After kind core step) name) root
+  names-seen : (name : Name) (root : ℕ) → NamesRoot name (Now.word name) root → NamesRoot name (word_of (After kind core step) name) root
   names-seen (Main l) root h = h
   names-seen (Slot l t) root h = h
   names-seen _ root h = absurd h
 
-  has-forth : (number : ℕ) (P Q : Rebuild → Type 0) → ((r : Rebuild) → P r → Q r) → HasPass Was number (λ view. HasUpdate view P) → HasPass Is number (λ view. HasUpdate view Q)
+  has-forth : (number : ℕ) (P Q : Rebuild → Type 0) → ((r : Rebuild) → P r → Q r) → HasPass Old number (λ view. HasUpdate view P) → HasPass Now number (λ view. HasUpdate view Q)
   has-forth number P Q more h = has_update kind core step a nodes later New m tree_scope (λ k v. refl) update_on_trees (λ b v. refl) number P Q more h
 
-  each-forth : (P Q : ℕ → Rebuild → Type 0) → EachUpdate Was (λ number view r. P number r) → ((number : ℕ) (r : Rebuild) → P number r → Q number r) → EachUpdate Is (λ number view r. Q number r)
+  each-forth : (P Q : ℕ → Rebuild → Type 0) → EachUpdate Old (λ number view r. P number r) → ((number : ℕ) (r : Rebuild) → P number r → Q number r) → EachUpdate Now (λ number view r. Q number r)
   each-forth P Q h more =
       each_update kind core step a nodes later New m tree_scope (λ k v. refl) update_on_trees (λ b v. refl) (λ number view r. P number r) (λ number view r. Q number r) h
       (λ number view r p. more number r p) (λ r some p. more step.number r p)
 
-  root-forth : (home : Home) (root : ℕ) → IsRootOf Was home root → IsRootOf Is home root
+  root-forth : (home : Home) (root : ℕ) → IsRootOf Old home root → IsRootOf Now home root
   root-forth (under name) root h = names-forth name root h
   root-forth (made number l) root h = has-forth number (λ r. slice_index r.roots l ≡ suc root) (λ r. slice_index r.roots l ≡ suc root) (λ r e. e) h
   root-forth (superseded number name) root h = has-forth number (λ r. IsSupersededRoot r name root) (λ r. IsSupersededRoot r name root) (λ r e. e) h
   root-forth _ root h = absurd h
 
   -- a root that has a home in a tree, and no parent, keeps it
-  bare-forth : (root : ℕ) (home : Home) → IsInTree home → (nodes.home root ≡ home) × (Was.word (Parent root) ≡ 0) → (later.home root ≡ home) × (Is.word (Parent root) ≡ 0)
+  bare-forth : (root : ℕ) (home : Home) → IsInTree home → (nodes.home root ≡ home) × (Old.word (Parent root) ≡ 0) → (later.home root ≡ home) × (Now.word (Parent root) ≡ 0)
   bare-forth root home inside t = (home-forth kind core step a nodes later New m root home inside t.0, m.parent root (subst IsInTree (sym t.0) inside) ∙ t.1)
 
   -- ---- nodes in trees
 
-  child-forth : (n k : ℕ) → IsInTree (nodes.home n) → IsChild nodes Was n k → IsChild later Is n k
+  child-forth : (n k : ℕ) → IsInTree (nodes.home n) → IsChild nodes Old n k → IsChild later Now n k
   child-forth n k inside (nothing e) = nothing (m.child n k inside ∙ e)
   child-forth n k inside (a_body i low e) = a_body i low (m.child n k inside ∙ e)
   child-forth n k inside (a_node x e home parent depth) =
       let same : IsInTree (nodes.home x) = subst IsInTree (sym home) inside in
       a_node x (m.child n k inside ∙ e) (m.stays x same ∙ (home ∙ sym (m.stays n inside))) (m.parent x same ∙ parent) (m.depth x same ∙ (depth ∙ ap suc (sym (m.depth n inside))))
 
-  placed-forth : (x : ℕ) → IsInTree (nodes.home x) → IsPlaced nodes Was x → IsPlaced later Is x
-  placed-forth x inside (as_root e root) = as_root (m.parent x inside ∙ e) (subst (λ (home : Home). IsRootOf Is home x) (sym (m.stays x inside)) (root-forth (nodes.home x) x root))
+  placed-forth : (x : ℕ) → IsInTree (nodes.home x) → IsPlaced nodes Old x → IsPlaced later Now x
+  placed-forth x inside (as_root e root) = as_root (m.parent x inside ∙ e) (subst (λ (home : Home). IsRootOf Now home x) (sym (m.stays x inside)) (root-forth (nodes.home x) x root))
   placed-forth x inside (at_place n k low e child home) =
       let same : IsInTree (nodes.home n) = subst IsInTree (sym home) inside in
       at_place n k low (m.parent x inside ∙ e) (m.child n k same ∙ child) (m.stays n same ∙ (home ∙ sym (m.stays x inside)))
@@ -143,7 +143,7 @@ module _ (kind : Kind) (core : Core) (step : Step) (a : Acts core step) (later :
   height-forth : (n : ℕ) → IsInTree (nodes.home n) → nodes.depth n < 10 → later.depth n < 10
   height-forth n inside low = subst (λ (d : ℕ). d < 10) (sym (m.depth n inside)) low
 
-  sound-forth : KeepsBoxes kind core step nodes later → (n : ℕ) → Stands (nodes.home n) → IsSoundNode later Is n
+  sound-forth : KeepsBoxes kind core step nodes later → (n : ℕ) → Stands (nodes.home n) → IsSoundNode later Now n
   sound-forth boxes n stands =
       let node = a.laws.trees.sound n stands in
       let inside = stands-in_tree (nodes.home n) stands in
@@ -156,12 +156,12 @@ module _ (kind : Kind) (core : Core) (step : Step) (a : Acts core step) (later :
 
   -- ---- what is left of trees that are given back
 
-  left-forth : (number : ℕ) (r : Rebuild) (n : ℕ) → nodes.home n ≡ returning number → IsLeftNode nodes Was number r n → IsLeftNode later Is number r n
+  left-forth : (number : ℕ) (r : Rebuild) (n : ℕ) → nodes.home n ≡ returning number → IsLeftNode nodes Old number r n → IsLeftNode later Now number r n
   left-forth number r n home h =
       let inside : IsInTree (nodes.home n) = subst IsInTree (sym home) tt in
       record { children = λ k low. child-forth n k inside (h.children k low); left = go inside h.left; height = height-forth n inside h.height }
     where
-      go : IsInTree (nodes.home n) → IsLeft nodes Was number r n → IsLeft later Is number r n
+      go : IsInTree (nodes.home n) → IsLeft nodes Old number r n → IsLeft later Now number r n
       go inside (as_top level among) = as_top level among
       go inside (below x k low parent child at) =
           below x k low (m.parent n inside ∙ parent) (m.child x k (subst IsInTree (sym at) tt) ∙ child) (home-forth kind core step a nodes later New m x (returning number) tt at)
@@ -174,7 +174,7 @@ module _ (kind : Kind) (core : Core) (step : Step) (a : Acts core step) (later :
           | inr new ↦ absurd (subst Stands e (come.stands n new))
         ]
 
-    top-forth : (number : ℕ) (top : Waiting) → IsTop nodes Was number top → IsTop later Is number top
+    top-forth : (number : ℕ) (top : Waiting) → IsTop nodes Old number top → IsTop later Now number top
     top-forth number top h =
         let inside : IsInTree (nodes.home top.node) = subst IsInTree (sym h.owned) tt in
         record {
@@ -183,14 +183,14 @@ module _ (kind : Kind) (core : Core) (step : Step) (a : Acts core step) (later :
           low = subst (λ (d : ℕ). top.level ≤ suc d) (sym (m.depth top.node inside)) h.low;
         }
 
-    sound-later : KeepsBoxes kind core step nodes later → (n : ℕ) → Stands (later.home n) → IsSoundNode later Is n
+    sound-later : KeepsBoxes kind core step nodes later → (n : ℕ) → Stands (later.home n) → IsSoundNode later Now n
     sound-later boxes n stands =
         elim (m.stood n (stands-in_tree (later.home n) stands)) [
           | inl same ↦ sound-forth boxes n (subst Stands same stands)
           | inr new ↦ come.sound n new
         ]
 
-    roots-later : (name : Name) (root : ℕ) → NamesRoot name (Is.word name) root → (later.home root ≡ under name) × (Is.word (Parent root) ≡ 0)
+    roots-later : (name : Name) (root : ℕ) → NamesRoot name (Now.word name) root → (later.home root ≡ under name) × (Now.word (Parent root) ≡ 0)
     roots-later name root names =
         elim (names-back name root names) [
           | inl was ↦ bare-forth root (under name) tt (a.laws.trees.roots name root was)
@@ -225,16 +225,16 @@ module _ (kind : Kind) (core : Core) (step : Step) (a : Acts core step) (later :
   abbrev Says : Nodes → (Name → ℕ) → ℕ → Store → Type 0
   Says places word number store = IfSome (node_in store.name) (λ n. IsOwnedBy number (places.home n) × IsAsStored word (places.home n) store.name store.value)
 
-  seen-stored : (number : ℕ) (store : Store) → Says later (word_of (After kind core step)) number store → Says later Is.word number store
+  seen-stored : (number : ℕ) (store : Store) → Says later (word_of (After kind core step)) number store → Says later Now.word number store
   seen-stored number store h =
       if_some_with (node_in store.name) _ _
-      (λ n e t. (t.0, stored-same (word_of (After kind core step)) Is.word (later.home n) store.name store.value (node-word (After kind core step) store.name n e) t.1)) h
+      (λ n e t. (t.0, stored-same (word_of (After kind core step)) Now.word (later.home n) store.name store.value (node-word (After kind core step) store.name n e) t.1)) h
 
-  left-stored : (number : ℕ) (store : Store) → ((n : ℕ) → node_in store.name ≡ Some n → LeavesNode kind core step nodes later number n) → Says nodes Was.word number store → Says later (word_of (After kind core step)) number store
+  left-stored : (number : ℕ) (store : Store) → ((n : ℕ) → node_in store.name ≡ Some n → LeavesNode kind core step nodes later number n) → Says nodes Old.word number store → Says later (word_of (After kind core step)) number store
   left-stored number store leaves h =
       if_some_with (node_in store.name) _ _
       (λ n e t.
-      let left = home-stored number store n (nodes.home n) (leaves n e) e refl t.0 (stored-same Was.word (word_of core) (nodes.home n) store.name store.value (sym (node-word core store.name n e)) t.1) in
+      let left = home-stored number store n (nodes.home n) (leaves n e) e refl t.0 (stored-same Old.word (word_of core) (nodes.home n) store.name store.value (sym (node-word core store.name n e)) t.1) in
       subst (λ (home : Home). IsOwnedBy number home × IsAsStored (word_of (After kind core step)) home store.name store.value) (sym left.0) (t.0, left.1)) h
 
   -- what the stepping pass still knows to have stored stands, where the step leaves the nodes of it
@@ -254,18 +254,18 @@ module _ (kind : Kind) (core : Core) (step : Step) (a : Acts core step) (later :
         sound = sound-later come boxes;
         roots = roots-later come;
         stored =
-            each-step tree_scope (λ k v. refl) kind core step a.at a.pass (λ number view. (store : Store) → Contains view.written store → Says nodes Was.word number store)
-            (λ number view. (store : Store) → Contains view.written store → Says later Is.word number store) h.stored
+            each-step tree_scope (λ k v. refl) kind core step a.at a.pass (λ number view. (store : Store) → Contains view.written store → Says nodes Old.word number store)
+            (λ number view. (store : Store) → Contains view.written store → Says later Now.word number store) h.stored
             (λ seat number view apart at pass was store among. seen-stored number store (left-stored number store (λ n e. others n number (other-number core step a seat number view apart at pass)) (was store among)))
             (λ was store among. seen-stored step.number store (stored store among));
-        made_roots = each-forth (λ number r. RootsMade nodes Was number r) (λ number r. RootsMade later Is number r) h.made_roots
+        made_roots = each-forth (λ number r. RootsMade nodes Old number r) (λ number r. RootsMade later Now number r) h.made_roots
             (λ number r old l root planned from e. bare-forth root (made number l) tt (old l root planned from e));
-        superseded_roots = each-forth (λ number r. RootsSuperseded nodes Was number r) (λ number r. RootsSuperseded later Is number r) h.superseded_roots
+        superseded_roots = each-forth (λ number r. RootsSuperseded nodes Old number r) (λ number r. RootsSuperseded later Now number r) h.superseded_roots
             (λ number r old name root unread is. bare-forth root (superseded number name) tt (old name root unread is));
         left_nodes = λ n number e.
             let was = was-returning come n number e in
-            has-forth number (λ r. IsLeftNode nodes Was number r n) (λ r. IsLeftNode later Is number r n) (λ r old. left-forth number r n was old) (h.left_nodes n number was);
-        tops = each-forth (λ number r. AreTops nodes Was number r) (λ number r. AreTops later Is number r) h.tops
+            has-forth number (λ r. IsLeftNode nodes Old number r n) (λ r. IsLeftNode later Now number r n) (λ r old. left-forth number r n was old) (h.left_nodes n number was);
+        tops = each-forth (λ number r. AreTops nodes Old number r) (λ number r. AreTops later Now number r) h.tops
             (λ number r old. record { tops = λ top among. top-forth come number top (old.tops top among); once = old.once });
       }
 

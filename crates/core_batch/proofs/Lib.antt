@@ -7,3 +7,5 @@ pub mod PhaseAgree
 pub mod Attaching
 pub mod Attached
 pub mod HeldFacts
+pub mod MarkSteps
+pub mod UnmarkSteps

@@ -9,3 +9,4 @@ pub mod Attached
 pub mod HeldFacts
 pub mod MarkSteps
 pub mod UnmarkSteps
+pub mod PlaceSteps

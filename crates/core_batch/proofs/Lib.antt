@@ -10,3 +10,5 @@ pub mod HeldFacts
 pub mod MarkSteps
 pub mod UnmarkSteps
 pub mod PlaceSteps
+pub mod BatchesLeft
+pub mod AttachBodies

@@ -19,6 +19,7 @@ use Rattle.core_state.specs.declared.view.View.{View}
 use Rattle.core_state.specs.Log.{opening_word}
 use Rattle.core_state.specs.View.{IsPass}
 use Rattle.core_state.specs.Core.{Core, word_of, IsViewAt, scene_of}
+use Rattle.core_state.specs.Kind.{Kind, Step, learned, found_by, log_after, view_after}
 use Rattle.core_state.specs.Formed.{IsFormed, IsSoundItem}
 use Rattle.core_state.specs.Encoding.{place, phase_join, slot_tree}
 use Rattle.core_state.specs.Nodes.{Home, owned, IsInTree}
@@ -81,6 +82,25 @@ held-alone core i h held seat number view at pass handled =
     go call (Placing index) e same unheld out = subst (IsUnheld (sight location_scope core)) e unheld (subst (λ (k : ℕ). HasBody (scene_of core) k (λ r. r.phase ≡ Held)) (sym same) held)
     go call (Removing index) e same unheld out = out_or_held (record_at (scene_of core) i) (out (subst (λ (t : Task). Removes t i) (sym e) same)) held
     go call _ e none unheld out = absurd none
+
+-- ---- views
+
+-- a view is another in what its batches hold alone
+pub record Rebatches (view last : View) : Type 0 where
+  pub nodes : flat_map (λ (b : Batch). b.nodes) last.batches ≡ flat_map (λ (b : Batch). b.nodes) view.batches
+  pub call : last.call ≡ view.call
+  pub locks : last.locks ≡ view.locks
+  pub walk : last.walk ≡ view.walk
+  pub loose : last.loose ≡ view.loose
+  pub written : last.written ≡ view.written
+  pub rebuild : last.rebuild ≡ view.rebuild
+
+-- after a step that leaves other batches with the same nodes
+pub rebatches : (kind : Kind) (core : Core) (step : Step) (batches : List Batch) → kind.leaves (learned core step) step.name (found_by core step) step.first step.second ≡ record (learned core step) { batches = batches }
+    → flat_map (λ (b : Batch). b.nodes) batches ≡ flat_map (λ (b : Batch). b.nodes) step.view.batches → Rebatches step.view (view_after kind core step)
+rebatches kind core step batches leaves nodes =
+    subst (λ (v : View). Rebatches step.view (record v { config = step.view.config; role = step.view.role; known = log_after kind core step; joined = None })) (sym leaves)
+    (record { nodes = nodes; call = refl; locks = refl; walk = refl; loose = refl; written = refl; rebuild = refl })
 
 -- ---- batches
 

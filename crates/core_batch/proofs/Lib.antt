@@ -24,3 +24,8 @@ pub mod Giving
 pub mod SlotSteps
 pub mod AttachNodes
 pub mod AttachReaders
+pub mod MarkSteps
+pub mod UnmarkSteps
+pub mod PlaceSteps
+pub mod BatchesLeft
+pub mod AttachBodies

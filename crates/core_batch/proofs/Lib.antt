@@ -17,3 +17,6 @@ pub mod Taking
 pub mod Giving
 pub mod SlotSteps
 pub mod AttachNodes
+pub mod ReserveBodies
+pub mod FreeBodies
+pub mod PoolBodies

@@ -29,3 +29,6 @@ pub mod UnmarkSteps
 pub mod PlaceSteps
 pub mod BatchesLeft
 pub mod AttachBodies
+pub mod ReserveBodies
+pub mod FreeBodies
+pub mod PoolBodies

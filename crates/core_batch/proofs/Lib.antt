@@ -6,3 +6,4 @@ pub mod PlacedAgree
 pub mod PhaseAgree
 pub mod Attaching
 pub mod Attached
+pub mod AttachReaders

@@ -14,3 +14,5 @@ pub mod ListsAgree
 pub mod OneBody
 pub mod LivesAgree
 pub mod BodiesAlike
+pub mod ReadersLeft
+pub mod WalkReaders

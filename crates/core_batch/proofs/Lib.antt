@@ -7,3 +7,4 @@ pub mod PhaseAgree
 pub mod Attaching
 pub mod Attached
 pub mod AttachReaders
+pub mod AttachPlaces

@@ -16,3 +16,5 @@ pub mod LivesAgree
 pub mod BodiesAlike
 pub mod ReadersLeft
 pub mod WalkReaders
+pub mod PlacesStay
+pub mod PlacesLeft

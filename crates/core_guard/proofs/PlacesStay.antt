@@ -1,0 +1,390 @@
+-- What the law of locations says of one body, one pass and one update, and that it stays where the step leaves them.
+use Rattle.std.proofs.Common.{◌≡◌, ◌≢◌, ◌↔◌, ℕ, ◌<◌, ◌≤◌, List, Option, Some, None, refl, ap, sym, ◌∙◌, subst, inl, inr, arith}
+use Rattle.std.specs.Prelude.{Contains, IsNone, IsSomeAnd, length}
+use Rattle.fixed_box.specs.FixBox.{words_of}
+use Rattle.scene_model.specs.declared.body_view.Phase.TheVariants.{Out, Held, In}
+use Rattle.scene_model.specs.Scene.{Record, record_at}
+use Rattle.scene_model.specs.Step.{HasBody}
+use Rattle.word_map.specs.declared.name.Name.TheVariants.{LocA, LocB, Child}
+use Rattle.core_state.specs.declared.item.Store.{Store}
+use Rattle.core_state.specs.declared.view.Task.{Task}
+use Rattle.core_state.specs.declared.view.Task.TheVariants.{Nothing, Creating, Destroying, Pooling, Moving, Removing, Placing}
+use Rattle.core_state.specs.declared.view.Call.{Call}
+use Rattle.core_state.specs.declared.view.Noted.{Noted}
+use Rattle.core_state.specs.declared.view.Rebuild.{Rebuild}
+use Rattle.core_state.specs.declared.view.View.{View}
+use Rattle.core_state.specs.View.{IsPass}
+use Rattle.core_state.specs.Core.{Core, scene_of, IsViewAt}
+use Rattle.core_state.specs.Kind.{Kind, Step}
+use Rattle.core_state.specs.Encoding.{body_child, place, Sides, sides_of, Covers, bound_in}
+use Rattle.core_state.specs.Parts.{call_by_task, call_on_places, update_on_places}
+use Rattle.core_state.specs.Nodes.{Nodes, Home, under, superseded, IsLive, Stands, IsInTree, Above}
+use Rattle.core_state.specs.Scope.{Sight, sight, scene_in, bare_view, HasPass, EachPass}
+use Rattle.core_state.specs.TreesSound.{tree_scope}
+use Rattle.core_state.specs.Updates.{HasUpdate, IsStillMerged, IsSameBody, IsPlacing, IsDone}
+use Rattle.core_state.specs.LocationsHold.{LocationsHold, LocationsHoldIn, location_scope, IsLocation, IsAt, Encloses, box_in, Removes, IsRemoved, IsTakenOut, has_cleared_location, IsPlacedNow, IsWhere, in_slot, in_main, in_old, in_merged, IsSecondFor, IsSecond, IsPlannedAt, IsPublishedAt, GivesBox, IsWidened, IsStillWide, ClimbsFrom, IsOnItsWay, IsWidenedOnWay, IsUnheld}
+use Rattle.core_state.proofs.Beginning.{record_body}
+use Rattle.core_guard.proofs.Seats.{each-seat, has-step}
+use Rattle.core_guard.proofs.Leaving.{Acts, IsHandled, IsIdle, idle-unhandled, LeadsWithin, sound-leads, IsAsBefore, After, Last, Stays, IsApart, Leaves, home-forth, stands-later, wider, above-stands, above-forth, above-back, has_update, body-forth, body-back, none-back, record-back, stands-in_tree}
+
+-- ---- what the law says of one body, and of one pass
+
+pub record BodyIsPlaced (nodes : Nodes) (s : Sight) (i : ℕ) : Type 0 where
+  pub at : (r : Record) (n k : ℕ) → record_at (scene_in s) i ≡ Some r → r.phase ≡ In → IsLocation s i n k → IsAt nodes s i r n k
+  pub first : (r : Record) (n k : ℕ) → record_at (scene_in s) i ≡ Some r → r.phase ≡ In → k < 4 → s.word (LocA i) ≡ place n k → IsWhere nodes s i r.layer n
+  pub second : s.word (LocB i) ≢ 0 → IsSecond s i
+  pub dead : IsNone (record_at (scene_in s) i) → (s.word (LocA i) ≡ 0) × (s.word (LocB i) ≡ 0)
+  pub out : HasBody (scene_in s) i (λ r. r.phase ≡ Out) → ¬ IsRemoved s i → (s.word (LocA i) ≡ 0) × (s.word (LocB i) ≡ 0)
+
+-- a pass that has this call and this update
+abbrev pub acting : Call → Option Rebuild → View
+acting call rebuild = record (bare_view 0) { call = call; rebuild = rebuild }
+
+pub record PassIsPlaced (nodes : Nodes) (s : Sight) (call : Call) (rebuild : Option Rebuild) : Type 0 where
+  pub removed : (i : ℕ) → Removes call.task i → IsTakenOut nodes s (acting call rebuild) i
+  pub unheld : IsUnheld s call.task
+  pub widened : IsWidened s (acting call rebuild)
+  pub still_wide : IsStillWide s (acting call rebuild)
+  pub climbs_from : (n k : ℕ) → ClimbsFrom s (acting call rebuild) call.task n k → Stands (nodes.home n)
+  pub on_its_way : IsOnItsWay s (acting call rebuild)
+  pub widened_on_way : IsWidenedOnWay s (acting call rebuild)
+
+-- of a view it reads what was stored alone
+pub taken-out : (nodes : Nodes) (s : Sight) (v w : View) (i : ℕ) → w.call.stores ≡ v.call.stores → IsTakenOut nodes s v i → IsTakenOut nodes s w i
+taken-out nodes s v w i same h = record {
+  out = h.out;
+  cleared = λ n k location.
+      let t = h.cleared n k location in
+      (
+        t.0,
+        elim (t.1) [
+          | inl e ↦ inl e
+          | inr e ↦ inr (e.0, ap has_cleared_location same ∙ e.1, λ among. e.2 (subst (λ (l : List Store). Contains l (record { name = Child n k; value = 0 })) same among))
+        ],
+      );
+  live = h.live;
+}
+
+live-stands : (home : Home) → IsLive home → Stands home
+live-stands (under name) h = tt
+live-stands (superseded p name) h = tt
+live-stands _ h = absurd h
+
+abbrev pub EachPlaced : Nodes → Sight → Type 0
+EachPlaced nodes s = EachPass s (λ number v. PassIsPlaced nodes s v.call v.rebuild)
+
+pub body-placed : (nodes : Nodes) (s : Sight) → LocationsHoldIn nodes s → (i : ℕ) → BodyIsPlaced nodes s i
+body-placed nodes s h i = record { at = h.at i; first = h.first i; second = h.second i; dead = h.dead i; out = h.out i }
+
+pub pass-placed : (nodes : Nodes) (s : Sight) → LocationsHoldIn nodes s → EachPlaced nodes s
+pass-placed nodes s h number v among pass = record {
+  removed = λ i removes. taken-out nodes s v (acting v.call v.rebuild) i refl (h.removed number v among pass i removes);
+  unheld = h.unheld number v among pass;
+  widened = h.widened number v among pass;
+  still_wide = h.still_wide number v among pass;
+  climbs_from = h.climbs_from number v among pass;
+  on_its_way = h.on_its_way number v among pass;
+  widened_on_way = h.widened_on_way number v among pass;
+}
+
+-- ---- tasks
+
+-- what is so of no idle task is so of the call as it is seen, if it is of the call, and the other way round
+module _ (P : Task → Type 0) (busy : (task : Task) → IsIdle task → ¬ P task) (call : Call) where
+  pub seen-task : P (call_on_places call).task → P call.task
+  seen-task h = go call.task h
+    where
+      go : (task : Task) → P (call_by_task task call).task → P call.task
+      go (Moving index target) h = h
+      go (Removing index) h = h
+      go (Placing index) h = h
+      go _ h = absurd (busy Nothing tt h)
+
+  pub task-seen : P call.task → P (call_on_places call).task
+  task-seen own = go call.task own
+    where
+      go : (task : Task) → P task → P (call_by_task task call).task
+      go (Moving index target) h = own
+      go (Removing index) h = own
+      go (Placing index) h = own
+      go Nothing h = absurd (busy Nothing tt h)
+      go (Creating index) h = absurd (busy (Creating index) tt h)
+      go (Destroying index) h = absurd (busy (Destroying index) tt h)
+      go (Pooling taken given) h = absurd (busy (Pooling taken given) tt h)
+
+pub removes-handles : (task : Task) (i : ℕ) → Removes task i → IsHandled task i
+removes-handles (Removing index) i h = h
+removes-handles _ i h = absurd h
+
+pub places-handles : (task : Task) (i : ℕ) → IsPlacing task i → IsHandled task i
+places-handles (Placing index) i h = h
+places-handles _ i h = absurd h
+
+pub gives-handles : (task : Task) (i : ℕ) (box : Sides) → GivesBox task i box → IsHandled task i
+gives-handles (Moving index target) i box h = h.0
+gives-handles _ i box h = absurd h
+
+removes-busy : (i : ℕ) (task : Task) → IsIdle task → ¬ Removes task i
+removes-busy i task calm h = idle-unhandled task i calm (removes-handles task i h)
+
+places-busy : (i : ℕ) (task : Task) → IsIdle task → ¬ IsPlacing task i
+places-busy i task calm h = idle-unhandled task i calm (places-handles task i h)
+
+pub handled-seen : (call : Call) (i : ℕ) → IsHandled (call_on_places call).task i → IsHandled call.task i
+handled-seen call i h = seen-task (λ task. IsHandled task i) (λ task calm. idle-unhandled task i calm) call h
+
+-- who takes a body out, or places it, is seen to
+pub removes-seen : (one other : Call) (i : ℕ) → (Removes one.task i → Removes other.task i) → Removes (call_on_places one).task i → Removes (call_on_places other).task i
+removes-seen one other i more h = task-seen (λ task. Removes task i) (removes-busy i) other (more (seen-task (λ task. Removes task i) (removes-busy i) one h))
+
+pub places-seen : (one other : Call) (i : ℕ) → (IsPlacing one.task i → IsPlacing other.task i) → IsPlacing (call_on_places one).task i → IsPlacing (call_on_places other).task i
+places-seen one other i more h = task-seen (λ task. IsPlacing task i) (places-busy i) other (more (seen-task (λ task. IsPlacing task i) (places-busy i) one h))
+
+-- who gives a body another box climbs from its locations
+gives-climbs : (s : Sight) (view : View) (task : Task) (i n k : ℕ) (box : Sides) → GivesBox task i box → IsLocation s i n k → ClimbsFrom s view task n k
+gives-climbs s view (Moving index target) i n k box gives location = subst (λ (j : ℕ). IsLocation s j n k) (sym gives.0) location
+gives-climbs s view _ i n k box gives location = absurd gives
+
+-- ---- held bodies
+
+held-unhandled : (s : Sight) (task : Task) (i : ℕ) → IsUnheld s task → (Removes task i → HasBody (scene_in s) i (λ r. r.phase ≡ Out)) → HasBody (scene_in s) i (λ r. r.phase ≡ Held) → ¬ IsHandled task i
+held-unhandled s (Moving index target) i unheld out held e = unheld (subst (λ (j : ℕ). HasBody (scene_in s) j (λ r. r.phase ≡ Held)) (sym e) held)
+held-unhandled s (Placing index) i unheld out held e = unheld (subst (λ (j : ℕ). HasBody (scene_in s) j (λ r. r.phase ≡ Held)) (sym e) held)
+held-unhandled s (Removing index) i unheld out held e = go (record_at (scene_in s) i) (out e) held
+  where
+    out_held : Out ≡ Held → ⊥
+    out_held e = absurd cc
+    go : (o : Option Record) → IsSomeAnd o (λ r. r.phase ≡ Out) → IsSomeAnd o (λ r. r.phase ≡ Held) → ⊥
+    go None h k = h
+    go (Some r) h k = out_held (sym h ∙ k)
+held-unhandled s _ i unheld out held h = h
+
+-- nobody moves a held body, takes it out or places it
+pub held-alone : (nodes : Nodes) (core : Core) → LocationsHold nodes core → (i : ℕ) → HasBody (scene_of core) i (λ r. r.phase ≡ Held)
+    → (seat number : ℕ) (view : View) → IsViewAt core seat view → IsPass view number → ¬ IsHandled view.call.task i
+held-alone nodes core h i held seat number view at pass handled =
+    let s = sight location_scope core in
+    let p = each-seat location_scope (λ k v. refl) core (λ k v. PassIsPlaced nodes s v.call v.rebuild) (pass-placed nodes s h) seat number view at pass in
+    held-unhandled s (call_on_places view.call).task i p.unheld (λ removes. (p.removed i removes).out) held
+    (task-seen (λ task. IsHandled task i) (λ task calm. idle-unhandled task i calm) view.call handled)
+
+pub covers-more : (a b c : Sides) → Covers a b → Covers b c → Covers a c
+covers-more a b c ab bc q low = let x = ab q low in let y = bc q low in (omega arith, omega arith)
+
+-- ---- the step
+
+module _ (kind : Kind) (core : Core) (step : Step) (a : Acts core step) (later : Nodes) (New : ℕ → Type 0) (m : Leaves kind core step a.laws.nodes later New) where
+  abbrev nodes : Nodes
+  nodes = a.laws.nodes
+
+  abbrev Was : Sight
+  Was = sight location_scope core
+
+  abbrev Is : Sight
+  Is = sight location_scope (After kind core step)
+
+  leads : LeadsWithin nodes Was.word
+  leads = let t = sound-leads nodes (sight tree_scope core) a.laws.trees in record { up = t.up; down = t.down }
+
+  pub later_stands : (n : ℕ) → Stands (nodes.home n) → Stands (later.home n)
+  later_stands = stands-later kind core step a nodes later New m
+
+  pub home_forth : (n : ℕ) (home : Home) → IsInTree home → nodes.home n ≡ home → later.home n ≡ home
+  home_forth = home-forth kind core step a nodes later New m
+
+  -- ---- ways up
+
+  pub up-stood : (n k x y : ℕ) → Stands (nodes.home n) → Above Was.word n k x y → Stands (nodes.home x)
+  up-stood = above-stands kind core step a nodes later New m Was.word Is.word leads m.parent
+
+  pub up-forth : (n k x y : ℕ) → Stands (nodes.home n) → Above Was.word n k x y → Above Is.word n k x y
+  up-forth = above-forth kind core step a nodes later New m Was.word Is.word leads m.parent
+
+  pub up-back : (n k x y : ℕ) → Stands (nodes.home n) → Above Is.word n k x y → Above Was.word n k x y
+  up-back = above-back kind core step a nodes later New m Was.word Is.word leads m.parent
+
+  pub encloses-forth : (n k : ℕ) (box : Sides) → Stands (nodes.home n) → Encloses Was n k box → Encloses Is n k box
+  encloses-forth n k box stands h x y up =
+      let old = up-back n k x y stands up in
+      covers-more (bound_in Is.word x y) (bound_in Was.word x y) box (wider kind core step a nodes later New m x y (up-stood n k x y stands old)) (h x y old)
+
+  pub update-forth : (number : ℕ) (P Q : Rebuild → Type 0) → ((r : Rebuild) → P r → Q r) → HasPass Was number (λ v. HasUpdate v P) → HasPass Is number (λ v. HasUpdate v Q)
+  update-forth = has_update kind core step a nodes later New m location_scope (λ k v. refl) update_on_places (λ bare v. refl)
+
+  -- ---- a body that stays
+
+  module _ (i : ℕ) (b : Stays kind core step i) where
+    pub location-back : (n k : ℕ) → IsLocation Is i n k → IsLocation Was i n k
+    location-back n k h = (h.0, elim (h.1) [ inl e ↦ inl (sym b.loc_a ∙ e) | inr e ↦ inr (sym b.loc_b ∙ e) ])
+
+    pub location-forth : (n k : ℕ) → IsLocation Was i n k → IsLocation Is i n k
+    location-forth n k h = (h.0, elim (h.1) [ inl e ↦ inl (b.loc_a ∙ e) | inr e ↦ inr (b.loc_b ∙ e) ])
+
+    pub at-forth : (n k user : ℕ) (r : Record) → IsAt nodes Was i (record r { user = user }) n k → IsAt later Is i r n k
+    at-forth n k user r h = record {
+      stands = later_stands n h.stands;
+      entry = m.child n k (stands-in_tree (nodes.home n) h.stands) ∙ h.entry;
+      bounds = encloses-forth n k (sides_of (words_of r.bounds)) h.stands h.bounds;
+      box_words = subst (λ (box : Sides). Encloses Is n k box) (λ j q. sym (b.box q) j) (encloses-forth n k (box_in Was i) h.stands h.box_words);
+    }
+
+    placed_now-forth : IsPlacedNow Was i → IsPlacedNow Is i
+    placed_now-forth h = (
+      h.0,
+      has-step location_scope (λ k v. refl) kind core step a.at a.pass h.0 (λ v. IsPlacing v.call.task i) (λ v. IsPlacing v.call.task i) h.1 (λ seat view apart found own places. places)
+          (λ same. places-seen step.view.call (Last kind core step).call i b.places.0),
+    )
+
+    removed-forth : IsRemoved Was i → IsRemoved Is i
+    removed-forth h = (
+      h.0,
+      has-step location_scope (λ k v. refl) kind core step a.at a.pass h.0 (λ v. Removes v.call.task i) (λ v. Removes v.call.task i) h.1 (λ seat view apart found own removes. removes)
+          (λ same. removes-seen step.view.call (Last kind core step).call i b.removes.0),
+    )
+
+    pub where-forth : (layer n : ℕ) → IsWhere nodes Was i layer n → IsWhere later Is i layer n
+    where-forth layer n (in_slot t e home second) =
+        in_slot t (b.phase ∙ e) (home_forth n _ tt home) (elim second [ inl none ↦ inl (b.loc_b ∙ none) | inr placed ↦ inr (placed_now-forth placed) ])
+    where-forth layer n (in_main e home second) =
+        in_main (b.phase ∙ e) (home_forth n _ tt home)
+        (elim second [
+          | inl none ↦ inl (b.loc_b ∙ none)
+          | inr t ↦
+              inr (elim t [
+                | inl same ↦ inl (b.loc_b ∙ (same ∙ sym b.loc_a))
+                | inr old ↦ inr (old.0, update-forth old.0 (λ r. length r.swapped ≤ layer) (λ r. length r.swapped ≤ layer) (λ r few. few) old.1)
+              ])
+        ])
+    where-forth layer n (in_old number name e second home of_layer) = in_old number name (b.phase ∙ e) (λ none. second (sym b.loc_b ∙ none)) (home_forth n _ tt home) of_layer
+    where-forth layer n (in_merged number t root e second home has) =
+        in_merged number t root (b.phase ∙ e) (λ none. second (sym b.loc_b ∙ none)) (home_forth n _ tt home)
+        (update-forth number (λ r. IsStillMerged r layer t root) (λ r. IsStillMerged r layer t root) (λ r merged. merged) has)
+
+    same-forth : (noted : Noted) → noted.index ≡ i → IsSameBody Was noted → IsSameBody Is noted
+    same-forth noted e same =
+        body-forth (λ r. (r.generation ≡ noted.generation) × (r.layer ≡ noted.layer)) (λ r user. (λ t. t, λ t. t)) (record_at (scene_of core) noted.index) (record_at (scene_of (After kind core step)) noted.index)
+        (subst (λ (j : ℕ). IsAsBefore (record_at (scene_of core) j) (record_at (scene_of (After kind core step)) j)) (sym e) b.body) same
+
+    pub second-forth : IsSecond Was i → IsSecond Is i
+    second-forth h = (
+      h.0,
+      update-forth h.0 (IsSecondFor Was i) (IsSecondFor Is i) (λ r t. let noted = t.2 in (t.0, t.1, (noted.0, noted.1, noted.2, (b.loc_b ∙ noted.3.0, same-forth noted.0 noted.2 noted.3.1)))) h.1,
+    )
+
+    nowhere-forth : (Was.word (LocA i) ≡ 0) × (Was.word (LocB i) ≡ 0) → (Is.word (LocA i) ≡ 0) × (Is.word (LocB i) ≡ 0)
+    nowhere-forth h = (b.loc_a ∙ h.0, b.loc_b ∙ h.1)
+
+    pub phase-forth : (P : Record → Type 0) → ((r : Record) (user : ℕ) → P r ↔ P (record r { user = user })) → HasBody (scene_in Was) i P → HasBody (scene_in Is) i P
+    phase-forth P steady h = body-forth P steady (record_at (scene_of core) i) (record_at (scene_of (After kind core step)) i) b.body h
+
+    pub phase-back : (P : Record → Type 0) → ((r : Record) (user : ℕ) → P r ↔ P (record r { user = user })) → HasBody (scene_in Is) i P → HasBody (scene_in Was) i P
+    phase-back P steady h = body-back P steady (record_at (scene_of core) i) (record_at (scene_of (After kind core step)) i) b.body h
+
+    pub placed-forth : BodyIsPlaced nodes Was i → BodyIsPlaced later Is i
+    placed-forth h = record {
+      at = λ r n k e inside location. let old = record-back _ _ r b.body e in at-forth n k old.0 r (h.at (record r { user = old.0 }) n k old.1 inside (location-back n k location));
+      first = λ r n k e inside below location. let old = record-back _ _ r b.body e in where-forth r.layer n (h.first (record r { user = old.0 }) n k old.1 inside below (sym b.loc_a ∙ location));
+      second = λ other. second-forth (h.second (λ none. other (b.loc_b ∙ none)));
+      dead = λ none. nowhere-forth (h.dead (none-back _ _ b.body none));
+      out = λ body kept. nowhere-forth (h.out (phase-back (λ r. r.phase ≡ Out) (λ r user. (λ t. t, λ t. t)) body) (λ removed. kept (removed-forth removed)));
+    }
+
+  -- ---- a body that is apart
+
+  module _ (i : ℕ) (b : IsApart kind core step nodes i) where
+    pub apart-nowhere : (n k : ℕ) → IsInTree (nodes.home n) → ¬ IsLocation Was i n k
+    apart-nowhere n k inside h =
+        elim (h.1) [
+          | inl e ↦ b.off n k h.0 e inside
+          | inr e ↦ let none = b.second in absurd (omega arith)
+        ]
+
+    pub apart-placed : BodyIsPlaced later Is i
+    apart-placed = record {
+      at = λ r n k e inside location. absurd (b.unseen_after (record_body _ (λ x. x.phase ≡ In) r e inside));
+      first = λ r n k e inside below location. absurd (b.unseen_after (record_body _ (λ x. x.phase ≡ In) r e inside));
+      second = λ other. absurd (other b.second_after);
+      dead = λ none. (b.dead none, b.second_after);
+      out = λ body kept. (b.out body, b.second_after);
+    }
+
+  -- ---- passes that handle no body but such as stay
+
+  module _ (rebuild : Option Rebuild) where
+    pub climbs-back : (call : Call) (task : Task) → ((i : ℕ) → IsHandled task i → Stays kind core step i) → (n k : ℕ) → ClimbsFrom Is (acting call rebuild) task n k → ClimbsFrom Was (acting call rebuild) task n k
+    climbs-back call (Moving index target) stay n k h = location-back index (stay index refl) n k h
+    climbs-back call (Placing index) stay n k h = h
+    climbs-back call _ stay n k h = absurd h
+
+    pub climbs-forth : (call : Call) (task : Task) → ((i : ℕ) → IsHandled task i → Stays kind core step i) → (n k : ℕ) → ClimbsFrom Was (acting call rebuild) task n k → ClimbsFrom Is (acting call rebuild) task n k
+    climbs-forth call (Moving index target) stay n k h = location-forth index (stay index refl) n k h
+    climbs-forth call (Placing index) stay n k h = h
+    climbs-forth call _ stay n k h = absurd h
+
+    pub unheld-forth : (task : Task) → ((i : ℕ) → IsHandled task i → Stays kind core step i) → IsUnheld Was task → IsUnheld Is task
+    unheld-forth (Moving index target) stay h = λ held. h (phase-back index (stay index refl) (λ r. r.phase ≡ Held) (λ r user. (λ t. t, λ t. t)) held)
+    unheld-forth (Placing index) stay h = λ held. h (phase-back index (stay index refl) (λ r. r.phase ≡ Held) (λ r user. (λ t. t, λ t. t)) held)
+    unheld-forth _ stay h = tt
+
+    pub taken-forth : (call : Call) (i : ℕ) → Stays kind core step i → IsTakenOut nodes Was (acting call rebuild) i → IsTakenOut later Is (acting call rebuild) i
+    taken-forth call i b h = record {
+      out = phase-forth i b (λ r. r.phase ≡ Out) (λ r user. (λ t. t, λ t. t)) h.out;
+      cleared = λ n k location.
+          let t = h.cleared n k (location-back i b n k location) in
+          let child = m.child n k (stands-in_tree (nodes.home n) t.0) in
+          (later_stands n t.0, elim (t.1) [ inl e ↦ inl (child ∙ e) | inr e ↦ inr (child ∙ e.0, e.1, e.2) ]);
+      live = λ n k below e.
+          let live = h.live n k below (sym b.loc_a ∙ e) in
+          subst IsLive (sym (m.stays n (stands-in_tree (nodes.home n) (live-stands (nodes.home n) live)))) live;
+    }
+
+    pub pass-forth : (call : Call) → ((i : ℕ) → IsHandled call.task i → Stays kind core step i) → PassIsPlaced nodes Was call rebuild → PassIsPlaced later Is call rebuild
+    pass-forth call stay p = record {
+      removed = λ i removes. taken-forth call i (stay i (removes-handles call.task i removes)) (p.removed i removes);
+      unheld = unheld-forth call.task stay p.unheld;
+      widened = λ i n k box gives stored location.
+          let old = location-back i (stay i (gives-handles call.task i box gives)) n k location in
+          encloses-forth n k box (p.climbs_from n k (gives-climbs Was (acting call rebuild) call.task i n k box gives old)) (p.widened i n k box gives stored old);
+      still_wide = λ n k q value stored.
+          let t = p.widened_on_way n k q value stored in
+          let wide = m.wide n k q (up-stood t.0 t.1 n k (p.climbs_from t.0 t.1 t.2) t.3) in
+          let old = p.still_wide n k q value stored in
+          (λ low. let x = wide.0 low in let y = old.0 low in omega arith, λ high. let x = wide.1 high in let y = old.1 high in omega arith);
+      climbs_from = λ n k climbs. later_stands n (p.climbs_from n k (climbs-back call call.task stay n k climbs));
+      on_its_way = λ x value read.
+          let old = p.on_its_way x value read in
+          let t = old.1 in
+          let stands = p.climbs_from t.0 t.1 t.3 in
+          (
+            m.parent x (stands-in_tree (nodes.home x) (up-stood t.0 t.1 x t.2 stands t.4)) ∙ old.0,
+            (t.0, t.1, t.2, climbs-forth call call.task stay t.0 t.1 t.3, up-forth t.0 t.1 x t.2 stands t.4),
+          );
+      widened_on_way = λ x y q value stored.
+          let t = p.widened_on_way x y q value stored in
+          (t.0, t.1, climbs-forth call call.task stay t.0 t.1 t.2, up-forth t.0 t.1 x y (p.climbs_from t.0 t.1 t.2) t.3);
+    }
+
+  -- ---- what an update plans
+
+  -- a view that is done with the same bodies
+  pub planned-forth : (number : ℕ) (v w : View) (r : Rebuild) (noted : Noted) → (IsPlacing v.call.task noted.index ↔ IsPlacing w.call.task noted.index)
+      → ((n k : ℕ) → Stands (nodes.home n) → k < 4 → Was.word (Child n k) ≡ body_child noted.index → Was.word (LocB noted.index) ≡ place n k → Is.word (LocB noted.index) ≡ place n k)
+      → IsPlannedAt nodes Was number v r noted → IsPlannedAt later Is number w r noted
+  planned-forth number v w r noted placing second h =
+      let stands : Stands (nodes.home h.node) = subst Stands (sym h.made_for) tt in
+      let child = m.child h.node h.child (stands-in_tree (nodes.home h.node) stands) in
+      let back : IsDone w r noted.index → IsDone v r noted.index = λ done. elim done [ inl t ↦ inl (t.0, λ places. t.1 (placing.0 places)) | inr given ↦ inr given ] in
+      let forth : IsDone v r noted.index → IsDone w r noted.index = λ done. elim done [ inl t ↦ inl (t.0, λ places. t.1 (placing.1 places)) | inr given ↦ inr given ] in
+      record {
+        node = h.node;
+        child = h.child;
+        below = h.below;
+        at = h.at;
+        made_for = home_forth h.node _ tt h.made_for;
+        entry = elim (h.entry) [ inl e ↦ inl (child ∙ e) | inr e ↦ inr (child ∙ e) ];
+        undone = λ undone. child ∙ h.undone (λ was. undone (forth was));
+        of_done = λ done e. let was = sym child ∙ e in second h.node h.child stands h.below was (h.of_done (back done) was ∙ h.at) ∙ sym h.at;
+      }
+
+  pub published-forth : (r : Rebuild) (noted : Noted) → IsPublishedAt nodes r noted → IsPublishedAt later r noted
+  published-forth r noted h planned swapped = let t = h planned swapped in (t.0, t.1, t.2, t.3, home_forth t.0 _ tt t.4)

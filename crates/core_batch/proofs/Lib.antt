@@ -32,3 +32,5 @@ pub mod AttachBodies
 pub mod ReserveBodies
 pub mod FreeBodies
 pub mod PoolBodies
+pub mod AttachReaders
+pub mod AttachPlaces

@@ -33,3 +33,7 @@ pub mod LockKeep
 pub mod LivesKeep
 pub mod WalkReaders
 pub mod Opened
+pub mod ReadersLeft
+pub mod WalkReaders
+pub mod PlacesStay
+pub mod PlacesLeft

@@ -30,6 +30,7 @@ use Rattle.core_state.specs.LocationsHold.{location_scope, IsUnheld, IsTakenOut,
 use Rattle.core_state.specs.Invariants.{Invariants}
 use Rattle.core_state.proofs.Beginning.{contains_flat, body_record}
 use Rattle.core_state.proofs.Reading.{word-last}
+use Rattle.core_guard.proofs.PlacesStay as places
 use Rattle.core_guard.proofs.Leaving.{IsHandled, some_and_map}
 use Rattle.core_guard.proofs.Seats.{each-seat, seat_seen}
 use Rattle.core_batch.proofs.Mapped.{held-by}
@@ -70,18 +71,7 @@ planned-kept s t b d u nodes same (inr placed) =
 -- nobody handles a body that is held
 pub held-alone : (core : Core) (i : ℕ) → Invariants core → HasBody (scene_of core) i (λ r. r.phase ≡ Held)
     → (seat number : ℕ) (view : View) → IsViewAt core seat view → IsPass view number → ¬ IsHandled view.call.task i
-held-alone core i h held seat number view at pass handled =
-    let s = sight location_scope core in
-    let unheld = each-seat location_scope (λ n v. refl) core (λ n v. IsUnheld s v.call.task) h.locations.unheld seat number view at pass in
-    let removed = each-seat location_scope (λ n v. refl) core (λ n v. (i : ℕ) → Removes v.call.task i → IsTakenOut h.nodes s v i) h.locations.removed seat number view at pass in
-    go view.call view.call.task refl handled unheld (λ removes. (removed i removes).out)
-  where
-    go : (call : Call) (task : Task) → call.task ≡ task → IsHandled task i → IsUnheld (sight location_scope core) (call_by_task task call).task
-        → (Removes (call_by_task task call).task i → HasBody (scene_of core) i (λ r. r.phase ≡ Out)) → ⊥
-    go call (Moving index target) e same unheld out = subst (IsUnheld (sight location_scope core)) e unheld (subst (λ (k : ℕ). HasBody (scene_of core) k (λ r. r.phase ≡ Held)) (sym same) held)
-    go call (Placing index) e same unheld out = subst (IsUnheld (sight location_scope core)) e unheld (subst (λ (k : ℕ). HasBody (scene_of core) k (λ r. r.phase ≡ Held)) (sym same) held)
-    go call (Removing index) e same unheld out = out_or_held (record_at (scene_of core) i) (out (subst (λ (t : Task). Removes t i) (sym e) same)) held
-    go call _ e none unheld out = absurd none
+held-alone core i h = places.held-alone h.nodes core h.locations i
 
 -- ---- views
 

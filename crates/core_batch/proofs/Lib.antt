@@ -34,3 +34,4 @@ pub mod FreeBodies
 pub mod PoolBodies
 pub mod AttachReaders
 pub mod AttachPlaces
+pub mod HeldKeep

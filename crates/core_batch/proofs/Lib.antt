@@ -35,3 +35,7 @@ pub mod PoolBodies
 pub mod AttachReaders
 pub mod AttachPlaces
 pub mod HeldKeep
+pub mod AttachKeep
+pub mod LocksStay
+pub mod PoolKeep
+pub mod Keeping

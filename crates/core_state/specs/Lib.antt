@@ -44,3 +44,4 @@ pub mod Noting
 pub mod Placing
 pub mod Exchanging
 pub mod Retiring
+pub mod Keeping

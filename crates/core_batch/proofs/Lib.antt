@@ -20,3 +20,4 @@ pub mod AttachNodes
 pub mod ReserveBodies
 pub mod FreeBodies
 pub mod PoolBodies
+pub mod PoolTouches

@@ -21,3 +21,4 @@ pub mod ReserveBodies
 pub mod FreeBodies
 pub mod PoolBodies
 pub mod PoolTouches
+pub mod HeldNodes

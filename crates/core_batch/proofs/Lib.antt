@@ -39,3 +39,5 @@ pub mod AttachKeep
 pub mod LocksStay
 pub mod PoolKeep
 pub mod Keeping
+pub mod PoolTouches
+pub mod HeldNodes

@@ -18,3 +18,4 @@ pub mod BodyTouch
 pub mod LivesTouch
 pub mod LockSteps
 pub mod ListSteps
+pub mod LivesSteps

@@ -1,9 +1,8 @@
 -- The steps on bodies keep all laws, where those of places are kept by what is not touched.
-use Rattle.std.proofs.Common.{◌≡◌, ℕ, false, refl, ap, sym, ◌∙◌, subst}
+use Rattle.std.proofs.Common.{◌≡◌, ℕ, false, refl, ap, sym, subst}
 use Rattle.word_map.specs.declared.config.Config.{Config}
 use Rattle.word_map.specs.declared.name.Name.{Name}
 use Rattle.word_map.specs.declared.name.Name.TheVariants.{Layer, User, BoxWord}
-use Rattle.core_state.specs.declared.view.Task.TheVariants.{Nothing}
 use Rattle.core_state.specs.Core.{Core}
 use Rattle.core_state.specs.Kind.{Kind, Step, Steps, after_step}
 use Rattle.core_state.specs.Formed.{IsFormed}

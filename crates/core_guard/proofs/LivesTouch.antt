@@ -1,16 +1,14 @@
 -- What creation, destruction and user numbers leave of trees, bodies and passes.
-use Rattle.std.proofs.Common.{◌≡◌, ◌≢◌, ◌⊎◌, ℕ, suc, ◌<◌, Bool, Option, Some, None, true, false, is_some, IsSome, IsNone, IsSomeAnd, refl, ap, sym, ◌∙◌, subst, inl, inr, arith}
+use Rattle.std.proofs.Common.{◌≡◌, ◌≢◌, ℕ, ◌<◌, Bool, Option, Some, None, true, false, is_some, IsSome, IsNone, IsSomeAnd, refl, ap, sym, ◌∙◌, subst, inl, inr, arith}
 use Rattle.std.specs.Prelude.{⊤}
 use Rattle.std.proofs.lemmas.Bool.{false≢true}
-use Rattle.std.proofs.lemmas.Option.{none-some}
 use Rattle.scene_model.specs.declared.body_view.Phase.TheVariants.{Out, Held, In}
-use Rattle.scene_model.specs.declared.entry.Entry.{Entry}
-use Rattle.scene_model.specs.declared.entry.Entry.TheVariants.{Create, Destroy, SetUser}
-use Rattle.scene_model.specs.Scene.{Record, Place, record_at, place_at}
+use Rattle.scene_model.specs.declared.entry.Entry.TheVariants.{Destroy, SetUser}
+use Rattle.scene_model.specs.Scene.{Record, record_at}
 use Rattle.scene_model.specs.Step.{HasBody}
 use Rattle.word_map.specs.declared.config.Config.{Config}
 use Rattle.word_map.specs.declared.name.Name.{Name}
-use Rattle.word_map.specs.declared.name.Name.TheVariants.{State, Phase, Layer, User, BoxWord, LocA, LocB, Slot}
+use Rattle.word_map.specs.declared.name.Name.TheVariants.{State, Phase, Layer, User, BoxWord, LocA, LocB}
 use Rattle.word_map.specs.Names.{IsName, stripe_of}
 use Rattle.core_state.specs.declared.view.Mode.TheVariants.{Write}
 use Rattle.core_state.specs.declared.view.Task.{Task}
@@ -19,21 +17,20 @@ use Rattle.core_state.specs.declared.view.Call.{Call}
 use Rattle.core_state.specs.declared.view.View.{View}
 use Rattle.core_state.specs.View.{IsPass, Holds}
 use Rattle.core_state.specs.Core.{Core, word_of, scene_of, IsViewAt}
-use Rattle.core_state.specs.Kind.{Kind, Step, after_step}
-use Rattle.core_state.specs.Encoding.{phase_out, phase_join, slot_tree}
+use Rattle.core_state.specs.Kind.{Step}
+use Rattle.core_state.specs.Encoding.{phase_out}
 use Rattle.core_state.specs.Lives.{IsFieldOf, MayStoreField, store_field, MayCreate, create, MayDestroy, destroy, MaySetUser, set_user}
 use Rattle.core_state.specs.Parts.{call_by_task}
 use Rattle.core_state.specs.Scope.{Sight, sight, scene_in, EachPass}
 use Rattle.core_state.specs.Invariants.{Invariants}
 use Rattle.core_state.specs.LocationsHold.{location_scope, is_location_store, Removes, IsTakenOut}
-use Rattle.core_state.proofs.Beginning.{record_body}
 use Rattle.core_state.proofs.Steps.{word-step-other}
-use Rattle.core_guard.proofs.Scenes.{live_or_dead, none_here, record_live, with_user}
+use Rattle.core_guard.proofs.Scenes.{live_or_dead, none_here, with_user}
 use Rattle.core_guard.proofs.Seats.{each-seat, has-seat}
 use Rattle.core_guard.proofs.BodiesStep.{sound}
 use Rattle.core_guard.proofs.LivesAgree as lives
-use Rattle.core_guard.proofs.Leaving.{Acts, IsHandled, IsIdle, Stays, IsApart, IsAsBefore, not_live, is_live, After, Last, Touches, scene-plain}
-use Rattle.core_guard.proofs.BodyTouch.{body_of, ChangesBody, touches-body, other-word, held-kept, record-made, record-other, removes-handled, stripe-alone, IsBare, bare-apart}
+use Rattle.core_guard.proofs.Leaving.{Acts, IsHandled, IsIdle, Stays, IsAsBefore, is_live, After, Touches, scene-plain}
+use Rattle.core_guard.proofs.BodyTouch.{body_of, touches-body, held-kept, record-made, record-other, removes-handled, stripe-alone, bare-apart}
 
 -- a pass moves, removes or places live bodies only
 abbrev pub HandlesLive : Core → Type 0

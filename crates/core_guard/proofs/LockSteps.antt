@@ -1,9 +1,8 @@
 -- The steps on locks, and the opening of a pass: the laws of locks and of bodies, and those that see no locks.
-use Rattle.std.proofs.Common.{◌≡◌, ℕ, suc, pow-add, ◌+◌, ◌*◌, ◌^◌, ◌≤◌, List, Bool, true, false, cond, eqb, None, set, refl, ap, sym, ◌∙◌, subst, arith}
-use Rattle.std.specs.Prelude.{IsTrue, filter_map}
+use Rattle.std.proofs.Common.{◌≡◌, ℕ, suc, pow-add, ◌+◌, ◌*◌, ◌^◌, ◌≤◌, false, None, set, refl, ap, sym, ◌∙◌, subst, arith}
+use Rattle.std.specs.Prelude.{filter_map}
 use Rattle.std.proofs.lemmas.Bool.{false≢true}
 use Rattle.std.proofs.lemmas.Nat.{pow_pos}
-use Rattle.word_map.specs.declared.name.Name.{Name}
 use Rattle.word_map.specs.declared.name.Name.TheVariants.{Lock}
 use Rattle.word_map.specs.Names.{IsName}
 use Rattle.core_state.specs.declared.view.Role.TheVariants.{Pass}
@@ -11,23 +10,22 @@ use Rattle.core_state.specs.declared.view.Mode.{Mode}
 use Rattle.core_state.specs.declared.view.Mode.TheVariants.{Read, Write}
 use Rattle.core_state.specs.declared.view.Task.{Task}
 use Rattle.core_state.specs.declared.view.Call.{Call}
-use Rattle.core_state.specs.declared.view.View.{View}
 use Rattle.core_state.specs.Parts.{call_without_loads}
 use Rattle.core_state.specs.View.{IsPass, blank_view}
 use Rattle.core_state.specs.Core.{Core, IsViewAt}
-use Rattle.core_state.specs.Kind.{Kind, Step, Steps, found_by, learned, view_after, after_step}
+use Rattle.core_state.specs.Kind.{Kind, Step, found_by, learned, view_after, after_step}
 use Rattle.core_state.specs.Seats.{after_split}
-use Rattle.core_state.specs.Locking.{bit_of, take, MayRead, take_read, MayWrite, take_write, MayRelease, release}
+use Rattle.core_state.specs.Locking.{bit_of, take, MayRead, MayWrite, MayRelease, release}
 use Rattle.core_state.specs.Formed.{IsFormed}
 use Rattle.core_state.specs.Frame.{IsOutside}
-use Rattle.core_state.specs.Scope.{Scope, Sight, sight, part_of, bare_view}
+use Rattle.core_state.specs.Scope.{sight, part_of, bare_view}
 use Rattle.core_state.specs.LocksAgree.{LocksAgreeIn, LocksAgree, lock_scope}
 use Rattle.core_state.specs.BodiesAgree.{BodiesAgreeIn, BodiesAgree, body_scope}
 use Rattle.core_state.specs.Invariants.{Invariants}
 use Rattle.core_state.proofs.Fitting.{word-fits}
 use Rattle.core_state.proofs.Frames.{frame, step-same, step-history}
 use Rattle.core_state.proofs.Steps.{word-step-other}
-use Rattle.core_guard.proofs.Likeness.{IsNothing, IsLikeCall, same_call, idle_calls, nothing-is, IsLike, AreLike, with_passes}
+use Rattle.core_guard.proofs.Likeness.{IsNothing, IsLikeCall, same_call, idle_calls, nothing-is, IsLike}
 use Rattle.core_guard.proofs.BodiesAlike.{BodiesAgree-like}
 use Rattle.core_guard.proofs.Changing.{ReadsLike, taken_if-like, released-like, after-like, passes-set, passes-opened, sight-passes}
 use Rattle.core_guard.proofs.LockWords.{Agrees-from, Agrees-to, Takes, Agrees-take, Agrees-release, Agrees-opened}

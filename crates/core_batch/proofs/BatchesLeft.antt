@@ -1,5 +1,5 @@
 -- The batches that are left to a pass that has attached one.
-use Rattle.std.proofs.Common.{◌≡◌, ℕ, List, Bool, true, false, not, Contains, ap, sym, subst, inl, inr}
+use Rattle.std.proofs.Common.{◌≡◌, List, Bool, true, false, not, Contains, ap, sym, subst, inl, inr}
 use Rattle.std.specs.Prelude.{option_map}
 use Rattle.std.proofs.lemmas.Bool.{false≢true, cases_Bool}
 use Rattle.core_state.specs.declared.view.Batch.{Batch}

@@ -1,5 +1,5 @@
 -- What a pass knows of its batches: their slots, their nodes, and the bodies that they hold, which stand in no tree.
-use Rattle.std.proofs.Common.{◌≡◌, ◌≢◌, ◌⊎◌, ℕ, suc, ◌<◌, ◌∷◌, List, Option, Some, None, refl, ap, sym, ◌∙◌, subst, inl, inr, arith}
+use Rattle.std.proofs.Common.{◌≡◌, ◌≢◌, ℕ, suc, ◌<◌, ◌∷◌, List, Option, Some, None, refl, ap, sym, ◌∙◌, subst, inl, inr, arith}
 use Rattle.std.specs.Prelude.{Contains, IsSomeAnd, flat_map}
 use Rattle.std.proofs.lemmas.Option.{same_Some}
 use Rattle.std.proofs.lemmas.List.Elements.{Contains-append_left, Contains-append_right}
@@ -23,8 +23,8 @@ use Rattle.core_state.specs.Kind.{Kind, Step, learned, found_by, log_after, view
 use Rattle.core_state.specs.Formed.{IsFormed, IsSoundItem}
 use Rattle.core_state.specs.Encoding.{place, phase_join, slot_tree}
 use Rattle.core_state.specs.Nodes.{Home, owned, IsInTree}
-use Rattle.core_state.specs.Parts.{call_by_task, call_on_places}
-use Rattle.core_state.specs.Scope.{Sight, sight, scene_in}
+use Rattle.core_state.specs.Parts.{call_by_task}
+use Rattle.core_state.specs.Scope.{Sight, sight}
 use Rattle.core_state.specs.BodiesAgree.{body_scope, IsHeldFor}
 use Rattle.core_state.specs.LocationsHold.{location_scope, IsUnheld, IsTakenOut, Removes, IsPlannedIn}
 use Rattle.core_state.specs.Invariants.{Invariants}

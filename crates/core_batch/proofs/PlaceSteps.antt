@@ -1,6 +1,6 @@
 -- Storing the first location of a body of a batch, and taking it back: bodies agree, and the body is in no tree before and
 -- afterwards.
-use Rattle.std.proofs.Common.{◌≡◌, ◌≢◌, ℕ, ◌<◌, List, Bool, true, false, cond, eqb, Option, Some, None, IsNone, refl, ap, sym, ◌∙◌, subst, inl, inr, arith}
+use Rattle.std.proofs.Common.{◌≡◌, ◌≢◌, ℕ, ◌<◌, List, Bool, true, false, cond, eqb, Option, None, IsNone, refl, ap, sym, ◌∙◌, subst, inl, inr, arith}
 use Rattle.std.specs.Prelude.{Contains, IsSomeAnd, map}
 use Rattle.std.proofs.lemmas.Bool.{false≢true, eqb-true, eq-eqb}
 use Rattle.std.proofs.lemmas.List.Folds.{flat_map-map}
@@ -8,17 +8,16 @@ use Rattle.scene_model.specs.declared.body_view.Phase.TheVariants.{Out, Held, In
 use Rattle.scene_model.specs.Scene.{Record, record_at}
 use Rattle.scene_model.specs.Step.{HasBody}
 use Rattle.word_map.specs.declared.name.Name.{Name}
-use Rattle.word_map.specs.declared.name.Name.TheVariants.{Slot, Phase, LocA, LocB}
+use Rattle.word_map.specs.declared.name.Name.TheVariants.{Phase, LocA, LocB}
 use Rattle.core_state.specs.declared.view.Call.{Call}
 use Rattle.core_state.specs.declared.view.Marked.{Marked}
 use Rattle.core_state.specs.declared.view.Batch.{Batch}
 use Rattle.core_state.specs.declared.view.View.{View}
 use Rattle.core_state.specs.Log.{history}
-use Rattle.core_state.specs.View.{IsPass}
-use Rattle.core_state.specs.Core.{Core, word_of, scene_of, IsViewAt}
+use Rattle.core_state.specs.Core.{Core, word_of, scene_of}
 use Rattle.core_state.specs.Kind.{Kind, Step, learned, found_by, view_after, after_step}
 use Rattle.core_state.specs.Batches.{HasMarked, with_bodies, changed_at, change_marked, MayPlace, place_body, with_place, MayTakeBack, take_back, without_place}
-use Rattle.core_state.specs.Encoding.{place, phase_join, slot_tree}
+use Rattle.core_state.specs.Encoding.{place}
 use Rattle.core_state.specs.Nodes.{IsInTree}
 use Rattle.core_state.specs.Scope.{sight}
 use Rattle.core_state.specs.Bodies.{all_batches}
@@ -29,7 +28,7 @@ use Rattle.core_state.proofs.Steps.{word-step, word-step-other}
 use Rattle.core_guard.proofs.LockSteps.{LocksAgree-other}
 use Rattle.core_guard.proofs.Leaving.{Acts, IsHandled, IsApart, After, Touches, scene-plain}
 use Rattle.core_guard.proofs.BodyTouch.{body_of, touches-body}
-use Rattle.core_guard.proofs.Scenes.{none_here, record_live}
+use Rattle.core_guard.proofs.Scenes.{none_here}
 use Rattle.core_batch.proofs.Lists.{map_from}
 use Rattle.core_batch.proofs.Mapped.{location-batches, marks-apart, marked-once, batch-from, IsFromBatch, from_own, from_other}
 use Rattle.core_batch.proofs.PlacedAgree.{placed-agree}

@@ -1,12 +1,12 @@
 -- A step on one word of one body leaves all but that body: what is then left to show of it.
-use Rattle.std.proofs.Common.{◌≡◌, ◌≢◌, ◌⊎◌, ◌↔◌, ℕ, ◌<◌, ◌≤◌, ◌++◌, ◌∷◌, [], List, Option, Some, None, IsNone, true, false, refl, ap, sym, ◌∙◌, subst, inl, inr, arith}
-use Rattle.std.specs.Prelude.{⊤, Contains, IsSomeAnd, IfSome}
+use Rattle.std.proofs.Common.{◌≡◌, ◌≢◌, ◌⊎◌, ◌↔◌, ℕ, ◌<◌, ◌≤◌, ◌++◌, ◌∷◌, [], List, Option, Some, None, true, false, refl, ap, sym, ◌∙◌, subst, inl, inr, arith}
+use Rattle.std.specs.Prelude.{Contains, IfSome}
 use Rattle.std.proofs.lemmas.Bool.{cases_eq, true≢false}
 use Rattle.std.proofs.lemmas.Option.{none-some, same_Some}
-use Rattle.scene_model.specs.declared.body_view.Phase.TheVariants.{Out, In}
+use Rattle.scene_model.specs.declared.body_view.Phase.TheVariants.{In}
 use Rattle.scene_model.specs.declared.entry.Entry.{Entry}
 use Rattle.scene_model.specs.declared.entry.Made.{Made}
-use Rattle.scene_model.specs.Scene.{Record, Place, Scene, place_at, record_at}
+use Rattle.scene_model.specs.Scene.{Place, Scene, place_at, record_at}
 use Rattle.scene_model.specs.Step.{HasBody, after_entry}
 use Rattle.scene_model.specs.History.{scene_after}
 use Rattle.word_map.specs.declared.name.Name.{Name}
@@ -24,15 +24,15 @@ use Rattle.core_state.specs.Log.{history}
 use Rattle.core_state.specs.Operation.{store}
 use Rattle.core_state.specs.View.{IsPass, Holds}
 use Rattle.core_state.specs.Core.{Core, word_of, scene_of, IsViewAt}
-use Rattle.core_state.specs.Kind.{Kind, Step, view_after, after_step, log_after}
+use Rattle.core_state.specs.Kind.{Kind, Step}
 use Rattle.core_state.specs.Encoding.{body_child, place, phase_join, slot_tree, layer_of}
 use Rattle.core_state.specs.Parts.{call_by_task, call_on_places}
-use Rattle.core_state.specs.Nodes.{Nodes, Home, node_in, Stands, IsInTree, IsOwnedBy, owned, made}
-use Rattle.core_state.specs.Scope.{Sight, sight, bare_view, scene_in}
+use Rattle.core_state.specs.Nodes.{Nodes, Home, node_in, IsOwnedBy, owned, made}
+use Rattle.core_state.specs.Scope.{Sight, sight}
 use Rattle.core_state.specs.TreesSound.{tree_scope, IsAsStored}
 use Rattle.core_state.specs.Updates.{IsPlacing}
 use Rattle.core_state.specs.Bodies.{all_batches}
-use Rattle.core_state.specs.BodiesAgree.{BodiesAgree, body_scope, IsUnderStripe}
+use Rattle.core_state.specs.BodiesAgree.{body_scope, IsUnderStripe}
 use Rattle.core_state.specs.LocationsHold.{location_scope, Removes, IsPlannedIn, is_location_store}
 use Rattle.core_state.proofs.Lookups.{at_one}
 use Rattle.core_state.proofs.Steps.{word-step-other}

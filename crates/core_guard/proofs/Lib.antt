@@ -38,3 +38,4 @@ pub mod WalkReaders
 pub mod PlacesStay
 pub mod PlacesLeft
 pub mod Keeping
+pub mod LivesSteps

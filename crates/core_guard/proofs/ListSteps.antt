@@ -8,8 +8,8 @@ use Rattle.core_state.specs.declared.view.Task.{Task}
 use Rattle.core_state.specs.declared.view.Task.TheVariants.{Nothing, Creating, Destroying, Pooling, Moving, Removing, Placing}
 use Rattle.core_state.specs.declared.view.Call.{Call}
 use Rattle.core_state.specs.declared.view.View.{View}
-use Rattle.core_state.specs.View.{known_word}
-use Rattle.core_state.specs.Core.{Core}
+use Rattle.core_state.specs.View.{IsPass, known_word}
+use Rattle.core_state.specs.Core.{Core, IsViewAt}
 use Rattle.core_state.specs.Kind.{Kind, Step, Steps, learned, found_by, view_after, after_step}
 use Rattle.core_state.specs.Formed.{IsFormed}
 use Rattle.core_state.specs.Frame.{IsOutside}
@@ -91,8 +91,8 @@ module _ (kind : Kind) (core : Core) (step : Step) where
   outside scope k hidden part = record { name = λ stored. hidden; entry = λ reads. k.entry; part = part }
 
   -- leaves them all
-  pub place-laws : Acts core step → KeepsPlaces → (nodes : Nodes) → PlaceLaws nodes core → PlaceLaws nodes (after_step kind core step)
-  place-laws a k nodes h =
+  pub place-laws : IsViewAt core step.seat step.view → IsPass step.view step.number → KeepsPlaces → (nodes : Nodes) → PlaceLaws nodes core → PlaceLaws nodes (after_step kind core step)
+  place-laws at pass k nodes h =
       let bare = bare_view step.number in
       let last = view_after kind core step in
       let hidden = aside-hidden step.name k.aside in
@@ -103,7 +103,7 @@ module _ (kind : Kind) (core : Core) (step : Step) where
       let stands : call_at (task_at_place last.call.task) ≡ call_at (task_at_place step.view.call.task) =
       same-part (λ c. call_at (task_at_place c.task)) _ (λ c calm. ap call_at (idle-at_place c.task calm)) step.view.call last.call k.call
       in
-      let same = λ (scope : Scope) (o : IsOutside scope kind core step). step-same scope kind core step a.at a.pass o in
+      let same = λ (scope : Scope) (o : IsOutside scope kind core step). step-same scope kind core step at pass o in
       record {
         trees =
             frame tree_scope (TreesSoundIn nodes) core (after_step kind core step)
@@ -171,29 +171,44 @@ head-task P creates destroys view found (suc index) = go (is_live (known_word vi
     go true = destroys index
     go false = creates (found - 1)
 
+-- the law of nodes where a step stores no word of the pool and leaves locks, nodes and updates, and does nothing with the pool
+pub record KeepsPool (kind : Kind) (core : Core) (step : Step) : Type 0 where
+  pub hidden : node_scope.names step.name ≡ false
+  pub locks : (view_after kind core step).locks ≡ step.view.locks
+  pub batches : (view_after kind core step).batches ≡ step.view.batches
+  pub loose : (view_after kind core step).loose ≡ step.view.loose
+  pub rebuild : (view_after kind core step).rebuild ≡ step.view.rebuild
+  pub pool : task_on_pool (view_after kind core step).call.task ≡ task_on_pool step.view.call.task
+
+pub NodesInOnePlace-other : (kind : Kind) (core : Core) (step : Step) (a : Acts core step) → KeepsPool kind core step → NodesInOnePlace a.laws.nodes (after_step kind core step)
+NodesInOnePlace-other kind core step a k =
+    let bare = bare_view step.number in
+    let aside : IsOutside node_scope kind core step = record {
+      name = λ stored. k.hidden;
+      entry = λ reads. absurd (false≢true reads);
+      part = λ i. record bare { locks = k.locks i; call = call_at (k.pool i); batches = k.batches i; loose = k.loose i; rebuild = option_map update_on_nodes (k.rebuild i) };
+    } in
+    frame node_scope (NodesInOnePlaceIn a.laws.nodes) core (after_step kind core step) (step-same node_scope kind core step a.at a.pass aside) a.laws.places
+
+-- all laws, those of places as one
+pub laws-together : (nodes : Nodes) (core : Core) → LocksAgree core → BodiesAgree core → NodesInOnePlace nodes core → PlaceLaws nodes core → Invariants core
+laws-together nodes core locks bodies places laws = record {
+  nodes = nodes;
+  locks = locks;
+  bodies = bodies;
+  places = places;
+  trees = laws.trees;
+  locations = laws.locations;
+  cover = laws.cover;
+  walks = laws.walks;
+  readers = laws.readers;
+}
+
 module _ (kind : Kind) (core : Core) (step : Step) (a : Acts core step) (k : KeepsPlaces kind core step) where
-  -- all laws, where it keeps the locks and the nodes that are to be given back, and does nothing with the pool
-  pub list-laws : node_scope.names step.name ≡ false → (view_after kind core step).locks ≡ step.view.locks → (view_after kind core step).loose ≡ step.view.loose
-      → task_on_pool (view_after kind core step).call.task ≡ task_on_pool step.view.call.task → LocksAgree (after_step kind core step) → BodiesAgree (after_step kind core step) → Invariants (after_step kind core step)
-  list-laws hidden locks loose pool agree bodies =
-      let bare = bare_view step.number in
-      let laws = place-laws kind core step a k a.laws.nodes (laws-of-places core a.laws) in
-      let aside : IsOutside node_scope kind core step = record {
-        name = λ stored. hidden;
-        entry = λ reads. k.entry;
-        part = λ i. record bare { locks = locks i; call = call_at (pool i); batches = k.batches i; loose = loose i; rebuild = option_map update_on_nodes (k.rebuild i) };
-      } in
-      record {
-        nodes = a.laws.nodes;
-        locks = agree;
-        bodies = bodies;
-        places = frame node_scope (NodesInOnePlaceIn a.laws.nodes) core (after_step kind core step) (step-same node_scope kind core step a.at a.pass aside) a.laws.places;
-        trees = laws.trees;
-        locations = laws.locations;
-        cover = laws.cover;
-        walks = laws.walks;
-        readers = laws.readers;
-      }
+  pub list-laws : lock_scope.names step.name ≡ false → KeepsPool kind core step → BodiesAgree (after_step kind core step) → Invariants (after_step kind core step)
+  list-laws hidden pool bodies =
+      laws-together a.laws.nodes (after_step kind core step) (LocksAgree-other core step a kind hidden pool.locks) bodies (NodesInOnePlace-other kind core step a pool)
+      (place-laws kind core step a.at a.pass k a.laws.nodes (laws-of-places core a.laws))
 
 pub Invariants-store_link : (before after : Core) → Steps MayStoreLink store_link before after → IsFormed before → GuardsHold before → Invariants before → Invariants after
 Invariants-store_link before after steps formed guards h =
@@ -212,7 +227,8 @@ Invariants-store_link before after steps formed guards h =
       rebuild = refl;
       call = inl refl;
     } in
-    subst Invariants (sym steps.result) (list-laws store_link before step a keeps pooled refl refl refl (LocksAgree-other before step a store_link hidden refl) bodies)
+    let pool : KeepsPool store_link before step = record { hidden = pooled; locks = refl; batches = refl; loose = refl; rebuild = refl; pool = refl } in
+    subst Invariants (sym steps.result) (list-laws store_link before step a keeps hidden pool bodies)
 
 pub Invariants-store_head : (before after : Core) → Steps MayStoreHead store_head before after → IsFormed before → GuardsHold before → Invariants before → Invariants after
 Invariants-store_head before after steps formed guards h =
@@ -233,6 +249,12 @@ Invariants-store_head before after steps formed guards h =
       rebuild = refl;
       call = inr (subst IsIdle (sym asked.list.idle) tt, calm);
     } in
-    subst Invariants (sym steps.result)
-    (list-laws store_head before step a keeps pooled refl refl (off-pool (view_after store_head before step).call.task off ∙ sym (ap task_on_pool asked.list.idle))
-    (LocksAgree-other before step a store_head hidden refl) bodies)
+    let pool : KeepsPool store_head before step = record {
+      hidden = pooled;
+      locks = refl;
+      batches = refl;
+      loose = refl;
+      rebuild = refl;
+      pool = off-pool (view_after store_head before step).call.task off ∙ sym (ap task_on_pool asked.list.idle);
+    } in
+    subst Invariants (sym steps.result) (list-laws store_head before step a keeps hidden pool bodies)

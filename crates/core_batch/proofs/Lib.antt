@@ -32,8 +32,6 @@ pub mod AttachBodies
 pub mod ReserveBodies
 pub mod FreeBodies
 pub mod PoolBodies
-pub mod AttachReaders
-pub mod AttachPlaces
 pub mod HeldKeep
 pub mod AttachKeep
 pub mod LocksStay

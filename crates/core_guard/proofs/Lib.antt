@@ -33,9 +33,5 @@ pub mod LockKeep
 pub mod LivesKeep
 pub mod WalkReaders
 pub mod Opened
-pub mod ReadersLeft
-pub mod WalkReaders
-pub mod PlacesStay
-pub mod PlacesLeft
 pub mod Keeping
 pub mod LivesSteps

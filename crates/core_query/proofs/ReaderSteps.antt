@@ -1,6 +1,6 @@
 -- A step on a reader word: no other pass has it for itself, and of all laws only those of walks and of readers see it.
-use Rattle.std.proofs.Common.{◌≡◌, ◌≢◌, ℕ, List, Bool, true, false, Some, None, refl, ap, sym, ◌∙◌, subst}
-use Rattle.std.specs.Prelude.{⊤, IsTrue, Option, IsSomeAnd}
+use Rattle.std.proofs.Common.{◌≡◌, ℕ, List, false, Some, None, refl, ap, sym, ◌∙◌, subst}
+use Rattle.std.specs.Prelude.{Option, IsSomeAnd}
 use Rattle.std.proofs.lemmas.Option.{none-some}
 use Rattle.word_map.specs.declared.config.Config.{Config}
 use Rattle.word_map.specs.declared.name.Name.{Name}
@@ -9,17 +9,15 @@ use Rattle.core_state.specs.declared.item.Item.{Item}
 use Rattle.core_state.specs.declared.view.Rebuild.{Rebuild}
 use Rattle.core_state.specs.declared.view.View.{View}
 use Rattle.core_state.specs.Core.{Core, IsViewAt}
-use Rattle.core_state.specs.View.{IsPass}
 use Rattle.core_state.specs.Kind.{Kind, Step, view_after, after_step}
-use Rattle.core_state.specs.Guards.{Owns, by_lock, by_creation, by_batch, by_mark, by_node, by_update, IsUpdateWord, IsBodyWord, IsQuiet, KeepsGuards, GuardsHold, guard_of}
-use Rattle.core_state.specs.Nodes.{node_in}
+use Rattle.core_state.specs.Guards.{Owns, by_lock, by_creation, by_batch, by_mark, by_node, by_update, IsUpdateWord, IsBodyWord, IsQuiet, GuardsHold}
 use Rattle.core_state.specs.Scope.{Scope, IsSameTo, bare_view}
-use Rattle.core_state.specs.LocksAgree.{LocksAgree, LocksAgreeIn, lock_scope}
-use Rattle.core_state.specs.BodiesAgree.{BodiesAgree, BodiesAgreeIn, body_scope}
-use Rattle.core_state.specs.NodesInOnePlace.{NodesInOnePlace, NodesInOnePlaceIn, node_scope}
-use Rattle.core_state.specs.TreesSound.{TreesSound, TreesSoundIn, tree_scope}
-use Rattle.core_state.specs.LocationsHold.{LocationsHold, LocationsHoldIn, location_scope}
-use Rattle.core_state.specs.BodiesCovered.{BodiesCovered, BodiesCoveredIn, cover_scope}
+use Rattle.core_state.specs.LocksAgree.{LocksAgreeIn, lock_scope}
+use Rattle.core_state.specs.BodiesAgree.{BodiesAgreeIn, body_scope}
+use Rattle.core_state.specs.NodesInOnePlace.{NodesInOnePlaceIn, node_scope}
+use Rattle.core_state.specs.TreesSound.{TreesSoundIn, tree_scope}
+use Rattle.core_state.specs.LocationsHold.{LocationsHoldIn, location_scope}
+use Rattle.core_state.specs.BodiesCovered.{BodiesCoveredIn, cover_scope}
 use Rattle.core_state.specs.WalksLead.{WalksLead}
 use Rattle.core_state.specs.ReadersCounted.{ReadersCounted}
 use Rattle.core_state.specs.Invariants.{Invariants}

@@ -1,5 +1,5 @@
 -- A walk that begins has every body ahead of it that it has to find; of one that has ended nothing is said.
-use Rattle.std.proofs.Common.{◌≡◌, ◌≢◌, ℕ, ◌≤◌, List, [], ◌∷◌, true, false, Some, None, length, refl, ap, sym, ◌∙◌, subst, inl, inr, arith}
+use Rattle.std.proofs.Common.{◌≡◌, ℕ, ◌≤◌, List, [], ◌∷◌, true, None, length, refl, ap, sym, ◌∙◌, subst, inl, inr, arith}
 use Rattle.std.specs.Prelude.{IsTrue, Contains, flat_map, map}
 use Rattle.std.specs.List.{range_with_len}
 use Rattle.std.proofs.lemmas.Bool.{false≢true}
@@ -10,13 +10,12 @@ use Rattle.word_map.specs.declared.config.Config.{Config}
 use Rattle.word_map.specs.declared.name.Name.{Name}
 use Rattle.word_map.specs.declared.name.Name.TheVariants.{Main, Slot, Reader}
 use Rattle.core_state.specs.declared.view.Walk.{Walk}
-use Rattle.core_state.specs.declared.view.View.{View}
 use Rattle.core_state.specs.Log.{history}
 use Rattle.core_state.specs.Core.{Core, word_of}
 use Rattle.core_state.specs.Encoding.{layer_of}
 use Rattle.core_state.specs.Kind.{Kind, Step, view_after, after_step, learned, log_after}
-use Rattle.core_state.specs.Scope.{Sight, sight, word_in}
-use Rattle.core_state.specs.Walking.{Query, Position, words_of_layer, asked_words, start, Follows, position_of}
+use Rattle.core_state.specs.Scope.{Sight, sight}
+use Rattle.core_state.specs.Walking.{Query, Position, words_of_layer, start, Follows, position_of}
 use Rattle.core_state.specs.Walks.{begin_walk, end_walk, new_walk}
 use Rattle.core_state.specs.WalksLead.{WalksLead, WalkLeads, ReadsMainLast, is_walk_word, walk_scope}
 use Rattle.core_state.proofs.Beginning.{cases_cons, due_ahead}

@@ -34,4 +34,3 @@ pub mod LivesKeep
 pub mod WalkReaders
 pub mod Opened
 pub mod Keeping
-pub mod LivesSteps

@@ -22,7 +22,7 @@ module _ (kind : Kind) (core : Core) (step : Step) (a : Acts core step) (aside :
   -- no law of trees sees them
   locked : LocksAgree (after_step kind core step) → BodiesAgree (after_step kind core step) → NodesInOnePlace a.laws.nodes (after_step kind core step) → Invariants (after_step kind core step)
   locked locks bodies places =
-      let laws = place-laws kind core step a (like-keeps kind core step aside entry like) a.laws.nodes (laws-of-places core a.laws) in
+      let laws = place-laws kind core step a.at a.pass (like-keeps kind core step aside entry like) a.laws.nodes (laws-of-places core a.laws) in
       record {
         nodes = a.laws.nodes;
         locks = locks;
@@ -37,8 +37,8 @@ module _ (kind : Kind) (core : Core) (step : Step) (a : Acts core step) (aside :
 
 taken : (core : Core) (step : Step) (a : Acts core step) (mode : Mode) (lock number : ℕ) → Takes mode step lock number → NodesInOnePlace a.laws.nodes (after_step (take mode) core step) → Invariants (after_step (take mode) core step)
 taken core step a mode lock number takes places =
-    locked (take mode) core step a (subst IsAsideWord (sym takes.names) tt) (λ value. refl) (take-like core step a mode lock number takes)
-    (LocksAgree-take core step a mode lock number takes) (BodiesAgree-take core step a mode lock number takes) places
+    locked (take mode) core step a (subst IsAsideWord (sym takes.names) tt) (λ value. refl) (take-like core step a.at a.pass a.laws mode lock number takes)
+    (LocksAgree-take core step a.at a.pass a.laws mode lock number takes) (BodiesAgree-take core step a.at a.pass a.laws mode lock number takes) places
 
 pub Invariants-reads : IsKept MayRead take_read
 Invariants-reads = kept MayRead take_read (λ core step a asked. taken core step a Read asked.lock asked.number (read-takes step asked) (NodesInOnePlace-take_read core step a asked))
@@ -48,5 +48,5 @@ Invariants-writes = kept MayWrite take_write (λ core step a asked. taken core s
 
 pub Invariants-releases : IsKept MayRelease release
 Invariants-releases = kept MayRelease release
-    (λ core step a asked. locked release core step a (subst IsAsideWord (sym asked.names) tt) (λ value. refl) (release-like core step a asked)
-    (LocksAgree-release core step a asked) (BodiesAgree-release core step a asked) (NodesInOnePlace-release core step a asked))
+    (λ core step a asked. locked release core step a (subst IsAsideWord (sym asked.names) tt) (λ value. refl) (release-like core step a.at a.pass a.laws asked)
+    (LocksAgree-release core step a.at a.pass a.laws a.formed a.named asked) (BodiesAgree-release core step a.at a.pass a.laws asked) (NodesInOnePlace-release core step a asked))

@@ -1,15 +1,14 @@
 -- The nodes are in one place where a batch was attached.
-use Rattle.std.proofs.Common.{◌≡◌, ◌≢◌, ℕ, ◌<◌, List, ◌++◌, Bool, true, false, not, Contains, refl, ap, sym, ◌∙◌, subst, inl, inr, arith}
+use Rattle.std.proofs.Common.{◌≡◌, ◌≢◌, ℕ, List, ◌++◌, Bool, true, false, not, Contains, refl, ap, sym, subst, inl, inr}
 use Rattle.std.specs.Prelude.{flat_map, option_map}
 use Rattle.std.proofs.lemmas.Bool.{false≢true, cases_Bool}
 use Rattle.std.proofs.lemmas.List.Elements.{Contains-append_left, Contains-append_right, Contains-append_cases}
 use Rattle.core_state.specs.declared.view.Batch.{Batch}
 use Rattle.core_state.specs.declared.view.View.{View}
-use Rattle.core_state.specs.View.{IsPass}
-use Rattle.core_state.specs.Core.{Core, IsViewAt}
+use Rattle.core_state.specs.Core.{Core}
 use Rattle.core_state.specs.Kind.{view_after}
 use Rattle.core_state.specs.Formed.{IsFormed}
-use Rattle.core_state.specs.Nodes.{Nodes, Home, free, spare, owned, IsInTree, IsOwnedBy, nodes_of, nodes_in}
+use Rattle.core_state.specs.Nodes.{Nodes, free, spare, IsInTree, IsOwnedBy, nodes_of, nodes_in}
 use Rattle.core_state.specs.Scope.{Scope, sight, part_of, bare_view, IsOnce}
 use Rattle.core_state.specs.Bodies.{IsForSlot, all_batches}
 use Rattle.core_state.specs.NodesInOnePlace.{NodesInOnePlace, node_scope}
@@ -20,7 +19,7 @@ use Rattle.core_guard.proofs.Leaving.{Acts}
 use Rattle.core_guard.proofs.NodesLeft.{KeepsHomes, unseen-pool, unseen-update, pool-stays, tree-part, together}
 use Rattle.core_guard.proofs.Seats.{each-seat}
 use Rattle.core_batch.proofs.Lists.{filter_from, flat_from, pairs-left, pairs-across, flat-once, IsPartOf, part-refl, part-contains, part-pairs, part-append, part-filter, part-flat, part-set}
-use Rattle.core_batch.proofs.Attaching.{Attaching, step_of, other_number, only_own, batch_node, was_home}
+use Rattle.core_batch.proofs.Attaching.{Attaching, step_of, only_own, batch_node, was_home}
 use Rattle.core_batch.proofs.Attached.{nodes_after, node-after, attached_node, other_node, home-outside, home-back, home-forth, core_after}
 use Rattle.core_batch.proofs.NodesStep.{OwnsAfter, owner-part}
 use Rattle.core_batch.proofs.Owning.{nodes-seen, owned-by, owner-has, batch-below}

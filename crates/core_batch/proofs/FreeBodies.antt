@@ -1,5 +1,5 @@
 -- The bodies agree after a slot is let go.
-use Rattle.std.proofs.Common.{◌≡◌, ◌≢◌, ◌↔◌, ℕ, zero, suc, ◌+◌, ◌-◌, ◌<◌, List, [], ◌∷◌, ◌++◌, Bool, true, false, not, Some, Contains, AllPairs, refl, ap, sym, ◌∙◌, subst, inl, inr, arith}
+use Rattle.std.proofs.Common.{◌≡◌, ◌≢◌, ◌↔◌, ℕ, zero, suc, ◌+◌, ◌-◌, ◌<◌, List, ◌∷◌, ◌++◌, Bool, true, false, not, Some, Contains, AllPairs, refl, ap, sym, ◌∙◌, subst, inl, inr, arith}
 use Rattle.std.specs.Prelude.{nat_lt, if◌then◌else◌, flat_map}
 use Rattle.std.proofs.lemmas.Bool.{cases_Bool, lt-ltb, false≢true}
 use Rattle.std.proofs.lemmas.Option.{same_Some}
@@ -13,11 +13,11 @@ use Rattle.core_state.specs.declared.view.Marked.{Marked}
 use Rattle.core_state.specs.declared.view.Batch.{Batch}
 use Rattle.core_state.specs.declared.view.View.{View}
 use Rattle.core_state.specs.View.{IsPass}
-use Rattle.core_state.specs.Core.{Core, word_of, IsViewAt}
+use Rattle.core_state.specs.Core.{Core, word_of}
 use Rattle.core_state.specs.Kind.{Step, view_after, after_step}
 use Rattle.core_state.specs.Encoding.{reserved_by}
 use Rattle.core_state.specs.Batches.{MayLetSlotGo, let_slot_go, without_batch, is_for}
-use Rattle.core_state.specs.Bodies.{phase_by, phase_by_slot, IsForSlot, AreOtherSlots, all_batches}
+use Rattle.core_state.specs.Bodies.{phase_by, phase_by_slot, AreOtherSlots, all_batches}
 use Rattle.core_state.specs.BodiesAgree.{BodiesAgree, body_scope}
 use Rattle.core_state.specs.Scope.{sight, scene_in, HasPass}
 use Rattle.core_state.proofs.Beginning.{contains_flat, contains_filter, body_record, record_body}

@@ -31,8 +31,8 @@ use Rattle.core_batch.proofs.NodesStep.{OwnsAfter, owner-part}
 use Rattle.core_batch.proofs.Owning.{nodes-seen, owner_one, owned-by, owner-has, batch-below, batch-home}
 use Rattle.core_batch.proofs.PoolHeads.{IsGiving, HeadStep, taking, giving, home_later, head-step, pool_later}
 use Rattle.core_batch.proofs.PoolSteps.{world-pool}
-use Rattle.core_batch.proofs.Rehome.{free_spare, owned_spare, free_owned, rehome, rehome-at, rehome-other, rehome-keeps}
-use Rattle.core_batch.proofs.Taking.{NodesInOnePlace-taken, taken-keeps}
+use Rattle.core_batch.proofs.Rehome.{free_spare, owned_spare, free_owned, rehome, rehome-at, rehome-other, rehome-stood, rehome-keeps}
+use Rattle.core_batch.proofs.Taking.{NodesInOnePlace-taken, taken-home, taken-keeps, taken-owns}
 
 -- the pool has one node more
 given-under : (s t : Sight) (v w : View) (task : Task) (many : ℕ) → IsPoolTask task → Holds w (pool_lock t.config) Write → t.word PoolFree ≡ s.word PoolFree
@@ -147,8 +147,8 @@ module _ (core : Core) (step : Step) (a : Acts core step) (asked : MayStorePoolH
         ]
       ]
 
-  owns : OwnsAfter store_pool_head core step a later
-  owns = record {
+  pub given-owns : OwnsAfter store_pool_head core step a later
+  given-owns = record {
     others = λ n number apart. (
       λ owns. subst (IsOwnedBy number) (sym (rehome-other nodes x free n (given-other number n apart owns))) owns,
       λ owns.
@@ -242,7 +242,7 @@ module _ (core : Core) (step : Step) (a : Acts core step) (asked : MayStorePoolH
   }
 
   pub NodesInOnePlace-given : NodesInOnePlace later After
-  NodesInOnePlace-given = together After later pool (owner-part store_pool_head core step a later owns) (tree-part store_pool_head core step a update later given-keeps)
+  NodesInOnePlace-given = together After later pool (owner-part store_pool_head core step a later given-owns) (tree-part store_pool_head core step a update later given-keeps)
 
 -- ---- both
 
@@ -268,3 +268,18 @@ module _ (core : Core) (step : Step) (a : Acts core step) (asked : MayStorePoolH
       go : (h : HeadStep core step) → (home_later core step a.laws.nodes h).depth n ≡ a.laws.nodes.depth n
       go (taking x t) = refl
       go (giving x g) = refl
+
+  pub pool_later-stood : (n : ℕ) → IsInTree ((pool_later core step a asked).home n) → (pool_later core step a asked).home n ≡ a.laws.nodes.home n
+  pool_later-stood n = go (head-step core step a asked)
+    where
+      go : (h : HeadStep core step) → IsInTree ((home_later core step a.laws.nodes h).home n) → (home_later core step a.laws.nodes h).home n ≡ a.laws.nodes.home n
+      go (taking x t) inside = rehome-stood a.laws.nodes x (owned step.number) (λ low. subst IsInTree (taken-home core step a asked x t) low) (λ low. low) n inside
+      go (giving x g) inside = rehome-stood a.laws.nodes x free (λ low. subst IsInTree (given-home core step a asked x g) low) (λ low. low) n inside
+
+  -- and who owns what
+  pub pool_later-owns : OwnsAfter store_pool_head core step a (pool_later core step a asked)
+  pool_later-owns = go (head-step core step a asked)
+    where
+      go : (h : HeadStep core step) → OwnsAfter store_pool_head core step a (home_later core step a.laws.nodes h)
+      go (taking x t) = taken-owns core step a asked x t
+      go (giving x g) = given-owns core step a asked x g

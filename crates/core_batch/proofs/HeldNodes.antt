@@ -1,12 +1,12 @@
 -- The nodes are in one place after a body is marked, placed, taken back or unmarked: batches keep their nodes.
-use Rattle.std.proofs.Common.{◌≡◌, List, [], ◌∷◌, ◌++◌, ℕ, refl, ap, sym, ◌∙◌, subst, Bool, true, false, cond, ◌-◌}
+use Rattle.std.proofs.Common.{◌≡◌, List, [], ◌∷◌, ◌++◌, refl, ap, ◌∙◌, Bool, true, false, cond, ◌-◌}
 use Rattle.std.specs.Prelude.{flat_map, map, filter, not, ◌==◌}
 use Rattle.word_map.specs.declared.name.Name.{Name}
 use Rattle.core_state.specs.declared.view.Marked.{Marked}
 use Rattle.core_state.specs.declared.view.Batch.{Batch}
 use Rattle.core_state.specs.declared.view.View.{View}
 use Rattle.core_state.specs.View.{known_word}
-use Rattle.word_map.specs.declared.name.Name.TheVariants.{Phase, Layer, LocA}
+use Rattle.word_map.specs.declared.name.Name.TheVariants.{Layer}
 use Rattle.core_state.specs.Core.{Core}
 use Rattle.core_state.specs.Kind.{Kind, Step, learned, found_by, after_step}
 use Rattle.core_state.specs.Batches.{is_for, with_bodies, changed_at, marked_now, MayMark, mark, with_mark, MayUnmark, unmark, with_unmark, MayPlace, place_body, with_place, MayTakeBack, take_back, without_place}

@@ -1,5 +1,5 @@
 -- The bodies agree after each step on the pool.
-use Rattle.std.proofs.Common.{◌≡◌, ◌≢◌, ◌↔◌, ℕ, ◌-◌, List, Some, None, Contains, refl, ap, sym, ◌∙◌, subst, inl}
+use Rattle.std.proofs.Common.{◌≡◌, ◌≢◌, ◌↔◌, ℕ, ◌-◌, List, None, refl, ap, sym, ◌∙◌, subst, inl}
 use Rattle.word_map.specs.declared.name.Name.{Name}
 use Rattle.word_map.specs.declared.name.Name.TheVariants.{Phase, BoxWord, PoolHead, PoolNext, PoolFree, Slot}
 use Rattle.core_state.specs.declared.view.Task.{Task}

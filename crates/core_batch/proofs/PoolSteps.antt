@@ -1,5 +1,5 @@
 -- The nodes are in one place after a link of the pool, or its count, is stored.
-use Rattle.std.proofs.Common.{◌≡◌, ◌≢◌, ℕ, ◌+◌, List, length, Some, Contains, refl, ap, sym, ◌∙◌, subst, arith}
+use Rattle.std.proofs.Common.{◌≡◌, ℕ, ◌+◌, length, Some, Contains, refl, ap, sym, ◌∙◌, subst, arith}
 use Rattle.std.specs.Prelude.{⊤, flat_map}
 use Rattle.std.proofs.lemmas.List.Elements.{Contains-append_right}
 use Rattle.word_map.specs.declared.config.Config.{Config}
@@ -12,18 +12,18 @@ use Rattle.core_state.specs.declared.view.Task.TheVariants.{Nothing, Pooling}
 use Rattle.core_state.specs.declared.view.View.{View}
 use Rattle.core_state.specs.View.{Holds, known_word}
 use Rattle.core_state.specs.Core.{Core, word_of}
-use Rattle.core_state.specs.Kind.{Kind, Step, after_step}
+use Rattle.core_state.specs.Kind.{Step, after_step}
 use Rattle.core_state.specs.Nodes.{owned}
 use Rattle.core_state.specs.Parts.{task_on_pool}
 use Rattle.core_state.specs.Guards.{by_lock, guard_of}
-use Rattle.core_state.specs.NodesInOnePlace.{NodesInOnePlace, node_scope, IsPooling, PoolsUnder}
+use Rattle.core_state.specs.NodesInOnePlace.{NodesInOnePlace, node_scope, PoolsUnder}
 use Rattle.core_state.specs.Pool.{IsPoolTask, MayStorePoolLink, store_pool_link, MayStorePoolCount, store_pool_count}
 use Rattle.core_state.specs.Scope.{Sight, sight}
 use Rattle.core_state.proofs.Steps.{word-step, word-step-other}
 use Rattle.core_guard.proofs.BodiesStep.{sound, known-now}
 use Rattle.core_guard.proofs.Chains.{chain-kept}
 use Rattle.core_guard.proofs.Leaving.{Acts}
-use Rattle.core_guard.proofs.NodesLeft.{PoolPart, same-homes, same-nodes, tree-part, pool-part, pool-own, pool-idle, owner-stays, together}
+use Rattle.core_guard.proofs.NodesLeft.{same-homes, same-nodes, tree-part, pool-part, pool-own, pool-idle, owner-stays, together}
 use Rattle.core_guard.proofs.Seats.{seen_of}
 use Rattle.core_batch.proofs.Owning.{batch-home}
 use Rattle.core_batch.proofs.Rehome.{free_owned}

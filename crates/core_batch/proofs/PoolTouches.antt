@@ -1,11 +1,11 @@
 -- What the steps on slots, on the pool and on own nodes touch: no body, no tree, no walk.
-use Rattle.std.proofs.Common.{◌≡◌, ◌≢◌, ◌⊎◌, ◌↔◌, ℕ, suc, ◌<◌, ◌≤◌, List, Bool, true, false, cond, Option, Some, None, Contains, refl, ap, sym, ◌∙◌, subst, inl, inr, arith}
+use Rattle.std.proofs.Common.{◌≡◌, ◌≢◌, ◌↔◌, ℕ, ◌<◌, ◌≤◌, List, Bool, true, false, Option, Some, None, Contains, refl, ap, sym, ◌∙◌, subst, inl, inr, arith}
 use Rattle.std.specs.Prelude.{not, filter, IfSome, ◌||◌, ◌∷◌, []}
 use Rattle.std.proofs.lemmas.Bool.{eq-eqb, false≢true}
 use Rattle.std.proofs.lemmas.Option.{none-some, same_Some}
 use Rattle.std.proofs.lemmas.List.Elements.{Contains-push_cases}
 use Rattle.word_map.specs.declared.name.Name.{Name}
-use Rattle.word_map.specs.declared.name.Name.TheVariants.{State, Phase, Layer, BoxWord, LocA, LocB, Child, Bound, Parent, Main, Slot, Reader, PoolHead}
+use Rattle.word_map.specs.declared.name.Name.TheVariants.{State, Phase, Layer, BoxWord, LocA, LocB, Child, Bound, Parent, Main, Slot, Reader}
 use Rattle.core_state.specs.declared.item.Store.{Store}
 use Rattle.core_state.specs.declared.view.Task.{Task}
 use Rattle.core_state.specs.declared.view.Task.TheVariants.{Nothing, Pooling}
@@ -16,7 +16,7 @@ use Rattle.core_state.specs.declared.view.View.{View}
 use Rattle.core_state.specs.Names.{same_name}
 use Rattle.core_state.specs.Core.{Core, word_of}
 use Rattle.core_state.specs.Kind.{Kind, Step, view_after, after_step}
-use Rattle.core_state.specs.Encoding.{NamesRoot, slot_tree, reserved_by, layer_of}
+use Rattle.core_state.specs.Encoding.{NamesRoot, slot_tree, layer_of}
 use Rattle.core_state.specs.Nodes.{Nodes, Home, free, spare, owned, made, under, superseded, returning, IsInTree, IsOwnedBy, node_in}
 use Rattle.core_state.specs.Batches.{MayReserve, reserve, MayStoreNode, store_node, MayLetSlotGo, let_slot_go, is_in_nodes}
 use Rattle.core_state.specs.Bodies.{all_batches}
@@ -28,19 +28,19 @@ use Rattle.core_state.specs.TreesSound.{tree_scope, IsAsStored}
 use Rattle.core_state.specs.Updates.{IsPlacing}
 use Rattle.core_state.proofs.SameNames.{same_name-refl, cases_name}
 use Rattle.core_state.proofs.Steps.{word-step, word-step-other}
-use Rattle.core_guard.proofs.Leaving.{Acts, if_some_with, IsIdle, Leaves, leaves-aside, roots-other, Stays, Touches, as_before-same, scene-plain, stands-in_tree}
+use Rattle.core_guard.proofs.Leaving.{Acts, if_some_with, IsIdle, leaves-aside, roots-other, Touches, as_before-same, scene-plain, stands-in_tree}
 use Rattle.core_guard.proofs.Seats.{each-seat}
 use Rattle.core_batch.proofs.BatchesStep.{ChangesBatches, marked-was}
 use Rattle.core_batch.proofs.BodiesAside.{IsPoolCall, same_calls, pool_calls}
 use Rattle.core_batch.proofs.FreeBodies.{freed-low, freed-old, freed-new, freed-changes}
 use Rattle.core_batch.proofs.Giving.{given-home, given-other}
 use Rattle.core_batch.proofs.Lists.{filter_from}
-use Rattle.core_batch.proofs.Owning.{owner_one, batch-home}
+use Rattle.core_batch.proofs.Owning.{batch-home}
 use Rattle.core_batch.proofs.PoolBodies.{same-batches, taken_task, given_task, taken-changes, given-changes}
 use Rattle.core_batch.proofs.PoolHeads.{IsTaking, IsGiving, HeadStep, taking, giving, home_later, head-step, pool_later}
 use Rattle.core_batch.proofs.Rehome.{rehome, rehome-other, rehome-stays, rehome-stood}
 use Rattle.core_batch.proofs.ReserveBodies.{reserved-new, reserved-low, reserved-changes, missed-word}
-use Rattle.core_batch.proofs.SlotSteps.{IsReserving, IsMissing, ReserveStep, reserving, missing, reserve-step, freed-left}
+use Rattle.core_batch.proofs.SlotSteps.{IsReserving, IsMissing, reserving, missing, reserve-step, freed-left}
 use Rattle.core_batch.proofs.Taking.{taken-home, taken-other}
 
 -- ---- names

@@ -14,7 +14,7 @@ use Rattle.core_state.specs.declared.view.Batch.{Batch}
 use Rattle.core_state.specs.declared.view.View.{View}
 use Rattle.core_state.specs.View.{IsPass}
 use Rattle.core_state.specs.Log.{word}
-use Rattle.core_state.specs.Core.{Core, word_of, IsViewAt}
+use Rattle.core_state.specs.Core.{Core, word_of}
 use Rattle.core_state.specs.Kind.{Step, found_by, log_after, view_after, after_step}
 use Rattle.core_state.specs.Encoding.{reserved_by}
 use Rattle.core_state.specs.Batches.{MayReserve, reserve, new_batch}
@@ -34,7 +34,7 @@ use Rattle.core_batch.proofs.BodiesAside.{IsAside, IsAsideWord, same_calls, Phas
 use Rattle.core_batch.proofs.Lists.{flat_from, pairs-cons, pairs-none, pairs-append}
 use Rattle.core_batch.proofs.Owning.{number-low, slot-reserved}
 use Rattle.core_batch.proofs.SlotLists.{slot_one}
-use Rattle.core_batch.proofs.SlotSteps.{IsReserving, IsMissing, ReserveStep, reserving, missing, reserve-step}
+use Rattle.core_batch.proofs.SlotSteps.{IsReserving, IsMissing, reserving, missing, reserve-step}
 
 -- ---- a batch of which nothing is there but its slot
 

@@ -1,5 +1,5 @@
 -- A slot is reserved, or let go: what each is, and that the nodes are in one place.
-use Rattle.std.proofs.Common.{◌≡◌, ℕ, List, [], ◌∷◌, ◌++◌, Bool, true, false, cond, eqb, Some, Option, Contains, AllPairs, refl, ap, sym, ◌∙◌, subst, inl, inr}
+use Rattle.std.proofs.Common.{◌≡◌, ℕ, List, [], ◌∷◌, ◌++◌, Bool, false, cond, eqb, Option, Contains, AllPairs, refl, ap, sym, ◌∙◌, subst, inl, inr}
 use Rattle.std.specs.Prelude.{flat_map, option_map}
 use Rattle.std.proofs.lemmas.Bool.{cases_Bool, eqb-true}
 use Rattle.std.proofs.lemmas.Option.{same_Some}
@@ -17,8 +17,8 @@ use Rattle.core_state.specs.Kind.{Kind, Step, learned, found_by, view_after, aft
 use Rattle.core_state.specs.Encoding.{reserved_by}
 use Rattle.core_state.specs.Nodes.{nodes_of, nodes_in}
 use Rattle.core_state.specs.Parts.{task_on_pool, update_on_nodes}
-use Rattle.core_state.specs.Batches.{MayReserve, reserve, new_batch, reserved_if, MayLetSlotGo, let_slot_go, let_go_view, without_batch, nodes_for, batch_nodes_of}
-use Rattle.core_state.specs.Bodies.{IsForSlot, AreOtherSlots, all_batches}
+use Rattle.core_state.specs.Batches.{MayReserve, reserve, new_batch, reserved_if, MayLetSlotGo, let_slot_go, let_go_view, nodes_for, batch_nodes_of}
+use Rattle.core_state.specs.Bodies.{IsForSlot, AreOtherSlots}
 use Rattle.core_state.specs.BodiesAgree.{body_scope}
 use Rattle.core_state.specs.NodesInOnePlace.{NodesInOnePlace, node_scope}
 use Rattle.core_state.specs.Scope.{sight, IsOnce}

@@ -1,5 +1,5 @@
 -- A node is taken off the pool: the nodes are in one place.
-use Rattle.std.proofs.Common.{◌≡◌, ◌≢◌, ◌⊎◌, ℕ, suc, ◌<◌, List, [], ◌∷◌, ◌++◌, Some, length, Contains, refl, ap, sym, ◌∙◌, subst, inl, inr, arith}
+use Rattle.std.proofs.Common.{◌≡◌, ◌≢◌, ◌⊎◌, ℕ, suc, ◌<◌, List, [], ◌∷◌, ◌++◌, length, Contains, refl, ap, sym, ◌∙◌, subst, inl, inr, arith}
 use Rattle.std.specs.Prelude.{flat_map}
 use Rattle.std.proofs.lemmas.Bool.{cases_eq}
 use Rattle.std.proofs.lemmas.List.Elements.{Contains-append_left, Contains-append_right, Contains-append_cases}
@@ -9,12 +9,11 @@ use Rattle.word_map.specs.Names.{pool_lock}
 use Rattle.core_state.specs.declared.view.Mode.TheVariants.{Write}
 use Rattle.core_state.specs.declared.view.Task.{Task}
 use Rattle.core_state.specs.declared.view.Task.TheVariants.{Nothing, Pooling}
-use Rattle.core_state.specs.declared.view.Batch.{Batch}
 use Rattle.core_state.specs.declared.view.View.{View}
 use Rattle.core_state.specs.View.{Holds}
 use Rattle.core_state.specs.Core.{Core, word_of}
 use Rattle.core_state.specs.Kind.{Step, view_after, after_step}
-use Rattle.core_state.specs.Nodes.{Nodes, Home, free, owned, IsInTree, IsOwnedBy, nodes_in, nodes_of}
+use Rattle.core_state.specs.Nodes.{Nodes, free, owned, IsInTree, IsOwnedBy, nodes_in, nodes_of}
 use Rattle.core_state.specs.Parts.{task_on_pool}
 use Rattle.core_state.specs.Batches.{batch_nodes_of}
 use Rattle.core_state.specs.Bodies.{IsChain}
@@ -132,8 +131,8 @@ module _ (core : Core) (step : Step) (a : Acts core step) (asked : MayStorePoolH
   once_before =
       subst IsOnce (nodes-seen p step.view) (each-seat node_scope (λ k v. refl) core (λ number view. IsOnce (nodes_of view)) a.laws.places.owned_once step.seat p step.view a.at a.pass)
 
-  owns : OwnsAfter store_pool_head core step a later
-  owns = record {
+  pub taken-owns : OwnsAfter store_pool_head core step a later
+  taken-owns = record {
     others = λ n number apart. (
       λ owns. subst (IsOwnedBy number) (sym (rehome-other nodes x (owned p) n (taken-other number n owns))) owns,
       λ owns.
@@ -229,4 +228,4 @@ module _ (core : Core) (step : Step) (a : Acts core step) (asked : MayStorePoolH
   }
 
   pub NodesInOnePlace-taken : NodesInOnePlace later After
-  NodesInOnePlace-taken = together After later pool (owner-part store_pool_head core step a later owns) (tree-part store_pool_head core step a update later taken-keeps)
+  NodesInOnePlace-taken = together After later pool (owner-part store_pool_head core step a later taken-owns) (tree-part store_pool_head core step a update later taken-keeps)

@@ -19,7 +19,8 @@ use Rattle.core_guard.proofs.LockSteps.{LocksAgree-other}
 use Rattle.core_guard.proofs.Touched.{Invariants-touches, IsKept, kept}
 use Rattle.core_batch.proofs.LocksStay.{LeavesLocks, reserve-still, let_slot_go-still, pool_head-still}
 use Rattle.core_batch.proofs.FreeBodies.{BodiesAgree-let_slot_go}
-use Rattle.core_batch.proofs.Giving.{pool_later, NodesInOnePlace-store_pool_head}
+use Rattle.core_batch.proofs.Giving.{NodesInOnePlace-store_pool_head}
+use Rattle.core_batch.proofs.PoolHeads.{pool_later}
 use Rattle.core_batch.proofs.PoolBodies.{BodiesAgree-store_pool_link, BodiesAgree-store_pool_head, BodiesAgree-store_pool_count}
 use Rattle.core_batch.proofs.PoolSteps.{NodesInOnePlace-store_pool_link, NodesInOnePlace-store_pool_count}
 use Rattle.core_batch.proofs.PoolTouches.{touches-reserve, touches-let_slot_go, touches-store_node, touches-store_pool_link, touches-store_pool_head, touches-store_pool_count}

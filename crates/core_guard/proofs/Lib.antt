@@ -18,3 +18,4 @@ pub mod ReadersLeft
 pub mod WalkReaders
 pub mod PlacesStay
 pub mod PlacesLeft
+pub mod Settled

@@ -34,3 +34,4 @@ pub mod LivesKeep
 pub mod WalkReaders
 pub mod Opened
 pub mod Keeping
+pub mod Settled

@@ -9,7 +9,7 @@ use Rattle.scene_model.specs.declared.entry.Entry.{Entry}
 use Rattle.scene_model.specs.declared.entry.Entry.TheVariants.{Move}
 use Rattle.scene_model.specs.Step.{HasBody}
 use Rattle.word_map.specs.declared.name.Name.{Name}
-use Rattle.word_map.specs.declared.name.Name.TheVariants.{BoxWord, LocA, LocB, Bound, Parent}
+use Rattle.word_map.specs.declared.name.Name.TheVariants.{State, BoxWord, LocA, LocB, Bound, Parent}
 use Rattle.word_map.specs.Names.{stripe_of}
 use Rattle.core_state.specs.declared.view.Mode.TheVariants.{Write}
 use Rattle.core_state.specs.declared.view.Task.{Task}
@@ -33,6 +33,7 @@ IsKnownIn view index phase = HasBody (scene_at view.config view.known) index (λ
 -- the pass holds the stripe of a live body that no batch holds: then all words of the body are what the pass knows
 pub record IsSettled (view : View) (index : ℕ) : Type 0 where
   pub stripe : Holds view (stripe_of view.config index) Write
+  pub live : 256 ≤ known_word view (State index)
   pub unheld : HasBody (scene_at view.config view.known) index (λ r. r.phase ≢ Held)
 
 -- a location of the body, as the pass knows it

@@ -1,3 +1,4 @@
 pub mod ReaderSteps
 pub mod WalksBegin
 pub mod WalkSteps
+pub mod Keeping

@@ -3,16 +3,18 @@ use Rattle.std.specs.Prelude.{⊤}
 use Rattle.std.proofs.Common.{◌≡◌, ◌≢◌, ℕ, refl, ap, sym, ◌∙◌, subst, arith}
 use Rattle.std.proofs.lemmas.Option.{same_Some}
 use Rattle.word_map.specs.declared.name.Name.{Name}
-use Rattle.word_map.specs.declared.name.Name.TheVariants.{Lock, SlotHead, SlotNext, State, User, Bound, Slot, Phase, LocA, PoolNext, PoolHead, PoolFree}
+use Rattle.word_map.specs.declared.name.Name.TheVariants.{Lock, SlotHead, SlotNext, State, User, Bound, Slot, Phase, LocA, PoolNext, PoolHead, PoolFree, Reader, Parent}
 use Rattle.core_state.specs.Core.{Core, word_of}
 use Rattle.core_state.specs.Kind.{Kind, Asking, Steps}
-use Rattle.core_state.specs.Event.{Event, opens_pass, splits_visitor, joins_visitor, looks, loads_lock, takes_read, takes_write, releases, loads_list, stores_link, stores_head, stores_field, creates, destroys, loads_body, sets_user, loads_slot, reserves, marks, places, attaches, takes_back, unmarks, lets_slot_go, stores_pool_link, stores_pool_head, stores_pool_count, stores_node, of_locks, of_lists, of_bodies, of_batches, of_pool}
+use Rattle.core_state.specs.Event.{Event, opens_pass, splits_visitor, joins_visitor, looks, loads_lock, takes_read, takes_write, releases, loads_list, stores_link, stores_head, stores_field, creates, destroys, loads_body, sets_user, loads_slot, reserves, marks, places, attaches, takes_back, unmarks, lets_slot_go, stores_pool_link, stores_pool_head, stores_pool_count, stores_node, of_locks, of_lists, of_bodies, of_batches, of_pool, begins_walk, ends_walk, of_walks, loads_parent, of_moves}
 use Rattle.core_state.specs.Looking.{look}
 use Rattle.core_state.specs.Locking.{load_lock, take_read, take_write, release}
 use Rattle.core_state.specs.Lists.{load_list, store_link, store_head}
 use Rattle.core_state.specs.Lives.{IsFieldOf, store_field, create, destroy, load_body, set_user}
 use Rattle.core_state.specs.Batches.{MayStoreNode, load_slot, reserve, mark, store_node, place_body, attach, take_back, unmark, let_slot_go}
 use Rattle.core_state.specs.Pool.{store_pool_link, store_pool_head, store_pool_count}
+use Rattle.core_state.specs.Walks.{begin_walk, end_walk}
+use Rattle.core_state.specs.Moving.{load_parent_moving}
 use Rattle.core_state.specs.Invariants.{Invariants}
 use Rattle.core_batch.proofs.Owning.{batch-home}
 use Rattle.core_state.specs.Nodes.{Nodes, Stands, node_in}
@@ -94,3 +96,6 @@ module _ (before after : Core) (h : Invariants before) where
   event_widens (of_pool (stores_pool_link e)) = let asked = e.allowed.asked in aside h.nodes _ store_pool_link before after e (PoolNext asked.node) asked.names (λ none. none)
   event_widens (of_pool (stores_pool_head e)) = let asked = e.allowed.asked in aside h.nodes _ store_pool_head before after e PoolHead asked.names (λ none. none)
   event_widens (of_pool (stores_pool_count e)) = let asked = e.allowed.asked in aside h.nodes _ store_pool_count before after e PoolFree asked.names (λ none. none)
+  event_widens (of_walks (begins_walk e)) = let asked = e.allowed.asked in aside h.nodes _ begin_walk before after e (Reader asked.number) asked.names (λ none. none)
+  event_widens (of_walks (ends_walk e)) = let asked = e.allowed.asked in aside h.nodes _ end_walk before after e (Reader asked.number) asked.names (λ none. none)
+  event_widens (of_moves (loads_parent index e)) = let asked = e.allowed.asked in aside h.nodes _ (load_parent_moving index) before after e (Parent asked.node) asked.names (λ none. none)

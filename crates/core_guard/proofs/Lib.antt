@@ -19,3 +19,4 @@ pub mod WalkReaders
 pub mod PlacesStay
 pub mod PlacesLeft
 pub mod Settled
+pub mod NodesLeft

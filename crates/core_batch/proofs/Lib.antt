@@ -8,6 +8,8 @@ pub mod Attaching
 pub mod Attached
 pub mod AttachLeaves
 pub mod AttachCover
+pub mod AttachReaders
+pub mod AttachPlaces
 pub mod NodesStep
 pub mod Rehome
 pub mod PoolSteps

@@ -35,3 +35,4 @@ pub mod WalkReaders
 pub mod Opened
 pub mod Keeping
 pub mod Settled
+pub mod NodesLeft

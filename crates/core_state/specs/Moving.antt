@@ -183,7 +183,7 @@ pub record IsOutToMove (view : View) (index : ℕ) : Type 0 where
 
 pub data StoresSide (view : View) (index q value : ℕ) : Type 0 where
   of_target : (target : List ℕ) → IsWidenedFor view index target → value ≡ slice_index target q → StoresSide view index q value
-  of_body_out : IsOutToMove view index → 1 ≤ value → value ≤ 16777216 → StoresSide view index q value
+  of_body_out : IsOutToMove view index → StoresSide view index q value
 
 pub record MayStoreSide (view : View) (name : Name) (value second : ℕ) : Type 0 where
   pub index : ℕ
@@ -191,6 +191,8 @@ pub record MayStoreSide (view : View) (name : Name) (value second : ℕ) : Type 
   pub names : name ≡ BoxWord index side
   pub not_last : side < 5
   pub settled : IsSettled view index
+  pub low : 1 ≤ value
+  pub high : value ≤ 16777216
   pub stores : StoresSide view index side value
 
 -- the view after a box word was stored: a move of a body that is out has begun, or a move went on

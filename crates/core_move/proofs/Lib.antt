@@ -1,1 +1,2 @@
 pub mod ParentLoads
+pub mod Keeping

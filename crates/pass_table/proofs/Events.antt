@@ -16,6 +16,7 @@ use Rattle.core_guard.proofs.Keeping.{locks-keep, lists-keep, bodies-keep}
 use Rattle.core_guard.proofs.Opened.{Invariants-opens}
 use Rattle.core_batch.proofs.Keeping.{batches-keep, pool-keep}
 use Rattle.core_query.proofs.Keeping.{walks-keep}
+use Rattle.core_move.proofs.Keeping.{moves-keep}
 
 pub events-keep : KeepsAll Event
 events-keep before after (opens_pass e) formed guards h = (Invariants-opens before after e h, GuardsHold-opens before after e guards)
@@ -28,7 +29,7 @@ events-keep before after (of_bodies e) formed guards h = bodies-keep before afte
 events-keep before after (of_batches e) formed guards h = batches-keep before after e formed guards h
 events-keep before after (of_pool e) formed guards h = pool-keep before after e formed guards h
 events-keep before after (of_walks e) formed guards h = walks-keep before after e formed guards h
-events-keep before after (of_moves e) formed guards h = ?
+events-keep before after (of_moves e) formed guards h = moves-keep before after e formed guards h
 
 pub Invariants-event : (before after : Core) → Event before after → IsFormed before → GuardsHold before → Invariants before → Invariants after
 Invariants-event before after event formed guards h = (events-keep before after event formed guards h).0

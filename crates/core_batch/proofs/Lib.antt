@@ -17,7 +17,6 @@ pub mod BatchesStep
 pub mod BodiesAside
 pub mod Newest
 pub mod BatchGuards
-pub mod AttachPlaces
 pub mod HeldFacts
 pub mod AttachTrees
 pub mod PoolHeads
@@ -25,7 +24,6 @@ pub mod Taking
 pub mod Giving
 pub mod SlotSteps
 pub mod AttachNodes
-pub mod AttachReaders
 pub mod MarkSteps
 pub mod UnmarkSteps
 pub mod PlaceSteps

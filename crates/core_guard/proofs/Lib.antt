@@ -35,4 +35,3 @@ pub mod WalkReaders
 pub mod Opened
 pub mod Keeping
 pub mod Settled
-pub mod NodesLeft

@@ -19,7 +19,7 @@ use Rattle.core_batch.proofs.BatchesStep.{ChangesBatches, batch-part, slot-kept}
 use Rattle.core_batch.proofs.BodiesAside.{IsAside, IsAsideWord, IsPoolCall, same_calls, pool_calls, BodiesAgree-aside}
 use Rattle.core_batch.proofs.Newest.{newest-changes, newest-holds, newest-held}
 use Rattle.core_batch.proofs.PoolHeads.{IsTaking, IsGiving, taking, giving, head-step}
-use Rattle.core_batch.proofs.PoolSteps.{IsPoolWord}
+use Rattle.core_batch.proofs.PoolSteps.{IsPoolWord, counting-pool}
 
 -- batches that stay as they were
 pub same-batches : (all from : List Batch) → ChangesBatches all from from
@@ -76,7 +76,7 @@ BodiesAgree-store_pool_link core step a asked =
 
 pub BodiesAgree-store_pool_count : (core : Core) (step : Step) (a : Acts core step) → MayStorePoolCount step.view step.name step.first step.second → BodiesAgree (after_step store_pool_count core step)
 BodiesAgree-store_pool_count core step a asked =
-    BodiesAgree-pool store_pool_count core step a (subst IsPoolWord (sym asked.names) tt) (λ value. refl) refl (pool_calls (subst IsPoolTask (sym asked.task) tt) tt)
+    BodiesAgree-pool store_pool_count core step a (subst IsPoolWord (sym asked.names) tt) (λ value. refl) refl (pool_calls (counting-pool step.view step.first asked.count) tt)
     (same-batches (all_batches (sight body_scope core)) step.view.batches) (λ l t. (λ has. has, λ has. has))
 
 -- ---- the head

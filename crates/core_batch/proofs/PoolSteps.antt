@@ -16,8 +16,8 @@ use Rattle.core_state.specs.Kind.{Step, after_step}
 use Rattle.core_state.specs.Nodes.{owned}
 use Rattle.core_state.specs.Parts.{task_on_pool}
 use Rattle.core_state.specs.Guards.{by_lock, guard_of}
-use Rattle.core_state.specs.NodesInOnePlace.{NodesInOnePlace, node_scope, PoolsUnder}
-use Rattle.core_state.specs.Pool.{IsPoolTask, MayStorePoolLink, store_pool_link, MayStorePoolCount, store_pool_count}
+use Rattle.core_state.specs.NodesInOnePlace.{NodesInOnePlace, node_scope, IsPooling, PoolsUnder}
+use Rattle.core_state.specs.Pool.{IsPoolTask, MayStorePoolLink, store_pool_link, CountsPool, counts_changes, counts_again, MayStorePoolCount, store_pool_count}
 use Rattle.core_state.specs.Scope.{Sight, sight}
 use Rattle.core_state.proofs.Steps.{word-step, word-step-other}
 use Rattle.core_guard.proofs.BodiesStep.{sound, known-now}
@@ -70,6 +70,11 @@ count-done s view task taken given many value is own count =
     let now = under.1 in
     omega arith
 
+-- it is stored between steps on the pool, or by a pass that does nothing
+pub counting-pool : (view : View) (value : ℕ) → CountsPool view value → IsPoolTask view.call.task
+counting-pool view value (counts_changes taken given task count) = subst IsPoolTask (sym task) tt
+counting-pool view value (counts_again task same) = subst IsPoolTask (sym task) tt
+
 pub NodesInOnePlace-store_pool_count : (core : Core) (step : Step) (a : Acts core step) → MayStorePoolCount step.view step.name step.first step.second → NodesInOnePlace a.laws.nodes (after_step store_pool_count core step)
 NodesInOnePlace-store_pool_count core step a asked =
     let h = a.laws.places in
@@ -77,9 +82,13 @@ NodesInOnePlace-store_pool_count core step a asked =
     let old = sight node_scope core in
     let new = sight node_scope (after_step store_pool_count core step) in
     let now = pool-now core step a asked.lock PoolFree tt in
-    let count = asked.count in
     let done : step.first ≡ length h.chain =
-    count-done old (seen_of node_scope step.number step.view) step.view.call.task asked.taken asked.given (length h.chain) step.first asked.task (pool-own store_pool_count core step a lock) (omega arith)
+    elim (asked.count) [
+      | counts_changes taken given task count ↦
+          count-done old (seen_of node_scope step.number step.view) step.view.call.task taken given (length h.chain) step.first task (pool-own store_pool_count core step a lock) (omega arith)
+      | counts_again task same ↦
+          same ∙ (sym now ∙ pool-idle store_pool_count core step a lock (λ pooling. subst (λ (t : Task). IsPooling (task_on_pool t)) task pooling))
+    ]
     in
     let stored : new.word PoolFree ≡ step.first = ap (λ (n : Name). word_of (after_step store_pool_count core step) n) (sym asked.names) ∙ word-step store_pool_count core step in
     let head : new.word PoolHead ≡ old.word PoolHead = word-step-other store_pool_count core step PoolHead (λ same. let e = same ∙ asked.names in absurd cc) in

@@ -38,6 +38,7 @@ use Rattle.core_batch.proofs.Lists.{filter_from}
 use Rattle.core_batch.proofs.Owning.{batch-home}
 use Rattle.core_batch.proofs.PoolBodies.{same-batches, taken_task, given_task, taken-changes, given-changes}
 use Rattle.core_batch.proofs.PoolHeads.{IsTaking, IsGiving, HeadStep, taking, giving, home_later, head-step, pool_later}
+use Rattle.core_batch.proofs.PoolSteps.{counting-pool}
 use Rattle.core_batch.proofs.Rehome.{rehome, rehome-other, rehome-stays, rehome-stood}
 use Rattle.core_batch.proofs.ReserveBodies.{reserved-new, reserved-low, reserved-changes, missed-word}
 use Rattle.core_batch.proofs.SlotSteps.{IsReserving, IsMissing, reserving, missing, reserve-step, freed-left}
@@ -389,7 +390,7 @@ module _ (core : Core) (step : Step) (a : Acts core step) where
         others = λ n number apart owns. refl;
         rebuild = refl;
         walk = refl;
-        call = pool_calls (subst IsPoolTask (sym asked.task) tt) tt;
+        call = pool_calls (counting-pool step.view step.first asked.count) tt;
         written = λ store among. (among, λ n some owns. refl);
         batches = same-batches (all_batches (sight body_scope core)) step.view.batches;
       })

@@ -92,14 +92,16 @@ store_pool_head = record {
   leaves = λ view name found value second. pool_by_head view found value;
 }
 
--- storing the count of free nodes asks that it is what it was, less what was taken and more by what was given
+-- the count is what it was, less what was taken and more by what was given; where nothing was, it is stored again
+pub data CountsPool (view : View) (value : ℕ) : Type 0 where
+  counts_changes : (taken given : ℕ) → view.call.task ≡ Pooling taken given → value + taken ≡ known_word view PoolFree + given → CountsPool view value
+  counts_again : view.call.task ≡ Nothing → value ≡ known_word view PoolFree → CountsPool view value
+
+-- storing the count of free nodes asks for the pool's lock
 pub record MayStorePoolCount (view : View) (name : Name) (value second : ℕ) : Type 0 where
-  pub taken : ℕ
-  pub given : ℕ
   pub names : name ≡ PoolFree
   pub lock : Holds view (pool_lock view.config) Write
-  pub task : view.call.task ≡ Pooling taken given
-  pub count : value + taken ≡ known_word view PoolFree + given
+  pub count : CountsPool view value
 
 -- Kind 11, store the number of free nodes
 abbrev pub store_pool_count : Kind

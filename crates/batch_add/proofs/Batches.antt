@@ -10,7 +10,7 @@ use Rattle.core_batch.proofs.SlotLists.{is_for-true, is_for-slot}
 use Rattle.core_batch.proofs.Lists.{contains_later}
 use Rattle.core_state.proofs.Beginning.{contains_flat, contains_first}
 use Rattle.core_state.specs.declared.view.View.{View}
-use Rattle.core_state.specs.Guards.{Owns, by_node, unplanned_nodes}
+use Rattle.core_state.specs.Guards.{Owns, by_node, private_nodes}
 use Rattle.core_state.specs.Nodes.{node_in}
 use Rattle.word_map.specs.declared.name.Name.{Name}
 
@@ -57,7 +57,7 @@ module _ (l t : ℕ) where
 -- a node of a batch of the pass is its own
 pub owns-batch_node : (view : View) (batch : Batch) (n : ℕ) (name : Name) → Contains view.batches batch → Contains batch.nodes n → node_in name ≡ Some n → Owns view.config view name
 owns-batch_node view batch n name among in_batch of_node =
-    by_node n (Contains-append_left (flat_map (λ b. b.nodes) view.batches) (view.loose ++ unplanned_nodes view.rebuild) n (contains_flat (λ b. b.nodes) view.batches batch n among in_batch)) of_node
+    by_node n (Contains-append_left (flat_map (λ b. b.nodes) view.batches) (view.loose ++ private_nodes view.rebuild) n (contains_flat (λ b. b.nodes) view.batches batch n among in_batch)) of_node
 
 -- a batch stands between others
 pub among-middle : (before : List Batch) (batch : Batch) (after : List Batch) → Contains (before ++ batch ∷ after) batch

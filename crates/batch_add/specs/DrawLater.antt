@@ -9,7 +9,7 @@ use Rattle.core_state.specs.declared.view.Batch.{Batch}
 use Rattle.core_state.specs.declared.view.View.{View}
 use Rattle.core_state.specs.View.{known_word}
 use Rattle.core_state.specs.Nodes.{node_in}
-use Rattle.core_state.specs.Guards.{Owns, by_node, unplanned_nodes}
+use Rattle.core_state.specs.Guards.{Owns, by_node, private_nodes}
 use Rattle.core_state.specs.Quietly.{IsSteady, of_pass}
 use Rattle.core_state.specs.Batches.{batch_nodes_of}
 use Rattle.core_state.proofs.Beginning.{contains_first, contains_flat}
@@ -26,8 +26,8 @@ use Rattle.batch_add.specs.WorkLater.{worked-more, worked-batches}
 pub own-node : (view : View) (n : ℕ) (name : Name) → Contains (batch_nodes_of view) n → node_in name ≡ Some n → Owns view.config view name
 own-node view n name among of_node =
     by_node n
-    (subst (λ (l : List ℕ). Contains l n) (append_assoc (flat_map (λ (b : Batch). b.nodes) view.batches) view.loose (unplanned_nodes view.rebuild))
-    (Contains-append_left (batch_nodes_of view) (unplanned_nodes view.rebuild) n among))
+    (subst (λ (l : List ℕ). Contains l n) (append_assoc (flat_map (λ (b : Batch). b.nodes) view.batches) view.loose (private_nodes view.rebuild))
+    (Contains-append_left (batch_nodes_of view) (private_nodes view.rebuild) n among))
     of_node
 
 module _ (p : Planned) (start view : View) (r : Reached) (h : HasDrawnUpTo p start view r) where

@@ -1,6 +1,6 @@
 -- The steps on batches and on the pool store no word that another pass has for itself.
-use Rattle.std.proofs.Common.{◌≡◌, ◌≢◌, ℕ, suc, ◌<◌, List, [], ◌++◌, Bool, true, false, Option, Some, None, option_map, refl, ap, sym, ◌∙◌, subst, inl, inr, arith}
-use Rattle.std.specs.Prelude.{Contains, IfSome, IsSomeAnd, if◌then◌else◌, flat_map}
+use Rattle.std.proofs.Common.{◌≡◌, ◌≢◌, ◌⊎◌, ℕ, suc, ◌<◌, List, [], ◌++◌, Bool, true, false, Option, Some, None, option_map, refl, ap, sym, ◌∙◌, subst, inl, inr, arith}
+use Rattle.std.specs.Prelude.{Contains, IfSome, IsSomeAnd, if◌then◌else◌, map, flat_map}
 use Rattle.std.proofs.lemmas.Bool.{eqb-true}
 use Rattle.std.proofs.lemmas.Option.{none-some, same_Some}
 use Rattle.std.proofs.lemmas.List.Elements.{Contains-append_left, Contains-append_right, Contains-append_cases}
@@ -15,22 +15,26 @@ use Rattle.core_state.specs.declared.view.Mode.TheVariants.{Write}
 use Rattle.core_state.specs.declared.view.Marked.{Marked}
 use Rattle.core_state.specs.declared.view.Batch.{Batch}
 use Rattle.core_state.specs.declared.view.Rebuild.{Rebuild}
+use Rattle.core_state.specs.declared.view.Waiting.{Waiting}
 use Rattle.core_state.specs.declared.view.View.{View}
-use Rattle.core_state.specs.View.{Holds}
-use Rattle.core_state.specs.Core.{Core, word_of, scene_of}
+use Rattle.core_state.specs.View.{IsPass, Holds}
+use Rattle.core_state.specs.Core.{Core, word_of, scene_of, IsViewAt}
 use Rattle.core_state.specs.Kind.{Kind, Step, found_by}
 use Rattle.core_state.specs.Encoding.{slot_tree, phase_out}
-use Rattle.core_state.specs.Parts.{update_on_cover}
-use Rattle.core_state.specs.Nodes.{IsOwnedBy, node_in, nodes_in, nodes_of}
+use Rattle.core_state.specs.Parts.{update_on_cover, update_on_trees}
+use Rattle.core_state.specs.Nodes.{returning, IsOwnedBy, node_in, nodes_in, nodes_of}
 use Rattle.core_state.specs.Updates.{IsStillMerged}
 use Rattle.core_state.specs.Batches.{HasMarked, MayMark, mark, MayUnmark, unmark, MayPlace, place_body, MayTakeBack, take_back, MayReserve, reserve, HasBatch, MayAttach, attach, MayStoreNode, store_node, MayLetSlotGo, let_slot_go}
 use Rattle.core_state.specs.Pool.{MayStorePoolLink, store_pool_link, MayStorePoolHead, store_pool_head, MayStorePoolCount, store_pool_count}
 use Rattle.core_state.specs.BodiesCovered.{cover_scope, KeepsMerged}
-use Rattle.core_state.specs.Guards.{by_lock, KeepsGuards, unplanned_nodes}
+use Rattle.core_state.specs.Guards.{by_lock, KeepsGuards, private_nodes}
 use Rattle.core_state.specs.Scope.{sight}
+use Rattle.core_state.specs.TreesSound.{tree_scope, AreTops}
+use Rattle.core_state.specs.Invariants.{Invariants}
 use Rattle.core_guard.proofs.BodiesStep.{sound, known-now}
 use Rattle.core_guard.proofs.Guarded.{marked-held}
 use Rattle.core_guard.proofs.Seats.{each-seat}
+use Rattle.core_batch.proofs.Lists.{map_from}
 use Rattle.core_batch.proofs.Mapped.{marks-apart, held-by}
 use Rattle.core_batch.proofs.Owning.{same-seat, owner_one, owned-by, batch-home, number-low, slot-reserved}
 use Rattle.core_guard.proofs.Leaving.{Acts, some_and_map}
@@ -148,19 +152,43 @@ node_word core view (Bound m k q) n e = (λ h. subst (HasNode view) (same_Some m
 node_word core view (Parent m) n e = (λ h. subst (HasNode view) (same_Some m n e) h, tt)
 node_word core view _ n e = absurd (none-some n e)
 
-unplanned_among : (o : Option Rebuild) (n : ℕ) → Contains (unplanned_nodes o) n → Contains (nodes_in o) n
-unplanned_among None n h = h
-unplanned_among (Some r) n h = go r.is_planned h
+-- a pass has such a node for a batch, to give it back, or as one of its update; or it is a top of what the update gives back
+abbrev HasTop : View → ℕ → Type 0
+HasTop view n = IsSomeAnd view.rebuild (λ r. (w : Waiting) × Contains r.returning w × (w.node ≡ n))
+
+private_among : (o : Option Rebuild) (n : ℕ) → Contains (private_nodes o) n → Contains (nodes_in o) n ⊎ IsSomeAnd o (λ r. (w : Waiting) × Contains r.returning w × (w.node ≡ n))
+private_among None n h = inl h
+private_among (Some r) n h =
+    elim (Contains-append_cases (if r.is_planned then [] else r.nodes) (map (λ w. w.node) r.returning) n h) [
+      | inl c ↦ inl (go r.is_planned c)
+      | inr c ↦ inr (map_from (λ (w : Waiting). w.node) r.returning n c)
+    ]
   where
     go : (test : Bool) → Contains (if test then [] else r.nodes) n → Contains r.nodes n
     go true c = let below = c.1 in absurd (omega arith)
     go false c = c
 
-behind : (xs ys zs : List ℕ) (n : ℕ) → (Contains ys n → Contains zs n) → Contains (xs ++ ys) n → Contains (xs ++ zs) n
-behind xs ys zs n more h = elim (Contains-append_cases xs ys n h) [ inl c ↦ Contains-append_left xs zs n c | inr c ↦ Contains-append_right xs zs n (more c) ]
+among_all : (view : View) (n : ℕ) → HasNode view n → Contains (nodes_of view) n ⊎ HasTop view n
+among_all view n h =
+    let batches = flat_map (λ (b : Batch). b.nodes) view.batches in
+    elim (Contains-append_cases batches _ n h) [
+      | inl c ↦ inl (Contains-append_left batches _ n c)
+      | inr c ↦ elim (Contains-append_cases view.loose _ n c) [
+        | inl d ↦ inl (Contains-append_right batches _ n (Contains-append_left view.loose (nodes_in view.rebuild) n d))
+        | inr d ↦ elim (private_among view.rebuild n d) [
+          | inl e ↦ inl (Contains-append_right batches _ n (Contains-append_right view.loose (nodes_in view.rebuild) n e))
+          | inr e ↦ inr e
+        ]
+      ]
+    ]
 
-among_all : (view : View) (n : ℕ) → HasNode view n → Contains (nodes_of view) n
-among_all view n h = behind (flat_map (λ b. b.nodes) view.batches) _ _ n (behind view.loose _ _ n (unplanned_among view.rebuild n)) h
+-- a top is to be given back, so it is in no batch and owned by nobody
+top-home : (core : Core) (h : Invariants core) (seat number : ℕ) (view : View) → IsViewAt core seat view → IsPass view number → (n : ℕ) → HasTop view n → h.nodes.home n ≡ returning number
+top-home core h seat number view found own n top = go view.rebuild (each-seat tree_scope (λ k v. refl) core _ h.trees.tops seat number view found own) top
+  where
+    go : (o : Option Rebuild) → IfSome (option_map update_on_trees o) (λ r. AreTops h.nodes (sight tree_scope core) number r) → IsSomeAnd o (λ r. (w : Waiting) × Contains r.returning w × (w.node ≡ n)) → h.nodes.home n ≡ returning number
+    go None tops t = absurd t
+    go (Some r) tops t = subst (λ (k : ℕ). h.nodes.home k ≡ returning number) t.2 (tops.tops t.0 t.1).owned
 
 pub GuardsHold-store_node : IsGuarded MayStoreNode store_node
 GuardsHold-store_node =
@@ -169,9 +197,12 @@ GuardsHold-store_node =
     (λ stored seat number view apart found own.
     let word = node_word core view step.name asked.node asked.of_node in
     let home = batch-home core a.laws.nodes a.laws.places step.seat step.number step.view a.at a.pass asked.node asked.owns in (
-      λ holder.
-          let owns = owned-by core a.laws.nodes a.laws.places seat number view found own asked.node (among_all view asked.node (word.0 holder)) in
-          numbered core step a seat number view apart found own (owner_one number step.number (a.laws.nodes.home asked.node) owns (subst (IsOwnedBy step.number) (sym home) refl)),
+      λ holder. elim (among_all view asked.node (word.0 holder)) [
+        | inl has ↦
+            let owns = owned-by core a.laws.nodes a.laws.places seat number view found own asked.node has in
+            numbered core step a seat number view apart found own (owner_one number step.number (a.laws.nodes.home asked.node) owns (subst (IsOwnedBy step.number) (sym home) refl))
+        | inr top ↦ let back = sym home ∙ top-home core a.laws seat number view found own asked.node top in absurd cc
+      ],
       word.1,
     )))
 

@@ -22,7 +22,7 @@ use Rattle.core_state.specs.Kind.{Kind, Asking, Step, Steps, found_by}
 use Rattle.core_state.specs.Formed.{IsFormed}
 use Rattle.core_state.specs.Nodes.{node_in}
 use Rattle.core_state.specs.Updates.{HasUpdate, IsStillMerged}
-use Rattle.core_state.specs.Guards.{Owns, by_lock, by_creation, by_batch, by_mark, by_node, by_update, IsBodyWord, IsHeldWord, IsUpdateWord, KeepsGuards, GuardsHold, guard_of, unplanned_nodes}
+use Rattle.core_state.specs.Guards.{Owns, by_lock, by_creation, by_batch, by_mark, by_node, by_update, IsBodyWord, IsHeldWord, IsUpdateWord, KeepsGuards, GuardsHold, guard_of, private_nodes}
 use Rattle.core_state.specs.Invariants.{Invariants}
 use Rattle.core_state.proofs.Forming.{unspent_pass}
 use Rattle.core_state.proofs.Guarding.{GuardsHold-step, writer-alone}
@@ -41,7 +41,7 @@ abbrev pub HasMark : View → ℕ → Type 0
 HasMark view i = (batch : Batch) × (m : Marked) × Contains view.batches batch × Contains batch.marked m × (m.index ≡ i)
 
 abbrev pub HasNode : View → ℕ → Type 0
-HasNode view n = Contains (flat_map (λ b. b.nodes) view.batches ++ (view.loose ++ unplanned_nodes view.rebuild)) n
+HasNode view n = Contains (flat_map (λ b. b.nodes) view.batches ++ (view.loose ++ private_nodes view.rebuild)) n
 
 abbrev pub Updates : View → Type 0
 Updates view = HasUpdate view (λ r. ⊤)

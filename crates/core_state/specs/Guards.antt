@@ -1,5 +1,5 @@
 -- Which lock guards which word, what else a pass has for itself, and what others may have stored meanwhile.
-use Rattle.std.specs.Prelude.{◌≡◌, ◌≢◌, true, ℕ, ◌<◌, ◌≤◌, if◌then◌else◌, List, [], ◌∷◌, ◌++◌, length, flat_map, Contains, Option, Some, None, ⊤}
+use Rattle.std.specs.Prelude.{◌≡◌, ◌≢◌, true, ℕ, ◌<◌, ◌≤◌, if◌then◌else◌, List, [], ◌∷◌, ◌++◌, length, map, flat_map, Contains, Option, Some, None, ⊤}
 use Rattle.scene_model.specs.declared.body_view.Phase.TheVariants.{Held}
 use Rattle.scene_model.specs.Scene.{Scene}
 use Rattle.scene_model.specs.Step.{HasBody}
@@ -63,10 +63,11 @@ IsUpdateWord r (Main l) = ⊤
 IsUpdateWord r (Slot l t) = (root : ℕ) × IsStillMerged r l t root
 IsUpdateWord r _ = ⊥
 
--- the nodes of an update that stand in no tree yet: later others climb in them too
-abbrev pub unplanned_nodes : Option Rebuild → List ℕ
-unplanned_nodes None = []
-unplanned_nodes (Some r) = if r.is_planned then [] else r.nodes
+-- the nodes of an update whose words nobody else stores: all that it has until its trees are planned, since later others
+-- climb in them too; and the tops of what is left of merged trees, which nobody reaches any more
+abbrev pub private_nodes : Option Rebuild → List ℕ
+private_nodes None = []
+private_nodes (Some r) = (if r.is_planned then [] else r.nodes) ++ map (λ w. w.node) r.returning
 
 -- a word that nobody else stores
 pub data Owns (c : Config) (view : View) (name : Name) : Type 0 where
@@ -74,7 +75,7 @@ pub data Owns (c : Config) (view : View) (name : Name) : Type 0 where
   by_creation : (i : ℕ) → view.call.task ≡ Creating i → IsBodyWord i name → Owns c view name
   by_batch : (batch : Batch) → Contains view.batches batch → name ≡ Slot batch.layer batch.slot → Owns c view name
   by_mark : (batch : Batch) (m : Marked) → Contains view.batches batch → Contains batch.marked m → IsHeldWord m.index name → Owns c view name
-  by_node : (n : ℕ) → Contains (flat_map (λ b. b.nodes) view.batches ++ (view.loose ++ unplanned_nodes view.rebuild)) n → node_in name ≡ Some n → Owns c view name
+  by_node : (n : ℕ) → Contains (flat_map (λ b. b.nodes) view.batches ++ (view.loose ++ private_nodes view.rebuild)) n → node_in name ≡ Some n → Owns c view name
   by_update : HasUpdate view (λ r. IsUpdateWord r name) → Owns c view name
 
 -- ---- what others store

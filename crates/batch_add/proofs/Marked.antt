@@ -33,6 +33,7 @@ use Rattle.core_state.specs.Bodies.{IsForSlot}
 use Rattle.core_state.specs.Batches.{is_for, change_batch, marked_now, MayMark, mark}
 use Rattle.core_state.proofs.Beginning.{contains_first}
 use Rattle.core_state.proofs.SameNames.{and_left, and_right}
+use Rattle.core_guard.proofs.Leaving.{Acts}
 use Rattle.core_batch.proofs.Mapped.{held-by}
 use Rattle.core_batch.proofs.MarkSteps.{unmarked-yet}
 use Rattle.pass_table.specs.Stepping.{step_by, Stored}
@@ -131,14 +132,15 @@ module _ (layer slot : ℕ) (start : View) (before : List Batch) (batch : Batch)
         let fits : k < length marks.bodies = omega (arith, length-map marks.bodies (λ (b : ℕ × FixBox). b.0)) in
         let one : ℕ × FixBox = get_or marks.bodies k body in
         let s = stored.1.stands in
-        let below : body_id.index < stored.1.before.config.bodies =
-        subst (λ (c : Config). body_id.index < c.bodies) (stepped-sizes MayMark mark view next name value 0 stored.0 stored.1) (body-below layer slot start before batch marks begun view at.0)
-        in
         let has : Contains batch_now.marked (marked_as one) =
         (k, omega (arith, length-map marks.bodies marked_as), get_or-map marked_as marks.bodies k body (marked_as one) fits)
         in
+        let allowed = stored.1.allowed in
+        let acts : Acts stored.1.before (step_by stored.1.seat view stored.1.number name value 0) =
+        record { at = allowed.at; pass = allowed.pass; named = allowed.named; formed = s.formed; guards = s.guards; laws = s.laws }
+        in
         let apart =
-        unmarked-yet stored.1.before (step_by stored.1.seat view stored.1.number name value 0) stored.1.allowed.at stored.1.allowed.pass s.formed s.guards s.laws (asks-mark value joins) below batch_now (marked_as one)
+        unmarked-yet stored.1.before (step_by stored.1.seat view stored.1.number name value 0) acts (asks-mark value joins) batch_now (marked_as one)
         (held-by stored.1.before stored.1.seat stored.1.number view batch_now stored.1.allowed.at stored.1.allowed.pass among) has
         in
         ne_eqb body_id.index _ (λ same. apart (sym (get_or-map (λ (b : ℕ × FixBox). b.0) marks.bodies k body past fits) ∙ sym same))

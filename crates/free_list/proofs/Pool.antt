@@ -19,21 +19,21 @@ use Rattle.core_state.specs.declared.view.View.{View}
 use Rattle.core_state.specs.View.{Holds, known_word}
 use Rattle.core_state.specs.Core.{Core, word_of}
 use Rattle.core_state.specs.Kind.{Kind, Asking, Step}
+use Rattle.core_state.specs.Parts.{task_on_pool}
 use Rattle.core_state.specs.Scope.{Sight, sight}
 use Rattle.core_state.specs.Bodies.{IsChain}
-use Rattle.core_state.specs.LocksAgree.{lock_scope}
 use Rattle.core_state.specs.NodesInOnePlace.{NodesInOnePlace, node_scope, IsPooling, PoolsUnder}
 use Rattle.core_state.specs.Lists.{MayLoadList, load_list}
-use Rattle.core_state.specs.Pool.{HasPool, MayStorePoolLink, store_pool_link, TakesNode, node_taken, node_given, pool_by_head, MayStorePoolHead, store_pool_head, MayStorePoolCount, store_pool_count}
+use Rattle.core_state.specs.Pool.{HasPool, MayStorePoolLink, store_pool_link, TakesNode, node_taken, node_given, pool_by_head, MayStorePoolHead, store_pool_head, MayStorePoolCount, counts_changes, store_pool_count}
 use Rattle.core_state.proofs.Beginning.{contains_first}
 use Rattle.core_guard.proofs.Chains.{chain-end, chain-first}
-use Rattle.core_guard.proofs.Likeness.{same_call}
+use Rattle.core_guard.proofs.Leaving.{Acts}
+use Rattle.core_guard.proofs.NodesLeft.{pool-own, pool-idle}
 use Rattle.core_guard.proofs.Seats.{seen_of}
 use Rattle.core_batch.proofs.Lists.{contains_later}
-use Rattle.core_batch.proofs.NodesStep.{pool-own, pool-idle}
 use Rattle.core_batch.proofs.Owning.{batch-below, batch-home}
-use Rattle.core_batch.proofs.PoolSteps.{IsPoolWord, free_owned, world-pool, pool-now}
-use Rattle.core_batch.proofs.StepBeside.{LeavesBeside}
+use Rattle.core_batch.proofs.PoolSteps.{IsPoolWord, world-pool, pool-now}
+use Rattle.core_batch.proofs.Rehome.{free_owned}
 use Rattle.pass_table.specs.Stepping.{step_by, Stepped, Stored}
 use Rattle.pass_table.specs.Knowing.{KnowsMore}
 use Rattle.pass_table.specs.Calls.{StoresWord}
@@ -50,8 +50,17 @@ module _ (view next : View) (name : Name) (found : ℕ) (stepped : Stepped MayLo
   list-word : known_word next name ≡ found
   list-word = loaded-word MayLoadList load_list view next name 0 0 found stepped (λ w operand. refl)
 
+-- the step was made where all holds
+acts-by : (asks : Asking) (kind : Kind) (view next : View) (name : Name) (first second found : ℕ) (stepped : Stepped asks kind view name first second found next)
+    → Acts stepped.before (step_by stepped.seat view stepped.number name first second)
+acts-by asks kind view next name first second found stepped =
+    let allowed = stepped.allowed in
+    let stands = stepped.stands in
+    record { at = allowed.at; pass = allowed.pass; named = allowed.named; formed = stands.formed; guards = stands.guards; laws = stands.laws }
+
 -- the count is the number of free nodes, but for what the own task took and gave
-count-under : (s : Sight) (view : View) (task : Task) (many : ℕ) → PoolsUnder s view task many → (¬ IsPooling task → s.word PoolFree ≡ many) → s.word PoolFree + given_in task ≡ many + taken_in task
+count-under : (s : Sight) (view : View) (task : Task) (many : ℕ) → PoolsUnder s view (task_on_pool task) many → (¬ IsPooling (task_on_pool task) → s.word PoolFree ≡ many)
+    → s.word PoolFree + given_in task ≡ many + taken_in task
 count-under s view (Pooling taken given) many own idle = own.1
 count-under s view _ many own idle = ap (λ (n : ℕ). n + 0) (idle (λ none. none))
 
@@ -59,7 +68,7 @@ same_numbers : (a b : ℕ) → (eqb a b ≡ true → a ≡ b) × (a ≡ b → eq
 same_numbers a b = (eqb-true a b, eq-eqb a b)
 
 -- under the lock of the pool
-module _ (view next : View) (name : Name) (found : ℕ) (of_pool : IsPoolWord name) (unlocked : lock_scope.names name ≡ false) (pool : HasPool view) (stepped : Stepped MayLoadList load_list view name 0 0 found next)
+module _ (view next : View) (name : Name) (found : ℕ) (pool : HasPool view) (stepped : Stepped MayLoadList load_list view name 0 0 found next)
   where
     core : Core
     core = stepped.before
@@ -73,20 +82,11 @@ module _ (view next : View) (name : Name) (found : ℕ) (of_pool : IsPoolWord na
     places : NodesInOnePlace stepped.stands.laws.nodes stepped.before
     places = stepped.stands.laws.places
 
-    lock : Holds view (pool_lock stepped.before.config) Write
-    lock = world-pool load_list stepped.before loading stepped.allowed.at stepped.allowed.pass stepped.stands.formed of_pool pool.lock
+    acts : Acts stepped.before loading
+    acts = acts-by MayLoadList load_list view next name 0 0 found stepped
 
-    leaves : LeavesBeside load_list stepped.before loading
-    leaves = record {
-      at = stepped.allowed.at;
-      pass = stepped.allowed.pass;
-      entry = λ value. refl;
-      unlocked = unlocked;
-      locks = refl;
-      walk = refl;
-      rebuild = refl;
-      call = same_call refl;
-    }
+    lock : Holds view (pool_lock stepped.before.config) Write
+    lock = world-pool stepped.before loading acts pool.lock
 
     -- how many nodes are free
     abbrev free_nodes : ℕ
@@ -95,8 +95,7 @@ module _ (view next : View) (name : Name) (found : ℕ) (of_pool : IsPoolWord na
     free-count : word_of stepped.before PoolFree + given_in view.call.task ≡ free_nodes + taken_in view.call.task
     free-count =
         count-under (sight node_scope stepped.before) (seen_of node_scope stepped.number view) view.call.task (length places.chain)
-        (pool-own load_list stepped.before loading leaves stepped.stands.laws.nodes stepped.stands.laws.nodes stepped.stands.laws.locks places lock)
-        (pool-idle load_list stepped.before loading leaves stepped.stands.laws.nodes stepped.stands.laws.nodes stepped.stands.laws.locks places lock)
+        (pool-own load_list stepped.before loading acts lock) (pool-idle load_list stepped.before loading acts lock)
 
     free-most : free_nodes ≤ view.config.nodes
     free-most =
@@ -106,7 +105,7 @@ module _ (view next : View) (name : Name) (found : ℕ) (of_pool : IsPoolWord na
 
     -- a word of the pool is the one that was known
     known-free : word_of stepped.before PoolFree ≡ known_word view PoolFree
-    known-free = pool-now load_list stepped.before loading stepped.allowed.at stepped.allowed.pass stepped.stands.formed of_pool PoolFree tt stepped.stands.guards lock
+    known-free = pool-now stepped.before loading acts pool.lock PoolFree tt
 
     -- what the pass is to give back is a batch node
     loose-below : (node : ℕ) → Contains view.loose node → node < view.config.nodes
@@ -145,10 +144,10 @@ loaded-head view next head pool stepped = record {
   step = stepped;
   more = list-more view next PoolHead head stepped;
   is = list-word view next PoolHead head stepped;
-  some = head-below view next PoolHead head tt refl pool stepped (sym stepped.finds);
-  left = head-left view next PoolHead head tt refl pool stepped (sym stepped.finds);
-  none = head-none view next PoolHead head tt refl pool stepped (sym stepped.finds);
-  loose = loose-below view next PoolHead head tt refl pool stepped;
+  some = head-below view next PoolHead head pool stepped (sym stepped.finds);
+  left = head-left view next PoolHead head pool stepped (sym stepped.finds);
+  none = head-none view next PoolHead head pool stepped (sym stepped.finds);
+  loose = loose-below view next PoolHead head pool stepped;
 }
 
 pub loaded-link : (view next : View) (node link : ℕ) → Stepped MayLoadList load_list view (PoolNext node) 0 0 link next → LoadedPoolLink view next node link
@@ -163,9 +162,9 @@ loaded-count view next count pool stepped = record {
   step = stepped;
   more = list-more view next PoolFree count stepped;
   is = list-word view next PoolFree count stepped;
-  many = free_nodes view next PoolFree count tt refl pool stepped;
-  counts = ap (λ (n : ℕ). n + given_in view.call.task) stepped.finds ∙ free-count view next PoolFree count tt refl pool stepped;
-  most = free-most view next PoolFree count tt refl pool stepped;
+  many = free_nodes view next PoolFree count pool stepped;
+  counts = ap (λ (n : ℕ). n + given_in view.call.task) stepped.finds ∙ free-count view next PoolFree count pool stepped;
+  most = free-most view next PoolFree count pool stepped;
 }
 
 -- ---- stores
@@ -191,7 +190,7 @@ linked-node view next node head stored = record {
 
 -- what storing the count asks, by the task
 pub may-count : (view : View) (count : ℕ) → HasPool view → (task : Task) → view.call.task ≡ task → IsPooling task → count + taken_in task ≡ known_word view PoolFree + given_in task → MayStorePoolCount view PoolFree count 0
-may-count view count pool (Pooling taken given) same pooling counts = record { taken = taken; given = given; names = refl; lock = pool.lock; task = same; count = counts }
+may-count view count pool (Pooling taken given) same pooling counts = record { names = refl; lock = pool.lock; count = counts_changes taken given same counts }
 may-count view count pool _ same pooling counts = absurd pooling
 
 pub stored-count : (view next : View) (count : ℕ) → Stored MayStorePoolCount store_pool_count view PoolFree count next → StoredCount view next count
@@ -222,8 +221,7 @@ module _ (view next : View) (value : ℕ) (pool : HasPool view) (stored : Stored
   -- a word of the pool is the one that was known
   known-pool : (name : Name) → IsPoolWord name → word_of stored.1.before name ≡ known_word view name
   known-pool name of_pool =
-      pool-now store_pool_head stored.1.before storing stored.1.allowed.at stored.1.allowed.pass stored.1.stands.formed tt name of_pool stored.1.stands.guards
-      (world-pool store_pool_head stored.1.before storing stored.1.allowed.at stored.1.allowed.pass stored.1.stands.formed tt pool.lock)
+      pool-now stored.1.before storing (acts-by MayStorePoolHead store_pool_head view next PoolHead value 0 stored.0 stored.1) pool.lock name of_pool
 
   store-places : NodesInOnePlace stored.1.stands.laws.nodes stored.1.before
   store-places = stored.1.stands.laws.places

@@ -93,6 +93,7 @@ module _ (view next : View) (name : Name) (found : ℕ) (pool : HasPool view) (s
     free_nodes = length places.chain
 
     free-count : word_of stepped.before PoolFree + given_in view.call.task ≡ free_nodes + taken_in view.call.task
+    unfolding places acts acts-by
     free-count =
         count-under (sight node_scope stepped.before) (seen_of node_scope stepped.number view) view.call.task (length places.chain)
         (pool-own load_list stepped.before loading acts lock) (pool-idle load_list stepped.before loading acts lock)

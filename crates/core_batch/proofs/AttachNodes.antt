@@ -1,6 +1,6 @@
 -- The nodes are in one place where a batch was attached.
-use Rattle.std.proofs.Common.{◌≡◌, ◌≢◌, ℕ, List, ◌++◌, Bool, true, false, not, Contains, refl, ap, sym, subst, inl, inr}
-use Rattle.std.specs.Prelude.{flat_map, option_map}
+use Rattle.std.proofs.Common.{◌≡◌, ◌≢◌, ℕ, ◌++◌, Bool, true, false, not, Contains, refl, ap, sym, subst, inl, inr}
+use Rattle.std.specs.Prelude.{flat_map}
 use Rattle.std.proofs.lemmas.Bool.{false≢true, cases_Bool}
 use Rattle.std.proofs.lemmas.List.Elements.{Contains-append_left, Contains-append_right, Contains-append_cases}
 use Rattle.core_state.specs.declared.view.Batch.{Batch}
@@ -9,8 +9,8 @@ use Rattle.core_state.specs.Core.{Core}
 use Rattle.core_state.specs.Kind.{view_after}
 use Rattle.core_state.specs.Formed.{IsFormed}
 use Rattle.core_state.specs.Nodes.{Nodes, free, spare, IsInTree, IsOwnedBy, nodes_of, nodes_in}
-use Rattle.core_state.specs.Scope.{Scope, sight, part_of, bare_view, IsOnce}
-use Rattle.core_state.specs.Bodies.{IsForSlot, all_batches}
+use Rattle.core_state.specs.Scope.{IsOnce}
+use Rattle.core_state.specs.Bodies.{IsForSlot}
 use Rattle.core_state.specs.NodesInOnePlace.{NodesInOnePlace, node_scope}
 use Rattle.core_state.specs.Batches.{is_for, attach, batch_nodes_of}
 use Rattle.core_state.specs.Invariants.{Invariants}
@@ -18,7 +18,7 @@ use Rattle.core_state.proofs.Beginning.{contains_flat, contains_filter}
 use Rattle.core_guard.proofs.Leaving.{Acts}
 use Rattle.core_guard.proofs.NodesLeft.{KeepsHomes, unseen-pool, unseen-update, pool-stays, tree-part, together}
 use Rattle.core_guard.proofs.Seats.{each-seat}
-use Rattle.core_batch.proofs.Lists.{filter_from, flat_from, pairs-left, pairs-across, flat-once, IsPartOf, part-refl, part-contains, part-pairs, part-append, part-filter, part-flat, part-set}
+use Rattle.core_batch.proofs.Lists.{filter_from, flat_from, pairs-left, pairs-across, flat-once, IsPartOf, part-refl, part-contains, part-pairs, part-append, part-filter, part-flat}
 use Rattle.core_batch.proofs.Attaching.{Attaching, step_of, only_own, batch_node, was_home}
 use Rattle.core_batch.proofs.Attached.{nodes_after, node-after, attached_node, other_node, home-outside, home-back, home-forth, core_after}
 use Rattle.core_batch.proofs.NodesStep.{OwnsAfter, owner-part}
@@ -56,16 +56,6 @@ module _ (core : Core) (a : Attaching core) where
   left_nodes-part =
       part-append (flat_map (λ (b : Batch). b.nodes) left_view.batches) (flat_map (λ (b : Batch). b.nodes) a.view.batches) (a.view.loose ++ nodes_in a.view.rebuild) (a.view.loose ++ nodes_in a.view.rebuild)
       (part-flat (λ (b : Batch). b.nodes) left_view.batches a.view.batches left-part) (part-refl (a.view.loose ++ nodes_in a.view.rebuild))
-
--- what a law sees of batches afterwards is a part of what it saw
-pub batches-left : (core : Core) (a : Attaching core) (scope : Scope) → ((bare view : View) → (scope.part bare view).batches ≡ view.batches)
-    → IsPartOf (all_batches (sight scope (core_after core a))) (all_batches (sight scope core))
-batches-left core a scope reads =
-    let bare = bare_view a.number in
-    let left = left_view core a in
-    part-set (part_of scope) (λ (v : View). v.batches) core.views a.seat a.view left (scope.part bare a.view) (scope.part bare left) a.at (ap (option_map (λ n. scope.part (bare_view n) a.view)) a.pass)
-    (ap (option_map (λ n. scope.part (bare_view n) left)) a.pass)
-    (subst (λ (l : List Batch). IsPartOf l (scope.part bare a.view).batches) (sym (reads bare left)) (subst (λ (l : List Batch). IsPartOf left.batches l) (sym (reads bare a.view)) (left-part core a)))
 
 module _ (core : Core) (a : Attaching core) (formed : IsFormed core) (h : Invariants core) where
   -- nodes that are left are none of the batch

@@ -29,7 +29,7 @@ use Rattle.core_state.specs.BodiesCovered.{cover_scope, KeepsMerged}
 use Rattle.core_state.specs.Guards.{by_lock, KeepsGuards, unplanned_nodes}
 use Rattle.core_state.specs.Scope.{sight}
 use Rattle.core_guard.proofs.BodiesStep.{sound, known-now}
-use Rattle.core_guard.proofs.Guarded.{marked-held}
+use Rattle.core_guard.proofs.Alone.{marked-held}
 use Rattle.core_guard.proofs.Seats.{each-seat}
 use Rattle.core_batch.proofs.Mapped.{marks-apart, held-by}
 use Rattle.core_batch.proofs.Owning.{same-seat, owner_one, owned-by, batch-home, number-low, slot-reserved}

@@ -38,4 +38,3 @@ pub mod LocksStay
 pub mod PoolKeep
 pub mod Keeping
 pub mod PoolTouches
-pub mod HeldNodes

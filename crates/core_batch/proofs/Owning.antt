@@ -2,7 +2,7 @@
 use Rattle.std.proofs.Common.{◌≡◌, ◌≢◌, ℕ, ◌<◌, List, ◌++◌, Contains, Option, Some, None, option_map, append_assoc, refl, ap, sym, ◌∙◌, subst, inl, inr, arith, suc}
 use Rattle.std.specs.Prelude.{flat_map}
 use Rattle.std.proofs.lemmas.Bool.{cases_eq}
-use Rattle.std.proofs.lemmas.List.Elements.{Contains-append_left, Contains-append_right, Contains-append_cases}
+use Rattle.std.proofs.lemmas.List.Elements.{Contains-append_left, Contains-append_cases}
 use Rattle.core_state.specs.declared.view.Role.{Role}
 use Rattle.core_state.specs.declared.view.Role.TheVariants.{Pass}
 use Rattle.core_state.specs.declared.view.Batch.{Batch}
@@ -88,9 +88,6 @@ nodes_split view = sym (append_assoc (flat_map (λ (b : Batch). b.nodes) view.ba
 
 pub batch_among : (view : View) (n : ℕ) → Contains (batch_nodes_of view) n → Contains (nodes_of view) n
 batch_among view n h = subst (λ (l : List ℕ). Contains l n) (sym (nodes_split view)) (Contains-append_left (batch_nodes_of view) (nodes_in view.rebuild) n h)
-
-pub update_among : (view : View) (n : ℕ) → Contains (nodes_in view.rebuild) n → Contains (nodes_of view) n
-update_among view n h = subst (λ (l : List ℕ). Contains l n) (sym (nodes_split view)) (Contains-append_right (batch_nodes_of view) (nodes_in view.rebuild) n h)
 
 -- a law sees all of them
 pub nodes-seen : (number : ℕ) (view : View) → nodes_of (seen_of node_scope number view) ≡ nodes_of view

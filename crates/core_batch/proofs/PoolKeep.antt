@@ -1,18 +1,18 @@
 -- The steps on slots, own nodes and the pool keep all invariants.
-use Rattle.std.proofs.Common.{◌≡◌, ℕ, Some, None, false, option_map, refl, ap, sym, ◌∙◌}
+use Rattle.std.proofs.Common.{◌≡◌, ℕ, Some, false, refl, ap}
 use Rattle.std.proofs.lemmas.Bool.{false≢true}
 use Rattle.std.proofs.lemmas.Option.{none-some}
 use Rattle.word_map.specs.declared.name.Name.{Name}
 use Rattle.word_map.specs.declared.name.Name.TheVariants.{Child, Bound, Parent}
 use Rattle.core_state.specs.Core.{Core}
-use Rattle.core_state.specs.Kind.{Kind, Step, learned, found_by, view_after, after_step}
+use Rattle.core_state.specs.Kind.{Kind, Step, learned, found_by, after_step}
 use Rattle.core_state.specs.Batches.{MayReserve, reserve, MayStoreNode, store_node, MayLetSlotGo, let_slot_go}
 use Rattle.core_state.specs.Pool.{MayStorePoolLink, store_pool_link, MayStorePoolHead, store_pool_head, MayStorePoolCount, store_pool_count}
 use Rattle.core_state.specs.Frame.{IsOutside}
 use Rattle.core_state.specs.Nodes.{node_in}
 use Rattle.core_state.specs.LocksAgree.{LocksAgree, lock_scope}
-use Rattle.core_state.specs.BodiesAgree.{BodiesAgree, BodiesAgreeIn, body_scope}
-use Rattle.core_state.specs.NodesInOnePlace.{NodesInOnePlace, NodesInOnePlaceIn, node_scope}
+use Rattle.core_state.specs.BodiesAgree.{BodiesAgreeIn, body_scope}
+use Rattle.core_state.specs.NodesInOnePlace.{NodesInOnePlaceIn, node_scope}
 use Rattle.core_state.proofs.Frames.{frame, step-same}
 use Rattle.core_guard.proofs.Leaving.{Acts}
 use Rattle.core_guard.proofs.LockSteps.{LocksAgree-other}

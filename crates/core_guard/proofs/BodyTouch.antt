@@ -36,7 +36,7 @@ use Rattle.core_state.specs.BodiesAgree.{body_scope, IsUnderStripe}
 use Rattle.core_state.specs.LocationsHold.{location_scope, Removes, IsPlannedIn, is_location_store}
 use Rattle.core_state.proofs.Lookups.{at_one}
 use Rattle.core_state.proofs.Steps.{word-step-other}
-use Rattle.core_guard.proofs.Guarded.{lock-alone}
+use Rattle.core_guard.proofs.Alone.{lock-alone}
 use Rattle.core_guard.proofs.OneBody.{history-made, scene-made}
 use Rattle.core_guard.proofs.Seats.{each-seat, flat-step}
 use Rattle.core_guard.proofs.Leaving.{Acts, IsHandled, IsIdle, Stays, IsApart, After, Last, Touches, leaves-same, as_before-same}

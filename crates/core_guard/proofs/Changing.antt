@@ -1,14 +1,11 @@
 -- What a step on a lock, and the opening of a pass, leave of the sights of all laws but that of locks.
-use Rattle.std.proofs.Common.{◌≡◌, ℕ, suc, List, [], ◌∷◌, ◌++◌, Bool, true, false, cond, eqb, Some, None, set, refl, ap, sym, ◌∙◌, subst}
+use Rattle.std.proofs.Common.{◌≡◌, ℕ, List, [], ◌∷◌, ◌++◌, Bool, true, false, cond, eqb, Some, None, set, refl, ap, sym, ◌∙◌, subst}
 use Rattle.std.specs.Prelude.{IsTrue, filter_map, option_map}
 use Rattle.std.proofs.lemmas.Bool.{eqb-true}
 use Rattle.std.proofs.lemmas.Option.{none-some}
 use Rattle.std.proofs.lemmas.List.Sums.{fold-append}
-use Rattle.std.proofs.lemmas.List.Elements.{filter_map-append}
-use Rattle.word_map.specs.declared.config.Config.{Config}
 use Rattle.word_map.specs.declared.name.Name.{Name}
 use Rattle.word_map.specs.declared.name.Name.TheVariants.{Lock}
-use Rattle.core_state.specs.declared.view.Role.TheVariants.{Pass}
 use Rattle.core_state.specs.declared.view.Mode.{Mode}
 use Rattle.core_state.specs.declared.view.LockStep.{LockStep}
 use Rattle.core_state.specs.declared.view.LockStep.TheVariants.{Taken}
@@ -16,13 +13,13 @@ use Rattle.core_state.specs.declared.view.Task.{Task}
 use Rattle.core_state.specs.declared.view.Task.TheVariants.{Nothing}
 use Rattle.core_state.specs.declared.view.View.{View}
 use Rattle.core_state.specs.Log.{history}
-use Rattle.core_state.specs.View.{IsPass, mode_of, mode_after, HoldsNot, blank_view}
+use Rattle.core_state.specs.View.{IsPass, mode_of, mode_after, HoldsNot}
 use Rattle.core_state.specs.Core.{Core, word_of, IsViewAt}
 use Rattle.core_state.specs.Kind.{Kind, Step, learned, found_by, view_after}
 use Rattle.core_state.specs.Locking.{with_lock_step, taken_if, released}
 use Rattle.core_state.specs.Scope.{Scope, sight, part_of, bare_view}
-use Rattle.core_state.proofs.Frames.{filter_map-set, same_cond}
-use Rattle.core_guard.proofs.Likeness.{IsNothing, same_call, idle_calls, IsLike, IsLike-refl, AreLike, same_many, one_more, with_passes, zip-same, zip-set}
+use Rattle.core_state.proofs.Frames.{same_cond}
+use Rattle.core_guard.proofs.Likeness.{IsNothing, same_call, idle_calls, IsLike, IsLike-refl, AreLike, same_many, with_passes, zip-set}
 
 -- ---- the stepping view
 
@@ -87,10 +84,6 @@ after-like kind core step l = record {
 abbrev pub ReadsLike : (Task → Type 0) → Scope → Type 0
 ReadsLike idle scope = (number : ℕ) (v w : View) → IsLike idle v w → IsLike idle (scope.part (bare_view number) v) (scope.part (bare_view number) w)
 
--- and of a pass that has done nothing nothing
-abbrev pub ReadsBlank : Scope → Type 0
-ReadsBlank scope = (c : Config) (number further : ℕ) → scope.part (bare_view number) (blank_view c (Pass number further)) ≡ bare_view number
-
 -- a seat whose view is like what it was
 pub passes-set : {idle : Task → Type 0} (scope : Scope) (core : Core) (seat number : ℕ) (view w : View) → ReadsLike idle scope → IsViewAt core seat view → IsPass view number → IsLike idle view w
     → AreLike idle (sight scope core).passes (filter_map (part_of scope) (set core.views seat w))
@@ -98,21 +91,6 @@ passes-set {idle = idle} scope core seat number view w reads at pass like =
     same_many
     (zip-set (IsLike idle) IsLike-refl (part_of scope) core.views seat view w (scope.part (bare_view number) view) (scope.part (bare_view number) w) at
     (ap (option_map (λ n. scope.part (bare_view n) view)) pass) (ap (option_map (λ n. scope.part (bare_view n) w)) (like.number ∙ pass)) (reads number view w like))
-
--- a pass more that has done nothing
-pub passes-opened : {idle : Task → Type 0} (scope : Scope) (core : Core) (seat number further : ℕ) → ReadsBlank scope → IsViewAt core seat (blank_view core.config (Pass number (suc further)))
-    → AreLike idle (sight scope core).passes (filter_map (part_of scope) (set core.views seat (blank_view core.config (Pass number 0)) ++ blank_view core.config (Pass (suc number) further) ∷ []))
-passes-opened {idle = idle} scope core seat number further reads at =
-    let c = core.config in
-    let old = blank_view c (Pass number (suc further)) in
-    let left = blank_view c (Pass number 0) in
-    let right = blank_view c (Pass (suc number) further) in
-    let same : filter_map (part_of scope) (set core.views seat left) ≡ filter_map (part_of scope) core.views =
-    filter_map-set (part_of scope) core.views seat old left at (ap Some (reads c number 0 ∙ sym (reads c number (suc further))))
-    in
-    one_more (filter_map (part_of scope) core.views) (suc number) (zip-same (IsLike idle) IsLike-refl (filter_map (part_of scope) core.views))
-    (filter_map-append (part_of scope) (set core.views seat left) (right ∷ []) ∙
-    (λ i. same i ++ reads c (suc number) further i ∷ []))
 
 -- ---- the sight
 

@@ -24,7 +24,7 @@ use Rattle.core_state.specs.Updates.{EachUpdate, IsOldTree, IsStillMerged, IsNot
 use Rattle.core_state.specs.LocationsHold.{IsLocation, Removes, IsRemoved}
 use Rattle.core_state.specs.BodiesCovered.{BodiesCovered, cover_scope, IsCovered, IsInOldTree, LooksAsNoted, IsAsNoted, IsOpen, NotesHold, KeepsMerged, ExchangesDone}
 use Rattle.core_guard.proofs.Seats.{seen_of, has-step}
-use Rattle.core_guard.proofs.Turning.{point-grown, length-grown}
+use Rattle.core_guard.proofs.Growing.{point-grown, length-grown}
 use Rattle.core_guard.proofs.Leaving.{Acts, After, Last, Stays, IsApart, Leaves, Touches, IsHandled, home-back, each_update, if_some_map, if_some_both, body-forth, body-back, record-back, published-stands, old-stands, stands-in_tree}
 
 -- ---- what the law says of one body

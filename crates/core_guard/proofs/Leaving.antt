@@ -1,6 +1,6 @@
 -- What a step leaves of trees, bodies and passes. It stores one word, changes one view and the scene at few bodies: so a law
 -- is shown anew only of what the step touches, and stays of all else.
-use Rattle.std.proofs.Common.{◌≡◌, ◌≢◌, ◌⊎◌, ◌↔◌, ℕ, ◌+◌, ◌++◌, ◌<◌, ◌≤◌, List, Option, Some, None, false, refl, ap, sym, ◌∙◌, subst, inl, inr, arith}
+use Rattle.std.proofs.Common.{◌≡◌, ◌≢◌, ◌⊎◌, ◌↔◌, ℕ, ◌+◌, ◌++◌, ◌<◌, ◌≤◌, List, Option, Some, None, refl, ap, sym, ◌∙◌, subst, inl, inr, arith}
 use Rattle.std.specs.Prelude.{Contains, IsNone, IsSomeAnd, IfSome, option_map}
 use Rattle.std.proofs.lemmas.List.Elements.{filter_map-append}
 use Rattle.std.proofs.lemmas.Option.{none-some, same_Some}
@@ -11,7 +11,7 @@ use Rattle.scene_model.specs.Step.{HasBody}
 use Rattle.scene_model.specs.History.{scene_after}
 use Rattle.word_map.specs.Names.{IsName}
 use Rattle.word_map.specs.declared.name.Name.{Name}
-use Rattle.word_map.specs.declared.name.Name.TheVariants.{State, Phase, Layer, User, BoxWord, LocA, LocB, Child, Bound, Parent, Main, Slot, Reader}
+use Rattle.word_map.specs.declared.name.Name.TheVariants.{State, Phase, Layer, BoxWord, LocA, LocB, Child, Bound, Parent, Main, Slot, Reader}
 use Rattle.core_state.specs.declared.item.Store.{Store}
 use Rattle.core_state.specs.declared.view.Marked.{Marked}
 use Rattle.core_state.specs.declared.view.Batch.{Batch}
@@ -23,11 +23,11 @@ use Rattle.core_state.specs.declared.view.View.{View}
 use Rattle.core_state.specs.Log.{history, made_by}
 use Rattle.core_state.specs.View.{IsPass, no_call}
 use Rattle.core_state.specs.Core.{Core, word_of, scene_of, IsViewAt}
-use Rattle.core_state.specs.Kind.{Kind, Asking, Step, Steps, found_by, gained_by, view_after, after_step}
+use Rattle.core_state.specs.Kind.{Kind, Asking, Step, Steps, gained_by, view_after, after_step}
 use Rattle.core_state.specs.Formed.{IsFormed}
 use Rattle.core_state.specs.Guards.{GuardsHold}
 use Rattle.core_state.specs.Encoding.{NamesRoot, place, node_child, phase_join, slot_tree, layer_of, Covers, bound_in}
-use Rattle.core_state.specs.Nodes.{Nodes, Home, Stands, IsInTree, IsPublished, IsOwnedBy, node_in, Above, here, higher, under, made, superseded, returning}
+use Rattle.core_state.specs.Nodes.{Nodes, Home, Stands, IsInTree, IsPublished, IsOwnedBy, node_in, Above, here, higher, under, made, superseded}
 use Rattle.core_state.specs.Parts.{call_by_task, call_on_places, task_on_cover, task_at_place}
 use Rattle.core_state.specs.Scope.{Scope, Sight, sight, HasPass}
 use Rattle.core_state.specs.TreesSound.{TreesSoundIn, IsChild, nothing, a_body, a_node, IsPlaced, as_root, at_place, IsAsStored}
@@ -372,10 +372,6 @@ module _ (P : Record → Type 0) (steady : (r : Record) (user : ℕ) → P r ↔
   pub body-back : (o p : Option Record) → IsAsBefore o p → IsSomeAnd p P → IsSomeAnd o P
   body-back o p not_live h = h
   body-back o p (is_live r user) h = (steady r user).1 h
-
-pub none-forth : (o p : Option Record) → IsAsBefore o p → IsNone o → IsNone p
-none-forth o p not_live h = h
-none-forth o p (is_live r user) h = absurd cc
 
 pub none-back : (o p : Option Record) → IsAsBefore o p → IsNone p → IsNone o
 none-back o p not_live h = h

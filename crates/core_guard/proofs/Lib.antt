@@ -1,15 +1,14 @@
 pub mod Likeness
-pub mod UpdatesAlike
 pub mod Changing
 pub mod LockWords
 pub mod Chains
 pub mod Scenes
 pub mod FreeIndexes
 pub mod Seats
-pub mod Turning
+pub mod Growing
 pub mod Leaving
 pub mod BodiesStep
-pub mod Guarded
+pub mod Alone
 pub mod ListsAgree
 pub mod OneBody
 pub mod LivesAgree

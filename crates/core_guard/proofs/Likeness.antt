@@ -5,7 +5,6 @@ use Rattle.std.specs.List.{AllZip, cons_option}
 use Rattle.std.proofs.lemmas.List.{append-nil}
 use Rattle.std.proofs.lemmas.List.Elements.{AllZip-get_or, Contains-get_or, Contains-append_left, Contains-push_cases, length_all_zip}
 use Rattle.std.proofs.lemmas.List.Concat.{flat_map-append}
-use Rattle.std.proofs.lemmas.List.Sums.{fold-append}
 use Rattle.core_state.specs.declared.view.Mode.{Mode}
 use Rattle.core_state.specs.declared.view.Task.{Task}
 use Rattle.core_state.specs.declared.view.Task.TheVariants.{Nothing, Creating, Destroying, Pooling, Moving, Removing, Placing}
@@ -23,21 +22,6 @@ abbrev pub IsNothing : Task → Type 0
 IsNothing Nothing = ⊤
 IsNothing _ = ⊥
 
--- nothing but what has to do with the list of free indexes
-abbrev pub IsIndexing : Task → Type 0
-IsIndexing Nothing = ⊤
-IsIndexing (Creating index) = ⊤
-IsIndexing (Destroying index) = ⊤
-IsIndexing _ = ⊥
-
--- or with the pool of free nodes
-abbrev pub IsListing : Task → Type 0
-IsListing Nothing = ⊤
-IsListing (Creating index) = ⊤
-IsListing (Destroying index) = ⊤
-IsListing (Pooling taken given) = ⊤
-IsListing _ = ⊥
-
 -- who does nothing does nothing with lists
 pub nothing-is : (t : Task) → IsNothing t → t ≡ Nothing
 nothing-is Nothing calm = refl
@@ -47,21 +31,6 @@ nothing-is (Pooling taken given) calm = absurd calm
 nothing-is (Moving index target) calm = absurd calm
 nothing-is (Removing index) calm = absurd calm
 nothing-is (Placing index) calm = absurd calm
-
-pub nothing-indexes : (t : Task) → IsNothing t → IsIndexing t
-nothing-indexes t calm = subst IsIndexing (sym (nothing-is t calm)) tt
-
-pub indexing-lists : (t : Task) → IsIndexing t → IsListing t
-indexing-lists Nothing calm = tt
-indexing-lists (Creating index) calm = tt
-indexing-lists (Destroying index) calm = tt
-indexing-lists (Pooling taken given) calm = absurd calm
-indexing-lists (Moving index target) calm = absurd calm
-indexing-lists (Removing index) calm = absurd calm
-indexing-lists (Placing index) calm = absurd calm
-
-pub nothing-lists : (t : Task) → IsNothing t → IsListing t
-nothing-lists t calm = indexing-lists t (nothing-indexes t calm)
 
 -- a call is as before, or idle before and afterwards, and nothing was loaded or stored in it yet
 pub data IsLikeCall (idle : Task → Type 0) (before after : Call) : Type 0 where
@@ -94,15 +63,6 @@ module _ {idle : Task → Type 0} (C : Call → Type 0) (a b : Call) (none : (c 
   pub busy-forth : IsLikeCall idle a b → C a → C b
   busy-forth (same_call e) h = subst C (sym e) h
   busy-forth (idle_calls calm later loads stores) h = absurd (none a calm h)
-
-  pub busy-back : IsLikeCall idle a b → C b → C a
-  busy-back (same_call e) h = subst C e h
-  busy-back (idle_calls calm later loads stores) h = absurd (none b later h)
-
--- what a call says is so where it is idle and nothing was done in it
-pub call-like : {idle : Task → Type 0} (C : Call → Type 0) (a b : Call) → IsLikeCall idle a b → ((c : Call) → idle c.task → c.loads ≡ [] → c.stores ≡ [] → C c) → C a → C b
-call-like C a b (same_call e) fresh h = subst C (sym e) h
-call-like C a b (idle_calls calm later loads stores) fresh h = fresh b later loads stores
 
 -- ---- lists whose elements are like one another
 
@@ -214,10 +174,3 @@ flat-like {idle = idle} {X = X} f before after same none (one_more middle number
     (flat_map-append f middle (bare_view number ∷ []) ∙
     (ap (λ (l : List X). flat_map f middle ++ (l ++ [])) (none number) ∙
     (append-nil (flat_map f middle) ∙ zip-flat (IsLike idle) f before middle same zip)))
-
-pub fold-like : {idle : Task → Type 0} (g : ℕ → View → ℕ) (a : ℕ) (before after : List View) → ((n : ℕ) (v w : View) → IsLike idle v w → g n w ≡ g n v) → ((n k : ℕ) → g n (bare_view k) ≡ n) → AreLike idle before after
-    → fold g a after ≡ fold g a before
-fold-like {idle = idle} g a before after same none (same_many zip) = zip-fold (IsLike idle) g a before after same zip
-fold-like {idle = idle} g a before after same none (one_more middle number zip e) =
-    ap (λ (l : List View). fold g a l) e ∙
-    (fold-append g a middle (bare_view number ∷ []) ∙ (none (fold g a middle) number ∙ zip-fold (IsLike idle) g a before middle same zip))

@@ -145,7 +145,6 @@ module _ (kind : Kind) (core : Core) (step : Step) where
 pub laws-of-places : (core : Core) (h : Invariants core) → PlaceLaws h.nodes core
 laws-of-places core h = record { trees = h.trees; locations = h.locations; cover = h.cover; walks = h.walks; readers = h.readers }
 
-
 -- ---- the steps on the list of free indexes
 
 -- a task that does nothing with the pool

@@ -1,6 +1,5 @@
 -- The steps on locks keep all invariants.
-use Rattle.std.proofs.Common.{◌≡◌, ℕ, Option, None, refl, ap, sym, ◌∙◌, subst}
-use Rattle.word_map.specs.declared.name.Name.{Name}
+use Rattle.std.proofs.Common.{◌≡◌, ℕ, None, refl, sym, subst}
 use Rattle.core_state.specs.declared.view.Mode.{Mode}
 use Rattle.core_state.specs.declared.view.Mode.TheVariants.{Read, Write}
 use Rattle.core_state.specs.Core.{Core}

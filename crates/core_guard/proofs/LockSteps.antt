@@ -1,20 +1,18 @@
 -- The steps on locks, and the opening of a pass: the laws of locks and of bodies, and those that see no locks.
-use Rattle.std.proofs.Common.{◌≡◌, ℕ, suc, pow-add, ◌+◌, ◌*◌, ◌^◌, ◌≤◌, false, None, set, refl, ap, sym, ◌∙◌, subst, arith}
+use Rattle.std.proofs.Common.{◌≡◌, ℕ, pow-add, ◌+◌, ◌*◌, ◌^◌, ◌≤◌, false, None, set, refl, ap, sym, ◌∙◌, subst, arith}
 use Rattle.std.specs.Prelude.{filter_map}
 use Rattle.std.proofs.lemmas.Bool.{false≢true}
 use Rattle.std.proofs.lemmas.Nat.{pow_pos}
 use Rattle.word_map.specs.declared.name.Name.TheVariants.{Lock}
 use Rattle.word_map.specs.Names.{IsName}
-use Rattle.core_state.specs.declared.view.Role.TheVariants.{Pass}
 use Rattle.core_state.specs.declared.view.Mode.{Mode}
 use Rattle.core_state.specs.declared.view.Mode.TheVariants.{Read, Write}
 use Rattle.core_state.specs.declared.view.Task.{Task}
 use Rattle.core_state.specs.declared.view.Call.{Call}
 use Rattle.core_state.specs.Parts.{call_without_loads}
-use Rattle.core_state.specs.View.{IsPass, blank_view}
+use Rattle.core_state.specs.View.{IsPass}
 use Rattle.core_state.specs.Core.{Core, IsViewAt}
 use Rattle.core_state.specs.Kind.{Kind, Step, found_by, learned, view_after, after_step}
-use Rattle.core_state.specs.Seats.{after_split}
 use Rattle.core_state.specs.Locking.{bit_of, take, MayRead, MayWrite, MayRelease, release}
 use Rattle.core_state.specs.Formed.{IsFormed}
 use Rattle.core_state.specs.Frame.{IsOutside}
@@ -27,8 +25,8 @@ use Rattle.core_state.proofs.Frames.{frame, step-same, step-history}
 use Rattle.core_state.proofs.Steps.{word-step-other}
 use Rattle.core_guard.proofs.Likeness.{IsNothing, IsLikeCall, same_call, idle_calls, nothing-is, IsLike}
 use Rattle.core_guard.proofs.BodiesAlike.{BodiesAgree-like}
-use Rattle.core_guard.proofs.Changing.{ReadsLike, taken_if-like, released-like, after-like, passes-set, passes-opened, sight-passes}
-use Rattle.core_guard.proofs.LockWords.{Agrees-from, Agrees-to, Takes, Agrees-take, Agrees-release, Agrees-opened}
+use Rattle.core_guard.proofs.Changing.{ReadsLike, taken_if-like, released-like, after-like, passes-set, sight-passes}
+use Rattle.core_guard.proofs.LockWords.{Agrees-from, Agrees-to, Takes, Agrees-take, Agrees-release}
 use Rattle.core_guard.proofs.Leaving.{Acts}
 
 -- ---- what the law of bodies reads of like views
@@ -122,16 +120,3 @@ LocksAgree-other core step a kind hidden locks =
       part = λ i. record (bare_view step.number) { locks = locks i };
     } in
     frame lock_scope LocksAgreeIn core (after_step kind core step) (step-same lock_scope kind core step a.at a.pass outside) a.laws.locks
-
--- ---- opening a pass
-
-module _ (core : Core) (seat number further : ℕ) (at : IsViewAt core seat (blank_view core.config (Pass number (suc further)))) where
-  abbrev opened : Core
-  opened = after_split core seat (blank_view core.config (Pass number 0)) (blank_view core.config (Pass (suc number) further))
-
-  pub LocksAgree-opened : LocksAgree core → LocksAgree opened
-  LocksAgree-opened h = Agrees-to opened (Agrees-opened core seat number further at (Agrees-from core h))
-
-  pub BodiesAgree-opened : BodiesAgree core → BodiesAgree opened
-  BodiesAgree-opened h =
-      BodiesAgree-like nothing-is (sight body_scope core) (filter_map (part_of body_scope) opened.views) (passes-opened body_scope core seat number further (λ c n f. refl) at) h

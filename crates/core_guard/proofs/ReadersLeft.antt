@@ -37,7 +37,7 @@ use Rattle.core_state.specs.ReadersCounted.{ReadersCounted, reader_scope, Reache
 use Rattle.core_state.proofs.Beginning.{body_record, record_body, cases_cons}
 use Rattle.core_state.proofs.Forming.{pass_role}
 use Rattle.core_guard.proofs.Seats.{each-seat, each-seats, has-seat, each-step, has-step, has-unstep}
-use Rattle.core_guard.proofs.Turning.{point-grown, length-grown, had_in_layer-grown}
+use Rattle.core_guard.proofs.Growing.{point-grown, length-grown, had_in_layer-grown}
 use Rattle.core_guard.proofs.Leaving.{Acts, if_some_map, if_some_both, some_and_map, IsHandled, IsIdle, LeadsWithin, sound-leads, stands-in_tree, After, Last, Stays, Leaves, Touches, above-forth, above-back, each_update, body-forth}
 
 -- ---- passes

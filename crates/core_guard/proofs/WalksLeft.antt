@@ -25,7 +25,7 @@ use Rattle.core_state.specs.WalksLead.{WalksLead, WalkLeads, walk_scope, since_b
 use Rattle.core_state.specs.ReadersCounted.{reader_scope, Reaches, ReachesBySpot, the_node, the_node_of_bound, by_spot, WalkStays}
 use Rattle.core_state.specs.ReadersCounted as readers
 use Rattle.core_guard.proofs.Seats.{each-seat, each-step}
-use Rattle.core_guard.proofs.Turning.{grown, point-grown, length-grown, had-grown}
+use Rattle.core_guard.proofs.Growing.{grown, point-grown, length-grown, had-grown}
 use Rattle.core_guard.proofs.Leaving.{Acts, After, Last, Leaves, Touches, LeadsWithin, sound-leads, stands-in_tree, wider}
 use Rattle.core_guard.proofs.TreesLeft.{KeepsBoxes, boxes-touched}
 

@@ -14,7 +14,6 @@ pub mod NodesStep
 pub mod Rehome
 pub mod PoolSteps
 pub mod BatchesStep
-pub mod BodiesAside
 pub mod Newest
 pub mod BatchGuards
 pub mod HeldFacts

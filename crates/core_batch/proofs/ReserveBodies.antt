@@ -26,11 +26,11 @@ use Rattle.core_state.proofs.Frames.{frame, step-same}
 use Rattle.core_state.proofs.Opening.{none_in, only}
 use Rattle.core_state.proofs.SameNames.{cases_name}
 use Rattle.core_state.proofs.Steps.{gained-unstored, word-step, word-step-other, view-step}
-use Rattle.core_guard.proofs.BodiesStep.{HoldsSlot}
+use Rattle.core_guard.proofs.BodiesStep.{same-locks, HoldsSlot}
 use Rattle.core_guard.proofs.Leaving.{Acts}
 use Rattle.core_guard.proofs.Seats.{seen_at, has-seat, seat-has, SeatAfter, stepped, stayed, seat-after, seat_seen}
 use Rattle.core_batch.proofs.BatchesStep.{ChangesBatches, Past, batch-part, slot-kept}
-use Rattle.core_batch.proofs.BodiesAside.{IsAside, IsAsideWord, same_calls, PhasesKept, BodiesAgree-aside}
+use Rattle.core_guard.proofs.BodiesAside.{IsAside, IsAsideWord, same_calls, PhasesKept, BodiesAgree-aside}
 use Rattle.core_batch.proofs.Lists.{flat_from, pairs-cons, pairs-none, pairs-append}
 use Rattle.core_batch.proofs.Owning.{number-low, slot-reserved}
 use Rattle.core_batch.proofs.SlotLists.{slot_one}
@@ -100,8 +100,7 @@ module _ (core : Core) (step : Step) (a : Acts core step) (l t : ℕ) (r : IsRes
   leaves = record {
     word = subst IsAsideWord (sym r.names) tt;
     entry = λ value. refl;
-    locks = ap (λ (v : View). v.locks) r.left;
-    call = same_calls (ap (λ (v : View). v.call) r.left);
+    call = same_calls (ap (λ (v : View). v.call) r.left) (same-locks step.view Last (ap (λ (v : View). v.locks) r.left));
   }
 
   pub reserved-changes : ChangesBatches (all_batches (sight body_scope core)) step.view.batches Last.batches

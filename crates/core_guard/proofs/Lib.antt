@@ -1,5 +1,3 @@
-pub mod Likeness
-pub mod Changing
 pub mod LockWords
 pub mod Chains
 pub mod Scenes
@@ -12,7 +10,6 @@ pub mod Alone
 pub mod ListsAgree
 pub mod OneBody
 pub mod LivesAgree
-pub mod BodiesAlike
 pub mod TreesLeft
 pub mod WalksLeft
 pub mod ReadersLeft
@@ -34,3 +31,4 @@ pub mod WalkReaders
 pub mod Opened
 pub mod Keeping
 pub mod Settled
+pub mod BodiesAside

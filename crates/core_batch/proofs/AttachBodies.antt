@@ -32,12 +32,13 @@ use Rattle.core_guard.proofs.Seats.{seen_at, seat_seen, each-seat, each-step, ha
 use Rattle.core_guard.proofs.OneBody.{lawful-made}
 use Rattle.core_guard.proofs.BodiesStep.{WordsPart, ListPart, BatchPart, HoldsSlot, together, unstored, new_sight, bodies-agree, whole-back, stripe-part, list-stays}
 use Rattle.core_state.proofs.Beginning.{contains_flat, body_record, record_body}
-use Rattle.core_batch.proofs.Lists.{contains_map, map_from, flat_from, pairs-map, IsPartOf, part-contains, part-pairs, part-flat, part-one}
+use Rattle.core_batch.proofs.Lists.{contains_map, map_from, pairs-map, IsPartOf, part-contains, part-pairs, part-flat, part-one}
 use Rattle.core_batch.proofs.Attaching.{Attaching, step_of, was_reserved, no_other, in_all, only_batch, IsJoining, joining}
 use Rattle.core_batch.proofs.Attached.{joined, past_of, scene_then, scene-then, past-after, joins, stays, becomes, core_after, word-slot}
 use Rattle.core_batch.proofs.BatchesLeft.{left_view, left-from, left-there, batches-left}
 use Rattle.core_batch.proofs.SlotLists.{slot_one}
 use Rattle.core_batch.proofs.Owning.{number-low}
+use Rattle.core_guard.proofs.NodesLeft.{flat_from}
 
 -- ---- words
 

@@ -11,7 +11,7 @@ use Rattle.scene_model.specs.Step.{in_phase, with_phase}
 use Rattle.scene_model.specs.History.{scene_after}
 use Rattle.scene_model.proofs.Batches.{place_at-fold_phase}
 use Rattle.word_map.specs.declared.name.Name.{Name}
-use Rattle.word_map.specs.declared.name.Name.TheVariants.{Slot}
+use Rattle.word_map.specs.declared.name.Name.TheVariants.{Slot, State, Phase, Layer, BoxWord, LocA, LocB}
 use Rattle.core_state.specs.declared.view.Marked.{Marked}
 use Rattle.core_state.specs.declared.view.Batch.{Batch}
 use Rattle.core_state.specs.Log.{history}
@@ -29,6 +29,7 @@ use Rattle.core_state.proofs.Opening.{none_in}
 use Rattle.core_batch.proofs.Lists.{contains_later, contains_map, map_from}
 use Rattle.core_batch.proofs.Attaching.{Attaching, step_of, found, was_home, IsJoining, joining}
 use Rattle.core_state.proofs.Beginning.{cases_cons, contains_first}
+use Rattle.core_guard.proofs.Leaving.{Stays, as_before-same}
 
 -- ---- names of nodes
 
@@ -195,3 +196,17 @@ module _ (core : Core) (a : Attaching core) where
 
   pub word-slot : word_of core_after (Slot a.layer a.slot) ≡ slot_tree a.root
   word-slot = word-step attach core (step_of core a)
+
+  -- a body that is as it was, with all words of its places
+  pub stays-so : (i : ℕ) → record_at (scene_of core_after) i ≡ record_at (scene_of core) i → Stays attach core (step_of core a) i
+  stays-so i same = record {
+    body = as_before-same _ _ same;
+    loc_a = word-other (LocA i) (λ e. absurd cc);
+    loc_b = word-other (LocB i) (λ e. absurd cc);
+    phase = word-other (Phase i) (λ e. absurd cc);
+    box = λ q. word-other (BoxWord i q) (λ e. absurd cc);
+    state = word-other (State i) (λ e. absurd cc);
+    layer = word-other (Layer i) (λ e. absurd cc);
+    removes = (λ h. h, λ h. h);
+    places = (λ h. h, λ h. h);
+  }

@@ -24,11 +24,11 @@ use Rattle.core_state.proofs.Beginning.{cases_cons, contains_filter, contains_fi
 use Rattle.core_state.proofs.Steps.{word-step, word-step-other}
 use Rattle.core_guard.proofs.Chains.{chain-kept, chain-front}
 use Rattle.core_guard.proofs.Leaving.{Acts}
-use Rattle.core_guard.proofs.NodesLeft.{PoolPart, KeepsHomes, LeavesUpdate, tree-part, pool-part, pool-own, pool-idle, together}
+use Rattle.core_guard.proofs.NodesLeft.{PoolPart, KeepsHomes, LeavesUpdate, tree-part, pool-part, pool-own, pool-idle, together, seen-nodes}
 use Rattle.core_guard.proofs.Seats.{seen_of, each-seat}
 use Rattle.core_batch.proofs.Lists.{contains_later, filter_from, pairs-cons, pairs-left, pairs-right, pairs-across, pairs-append}
 use Rattle.core_batch.proofs.NodesStep.{OwnsAfter, owner-part}
-use Rattle.core_batch.proofs.Owning.{nodes-seen, owner_one, owned-by, owner-has, batch-below, batch-home}
+use Rattle.core_batch.proofs.Owning.{owner_one, owned-by, owner-has, batch-below, batch-home}
 use Rattle.core_batch.proofs.PoolHeads.{IsGiving, HeadStep, taking, giving, home_later, head-step, pool_later}
 use Rattle.core_batch.proofs.PoolSteps.{world-pool}
 use Rattle.core_batch.proofs.Rehome.{free_spare, owned_spare, free_owned, rehome, rehome-at, rehome-other, rehome-keeps}
@@ -97,7 +97,7 @@ module _ (core : Core) (step : Step) (a : Acts core step) (asked : MayStorePoolH
 
   all_once : IsOnce (front ++ (step.view.loose ++ updated))
   all_once =
-      subst IsOnce (nodes-seen p step.view) (each-seat node_scope (λ k v. refl) core (λ number view. IsOnce (nodes_of view)) a.laws.places.owned_once step.seat p step.view a.at a.pass)
+      subst IsOnce (seen-nodes p step.view) (each-seat node_scope (λ k v. refl) core (λ number view. IsOnce (nodes_of view)) a.laws.places.owned_once step.seat p step.view a.at a.pass)
 
   -- the node is nothing else that the pass has
   not_front : (n : ℕ) → Contains front n → n ≢ x

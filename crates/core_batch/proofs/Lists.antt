@@ -12,6 +12,7 @@ use lib.ListN.{get_elem?}
 use Rattle.core_state.proofs.Opening.{none_in}
 use Rattle.core_state.proofs.Beginning.{contains_flat, cases_cons, contains_first}
 use Rattle.core_state.proofs.Lookups.{at_set}
+use Rattle.core_guard.proofs.NodesLeft.{flat_from}
 
 -- ---- elements
 
@@ -82,15 +83,6 @@ module _ {X : Type 0} where
             | inl same ↦ absurd (false≢true (sym fails ∙ (ap p same ∙ test)))
             | inr later ↦ later
           ]
-
--- what is collected comes from one of the elements
-pub flat_from : {X Y : Type 0} (f : X → List Y) (xs : List X) (y : Y) → Contains (flat_map f xs) y → (x : X) × Contains xs x × Contains (f x) y
-flat_from f [] y h = absurd (none_in y h)
-flat_from f (x ∷ xs) y h =
-    elim (Contains-append_cases (f x) (flat_map f xs) y h) [
-      | inl here ↦ (x, contains_first x xs, here)
-      | inr later ↦ let t = flat_from f xs y later in (t.0, contains_later x xs t.0 t.1, t.2)
-    ]
 
 -- ---- pairs
 

@@ -31,10 +31,11 @@ use Rattle.core_guard.proofs.Leaving.{Acts}
 use Rattle.core_guard.proofs.Seats.{seen_at, has-seat, seat-has, SeatAfter, stepped, stayed, seat-after, seat_seen}
 use Rattle.core_batch.proofs.BatchesStep.{ChangesBatches, Past, batch-part, slot-kept}
 use Rattle.core_guard.proofs.BodiesAside.{IsAside, IsAsideWord, same_calls, PhasesKept, BodiesAgree-aside}
-use Rattle.core_batch.proofs.Lists.{flat_from, pairs-cons, pairs-none, pairs-append}
+use Rattle.core_batch.proofs.Lists.{pairs-cons, pairs-none, pairs-append}
 use Rattle.core_batch.proofs.Owning.{number-low, slot-reserved}
 use Rattle.core_batch.proofs.SlotLists.{slot_one}
 use Rattle.core_batch.proofs.SlotSteps.{IsReserving, IsMissing, reserving, missing, reserve-step}
+use Rattle.core_guard.proofs.NodesLeft.{flat_from}
 
 -- ---- a batch of which nothing is there but its slot
 

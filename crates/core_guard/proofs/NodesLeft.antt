@@ -71,7 +71,7 @@ pub record TreePart (nodes : Nodes) (s : Sight) : Type 0 where
   pub idle : IsArenaUnread s → (n : ℕ) → IsInArena s.config (1 - s.word Arena) n → nodes.home n ≡ spare
 
 -- what is collected comes from one of the list
-flat_from : {X Y : Type 0} (f : X → List Y) (xs : List X) (y : Y) → Contains (flat_map f xs) y → (x : X) × Contains xs x × Contains (f x) y
+pub flat_from : {X Y : Type 0} (f : X → List Y) (xs : List X) (y : Y) → Contains (flat_map f xs) y → (x : X) × Contains xs x × Contains (f x) y
 flat_from f [] y h = absurd (none_in y h)
 flat_from f (x ∷ xs) y h =
     elim (Contains-append_cases (f x) (flat_map f xs) y h) [

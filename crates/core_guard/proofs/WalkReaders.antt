@@ -20,8 +20,8 @@ use Rattle.core_state.specs.ReadersCounted.{ReadersCounted, reader_scope, Reache
 use Rattle.core_state.proofs.Opening.{none_in}
 use Rattle.core_state.proofs.Steps.{word-step, word-step-other, view-step}
 use Rattle.core_guard.proofs.Seats.{seat-has, has-step, has-unstep}
-use Rattle.core_guard.proofs.Leaving.{Acts, After, Last, Leaves, step-goes_on, scene-plain}
-use Rattle.core_guard.proofs.ReadersLeft.{other-number, some-all, Counts, GoesOn, KeepsTargets, layers-kept, gives-kept, climbs-own, ReadersCounted-goes_on}
+use Rattle.core_guard.proofs.Leaving.{Acts, After, Last, Leaves, step-goes_on, scene-plain, other-number}
+use Rattle.core_guard.proofs.ReadersLeft.{some-all, Counts, GoesOn, KeepsTargets, layers-kept, gives-kept, climbs-own, ReadersCounted-goes_on}
 
 -- ---- a step that stores no word but those of readers, and makes no entry
 

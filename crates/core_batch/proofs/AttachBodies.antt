@@ -13,7 +13,6 @@ use Rattle.scene_model.specs.Step.{HasBody, IsLawful, in_phase}
 use Rattle.scene_model.proofs.Batches.{put_in, place_at-fold_phase, JoinsOnly-fold}
 use Rattle.word_map.specs.declared.name.Name.{Name}
 use Rattle.word_map.specs.declared.name.Name.TheVariants.{SlotHead, SlotNext, State, Phase, Layer, User, BoxWord, Slot}
-use Rattle.word_map.specs.Names.{IsName}
 use Rattle.core_state.specs.declared.view.Marked.{Marked}
 use Rattle.core_state.specs.declared.view.Batch.{Batch}
 use Rattle.core_state.specs.declared.view.View.{View}
@@ -24,25 +23,22 @@ use Rattle.core_state.specs.Formed.{IsFormed}
 use Rattle.core_state.specs.Guards.{GuardsHold}
 use Rattle.core_state.specs.Scope.{Sight, sight, bare_view, HasPass, EachPass}
 use Rattle.core_state.specs.Bodies.{state_word, phase_by, phase_by_slot, free_indexes, IsForSlot, AreOtherSlots, all_batches, all_marked}
-use Rattle.core_state.specs.LocksAgree.{LocksAgree}
 use Rattle.core_state.specs.BodiesAgree.{BodiesAgree, body_scope, HasWordsOf, IsHeldFor}
 use Rattle.core_state.specs.Batches.{attach}
 use Rattle.core_state.specs.Invariants.{Invariants}
 use Rattle.core_state.proofs.SameNames.{cases_name}
 use Rattle.core_state.proofs.Steps.{view-step}
 use Rattle.core_guard.proofs.Seats.{seen_at, seat_seen, each-seat, each-step, has-step, has-unstep, steps_now, stays as seat_stays, seat-before}
-use Rattle.core_guard.proofs.Leaving.{Acts}
-use Rattle.core_guard.proofs.LockSteps.{LocksAgree-other}
 use Rattle.core_guard.proofs.OneBody.{lawful-made}
 use Rattle.core_guard.proofs.BodiesStep.{WordsPart, ListPart, BatchPart, HoldsSlot, together, unstored, new_sight, bodies-agree, whole-back, stripe-part, list-stays}
 use Rattle.core_state.proofs.Beginning.{contains_flat, body_record, record_body}
-use Rattle.core_batch.proofs.Lists.{contains_map, map_from, flat_from, pairs-map, IsPartOf, part-contains, part-pairs, part-flat, part-one}
+use Rattle.core_batch.proofs.Lists.{contains_map, map_from, pairs-map, IsPartOf, part-contains, part-pairs, part-flat, part-one}
 use Rattle.core_batch.proofs.Attaching.{Attaching, step_of, was_reserved, no_other, in_all, only_batch, IsJoining, joining}
 use Rattle.core_batch.proofs.Attached.{joined, past_of, scene_then, scene-then, past-after, joins, stays, becomes, core_after, word-slot}
 use Rattle.core_batch.proofs.BatchesLeft.{left_view, left-from, left-there, batches-left}
 use Rattle.core_batch.proofs.SlotLists.{slot_one}
-use Rattle.core_batch.proofs.HeldFacts.{slot-named}
 use Rattle.core_batch.proofs.Owning.{number-low}
+use Rattle.core_guard.proofs.NodesLeft.{flat_from}
 
 -- ---- words
 
@@ -322,19 +318,3 @@ module _ (core : Core) (a : Attaching core) (formed : IsFormed core) (h : Invari
   BodiesAgree-attach =
       bodies-agree attach core (step_of core a) a.at a.pass (past_of core a) (past-after core a formed h)
       (together New words list (stripe-part attach core (step_of core a) a.at a.pass (past_of core a) h.bodies (λ was. was)) batches)
-
-  -- ---- the step
-
-  -- the slot is one of the world
-  pub acts-attach : Acts core (step_of core a)
-  acts-attach = record {
-    at = a.at;
-    pass = a.pass;
-    named = subst (IsName core.config) (λ i. Slot (a.for_slot.0 i) (a.for_slot.1 i)) (slot-named core formed h a.seat a.number a.view a.at a.pass a.batch a.among);
-    formed = formed;
-    guards = guards;
-    laws = h;
-  }
-
-  pub LocksAgree-attach : LocksAgree (core_after core a)
-  LocksAgree-attach = LocksAgree-other core (step_of core a) acts-attach attach refl refl

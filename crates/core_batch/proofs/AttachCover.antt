@@ -5,7 +5,7 @@ use Rattle.scene_model.specs.declared.body_view.Phase.TheVariants.{In}
 use Rattle.scene_model.specs.Scene.{Record, record_at}
 use Rattle.scene_model.specs.Step.{HasBody, in_phase}
 use Rattle.scene_model.specs.History.{scene_after}
-use Rattle.word_map.specs.declared.name.Name.TheVariants.{State, Phase, Layer, LocA, LocB, BoxWord, Slot}
+use Rattle.word_map.specs.declared.name.Name.TheVariants.{Phase, LocA, Slot}
 use Rattle.core_state.specs.declared.view.Marked.{Marked}
 use Rattle.core_state.specs.Core.{Core, word_of, scene_of}
 use Rattle.core_state.specs.Encoding.{place, slot_tree}
@@ -13,10 +13,10 @@ use Rattle.core_state.specs.Nodes.{Nodes, under, IsInTree, IsPublished, IsOfLaye
 use Rattle.core_state.specs.Updates.{IsOldTree}
 use Rattle.core_state.specs.BodiesCovered.{BodiesCovered, IsCovered}
 use Rattle.core_state.specs.Batches.{attach}
-use Rattle.core_guard.proofs.Leaving.{Acts, Stays, Leaves, as_before-same, if_some_map}
+use Rattle.core_guard.proofs.Leaving.{Acts, Leaves, if_some_map}
 use Rattle.core_guard.proofs.CoverLeft.{Now, as_it_was, off_trees, IsOff, IsFresh, BodiesCovered-leaves}
 use Rattle.core_batch.proofs.Attaching.{Attaching, step_of, no_tree, was_home, IsJoining}
-use Rattle.core_batch.proofs.Attached.{nodes_after, home-inside, past-after, scene_then, joins, stays, becomes, core_after, word-other}
+use Rattle.core_batch.proofs.Attached.{nodes_after, home-inside, past-after, scene_then, joins, stays, becomes, core_after, word-other, stays-so}
 
 module _ (core : Core) (a : Attaching core) (acts : Acts core (step_of core a)) where
   abbrev Later : Nodes
@@ -47,19 +47,6 @@ module _ (core : Core) (a : Attaching core) (acts : Acts core (step_of core a)) 
 
     scene_now : (i : ℕ) → record_at (scene_of (core_after core a)) i ≡ record_at (scene_then core a) i
     scene_now i = ap (λ (l : _). record_at (scene_after core.config.bodies l) i) (past-after core a acts.formed acts.laws)
-
-    stays-so : (i : ℕ) → record_at (scene_then core a) i ≡ record_at (scene_of core) i → Stays attach core (step_of core a) i
-    stays-so i is = record {
-      body = as_before-same _ _ (scene_now i ∙ is);
-      loc_a = word-other core a (LocA i) (λ e. absurd cc);
-      loc_b = word-other core a (LocB i) (λ e. absurd cc);
-      phase = word-other core a (Phase i) (λ e. absurd cc);
-      box = λ q. word-other core a (BoxWord i q) (λ e. absurd cc);
-      state = word-other core a (State i) (λ e. absurd cc);
-      layer = word-other core a (Layer i) (λ e. absurd cc);
-      removes = (λ h. h, λ h. h);
-      places = (λ h. h, λ h. h);
-    }
 
     -- a body that joins stands in the new tree, and stood in none
     module _ (marked : Marked) (i : ℕ) (j : IsJoining core a.layer a.slot a.batch marked i) (now : record_at (scene_then core a) i ≡ Some (in_phase In j.body)) where
@@ -105,5 +92,5 @@ module _ (core : Core) (a : Attaching core) (acts : Acts core (step_of core a)) 
         (λ i.
         elim (becomes core a acts.formed acts.laws acts.guards i) [
           | joins marked among j was now ↦ off_trees (joins-so marked i j now)
-          | stays apart is ↦ as_it_was (stays-so i is)
+          | stays apart is ↦ as_it_was (stays-so core a i (scene_now i ∙ is))
         ])

@@ -3,7 +3,7 @@ use Rattle.std.proofs.Common.{◌≡◌, ◌∙◌, refl, sym, ap, subst}
 use Rattle.word_map.specs.Names.{IsName}
 use Rattle.core_state.specs.Core.{Core, IsViewAt}
 use Rattle.core_state.specs.View.{IsPass}
-use Rattle.core_state.specs.Kind.{Step, Steps, after_step}
+use Rattle.core_state.specs.Kind.{Step, after_step}
 use Rattle.core_state.specs.Batches.{MayAttach, attach}
 use Rattle.core_state.specs.Invariants.{Invariants}
 use Rattle.core_guard.proofs.Leaving.{Acts}

@@ -6,7 +6,7 @@ use Rattle.core_state.specs.Core.{Core, word_of}
 use Rattle.core_state.specs.Encoding.{NamesRoot, slot_tree}
 use Rattle.core_state.specs.Formed.{IsFormed}
 use Rattle.core_state.specs.Guards.{GuardsHold}
-use Rattle.core_state.specs.Nodes.{Nodes, IsInTree}
+use Rattle.core_state.specs.Nodes.{IsInTree}
 use Rattle.core_state.specs.Batches.{attach}
 use Rattle.core_state.specs.Invariants.{Invariants}
 use Rattle.word_map.specs.Names.{IsName}
@@ -20,9 +20,6 @@ pub attach-acts : (core : Core) (a : Attaching core) → IsName core.config (Slo
 attach-acts core a named formed guards h = record { at = a.at; pass = a.pass; named = named; formed = formed; guards = guards; laws = h }
 
 module _ (core : Core) (a : Attaching core) (formed : IsFormed core) (h : Invariants core) where
-  abbrev Later : Nodes
-  Later = nodes_after h.nodes core a
-
   -- a node in a tree is none of the batch
   pub tree-outside : (n : ℕ) → IsInTree (h.nodes.home n) → ¬ Contains a.batch.nodes n
   tree-outside n inside = (home-forth core a formed h IsInTree n (λ none. none) inside).0

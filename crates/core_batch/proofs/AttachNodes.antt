@@ -1,77 +1,41 @@
 -- The nodes are in one place where a batch was attached.
-use Rattle.std.proofs.Common.{◌≡◌, ◌≢◌, ℕ, List, ◌++◌, Bool, true, false, not, Contains, refl, ap, sym, subst, inl, inr}
-use Rattle.std.specs.Prelude.{flat_map, option_map}
-use Rattle.std.proofs.lemmas.Bool.{false≢true, cases_Bool}
+use Rattle.std.proofs.Common.{◌≡◌, ◌≢◌, ℕ, ◌++◌, Contains, refl, sym, subst, inl, inr}
+use Rattle.std.specs.Prelude.{flat_map}
 use Rattle.std.proofs.lemmas.List.Elements.{Contains-append_left, Contains-append_right, Contains-append_cases}
 use Rattle.core_state.specs.declared.view.Batch.{Batch}
-use Rattle.core_state.specs.declared.view.View.{View}
 use Rattle.core_state.specs.Core.{Core}
-use Rattle.core_state.specs.Kind.{view_after}
 use Rattle.core_state.specs.Formed.{IsFormed}
 use Rattle.core_state.specs.Nodes.{Nodes, free, spare, IsInTree, IsOwnedBy, nodes_of, nodes_in}
-use Rattle.core_state.specs.Scope.{Scope, sight, part_of, bare_view, IsOnce}
-use Rattle.core_state.specs.Bodies.{IsForSlot, all_batches}
+use Rattle.core_state.specs.Scope.{IsOnce}
+use Rattle.core_state.specs.Bodies.{IsForSlot}
 use Rattle.core_state.specs.NodesInOnePlace.{NodesInOnePlace, node_scope}
-use Rattle.core_state.specs.Batches.{is_for, attach, batch_nodes_of}
+use Rattle.core_state.specs.Batches.{attach, batch_nodes_of}
 use Rattle.core_state.specs.Invariants.{Invariants}
-use Rattle.core_state.proofs.Beginning.{contains_flat, contains_filter}
+use Rattle.core_state.proofs.Beginning.{contains_flat}
 use Rattle.core_guard.proofs.Leaving.{Acts}
-use Rattle.core_guard.proofs.NodesLeft.{KeepsHomes, unseen-pool, unseen-update, pool-stays, tree-part, together}
+use Rattle.core_guard.proofs.NodesLeft.{KeepsHomes, unseen-pool, unseen-update, pool-stays, tree-part, together, seen-nodes, flat_from}
 use Rattle.core_guard.proofs.Seats.{each-seat}
-use Rattle.core_batch.proofs.Lists.{filter_from, flat_from, pairs-left, pairs-across, flat-once, IsPartOf, part-refl, part-contains, part-pairs, part-append, part-filter, part-flat, part-set}
+use Rattle.core_batch.proofs.Lists.{pairs-left, pairs-across, flat-once, IsPartOf, part-refl, part-contains, part-pairs, part-append, part-flat}
 use Rattle.core_batch.proofs.Attaching.{Attaching, step_of, only_own, batch_node, was_home}
 use Rattle.core_batch.proofs.Attached.{nodes_after, node-after, attached_node, other_node, home-outside, home-back, home-forth, core_after}
 use Rattle.core_batch.proofs.NodesStep.{OwnsAfter, owner-part}
-use Rattle.core_batch.proofs.Owning.{nodes-seen, owned-by, owner-has, batch-below}
-use Rattle.core_batch.proofs.SlotLists.{is_for-true, is_for-slot}
+use Rattle.core_batch.proofs.Owning.{owned-by, owner-has, batch-below}
+use Rattle.core_batch.proofs.BatchesLeft.{left_view, left-from, left-there, left-part}
 
--- ---- the batches that are left
+-- ---- the nodes that are left
 
 module _ (core : Core) (a : Attaching core) where
-  abbrev pub left_view : View
-  left_view = view_after attach core (step_of core a)
-
-  -- those are batches of the pass for other slots
-  pub left-from : (b : Batch) → Contains left_view.batches b → Contains a.view.batches b × ¬ IsForSlot a.layer a.slot b
-  left-from b among =
-      let t = filter_from (λ b. not (is_for a.layer a.slot b)) a.view.batches b among in
-      (t.0, λ for. not_both (is_for a.layer a.slot b) (is_for-true a.layer a.slot b for) t.1)
-    where
-      not_both : (test : Bool) → test ≡ true → not test ≡ true → ⊥
-      not_both true e f = false≢true f
-      not_both false e f = false≢true e
-
-  pub left-there : (b : Batch) → Contains a.view.batches b → ¬ IsForSlot a.layer a.slot b → Contains left_view.batches b
-  left-there b among other =
-      elim (cases_Bool (is_for a.layer a.slot b)) [
-        | inl is ↦ absurd (other (is_for-slot a.layer a.slot b is))
-        | inr not_for ↦ contains_filter (λ b. not (is_for a.layer a.slot b)) a.view.batches b among (ap (λ (t : Bool). not t) not_for)
-      ]
-
-  pub left-part : IsPartOf left_view.batches a.view.batches
-  left-part = part-filter (λ b. not (is_for a.layer a.slot b)) a.view.batches
-
   -- the nodes that the pass owns then are some of those that it owned
-  pub left_nodes-part : IsPartOf (nodes_of left_view) (nodes_of a.view)
+  pub left_nodes-part : IsPartOf (nodes_of (left_view core a)) (nodes_of a.view)
   left_nodes-part =
-      part-append (flat_map (λ (b : Batch). b.nodes) left_view.batches) (flat_map (λ (b : Batch). b.nodes) a.view.batches) (a.view.loose ++ nodes_in a.view.rebuild) (a.view.loose ++ nodes_in a.view.rebuild)
-      (part-flat (λ (b : Batch). b.nodes) left_view.batches a.view.batches left-part) (part-refl (a.view.loose ++ nodes_in a.view.rebuild))
-
--- what a law sees of batches afterwards is a part of what it saw
-pub batches-left : (core : Core) (a : Attaching core) (scope : Scope) → ((bare view : View) → (scope.part bare view).batches ≡ view.batches)
-    → IsPartOf (all_batches (sight scope (core_after core a))) (all_batches (sight scope core))
-batches-left core a scope reads =
-    let bare = bare_view a.number in
-    let left = left_view core a in
-    part-set (part_of scope) (λ (v : View). v.batches) core.views a.seat a.view left (scope.part bare a.view) (scope.part bare left) a.at (ap (option_map (λ n. scope.part (bare_view n) a.view)) a.pass)
-    (ap (option_map (λ n. scope.part (bare_view n) left)) a.pass)
-    (subst (λ (l : List Batch). IsPartOf l (scope.part bare a.view).batches) (sym (reads bare left)) (subst (λ (l : List Batch). IsPartOf left.batches l) (sym (reads bare a.view)) (left-part core a)))
+      part-append (flat_map (λ (b : Batch). b.nodes) (left_view core a).batches) (flat_map (λ (b : Batch). b.nodes) a.view.batches) (a.view.loose ++ nodes_in a.view.rebuild) (a.view.loose ++ nodes_in a.view.rebuild)
+      (part-flat (λ (b : Batch). b.nodes) (left_view core a).batches a.view.batches (left-part core a)) (part-refl (a.view.loose ++ nodes_in a.view.rebuild))
 
 module _ (core : Core) (a : Attaching core) (formed : IsFormed core) (h : Invariants core) where
   -- nodes that are left are none of the batch
   pub left_nodes-apart : (n : ℕ) → Contains (nodes_of (left_view core a)) n → ¬ Contains a.batch.nodes n
   left_nodes-apart n among inside =
-      let once : IsOnce (nodes_of a.view) = subst IsOnce (nodes-seen a.number a.view) (each-seat node_scope (λ k v. refl) core (λ k v. IsOnce (nodes_of v)) h.places.owned_once a.seat a.number a.view a.at a.pass) in
+      let once : IsOnce (nodes_of a.view) = subst IsOnce (seen-nodes a.number a.view) (each-seat node_scope (λ k v. refl) core (λ k v. IsOnce (nodes_of v)) h.places.owned_once a.seat a.number a.view a.at a.pass) in
       let rest = a.view.loose ++ nodes_in a.view.rebuild in
       let all = flat_map (λ (b : Batch). b.nodes) a.view.batches in
       elim (Contains-append_cases (flat_map (λ (b : Batch). b.nodes) (left_view core a).batches) rest n among) [
@@ -139,7 +103,7 @@ module _ (core : Core) (a : Attaching core) (acts : Acts core (step_of core a)) 
     );
     once =
         part-pairs (λ (k : ℕ) (m : ℕ). k ≢ m) (nodes_of (left_view core a)) (nodes_of a.view) (left_nodes-part core a)
-        (subst IsOnce (nodes-seen a.number a.view) (each-seat node_scope (λ k v. refl) core (λ k v. IsOnce (nodes_of v)) h.places.owned_once a.seat a.number a.view a.at a.pass));
+        (subst IsOnce (seen-nodes a.number a.view) (each-seat node_scope (λ k v. refl) core (λ k v. IsOnce (nodes_of v)) h.places.owned_once a.seat a.number a.view a.at a.pass));
     below = λ n among.
         batch-below core h.nodes h.places a.seat a.number a.view a.at a.pass n
         (part-contains (batch_nodes_of (left_view core a)) (batch_nodes_of a.view) n

@@ -10,7 +10,7 @@ use Rattle.scene_model.specs.Step.{HasBody, in_phase}
 use Rattle.scene_model.specs.History.{scene_after}
 use Rattle.scene_model.specs.declared.entry.Made.{Made}
 use Rattle.word_map.specs.declared.name.Name.{Name}
-use Rattle.word_map.specs.declared.name.Name.TheVariants.{State, Phase, Layer, BoxWord, LocA, LocB, Child, Bound, Parent, Slot}
+use Rattle.word_map.specs.declared.name.Name.TheVariants.{Phase, BoxWord, LocA, LocB, Child, Bound, Parent, Slot}
 use Rattle.core_state.specs.declared.view.Marked.{Marked}
 use Rattle.core_state.specs.declared.view.Batch.{Batch}
 use Rattle.core_state.specs.declared.view.View.{View}
@@ -23,12 +23,12 @@ use Rattle.core_state.specs.Bodies.{all_batches}
 use Rattle.core_state.specs.LocationsHold.{LocationsHold, location_scope, box_in, IsLocation, IsAt, IsWhere, in_slot, IsPlannedIn}
 use Rattle.core_state.specs.Batches.{is_for, IsPart, nothing, a_body, a_node, IsWholeTree, attach}
 use Rattle.core_state.proofs.Beginning.{record_body}
-use Rattle.core_guard.proofs.Leaving.{Acts, IsHandled, After, Stays, Leaves, as_before-same}
+use Rattle.core_guard.proofs.Leaving.{Acts, IsHandled, After, Stays, Leaves}
 use Rattle.core_guard.proofs.PlacesStay.{BodyIsPlaced, held-alone, handled-seen}
 use Rattle.core_guard.proofs.PlacesLeft.{BodyLeft, body_stays, body_anew, pass_stays, anew-in-place, LocationsHold-leaves}
 use Rattle.core_batch.proofs.Lists.{IsPartOf, part-contains, part-filter, part-set}
 use Rattle.core_batch.proofs.Attaching.{Attaching, step_of, whole_now, IsJoining, joining}
-use Rattle.core_batch.proofs.Attached.{nodes_after, home-inside, past-after, Becomes, joins, stays, becomes, word-other}
+use Rattle.core_batch.proofs.Attached.{nodes_after, home-inside, past-after, Becomes, joins, stays, becomes, word-other, stays-so}
 
 -- a box of the same six sides is contained too
 covers-same : (outer one other : Sides) → ((q : ℕ) → q < 6 → other q ≡ one q) → Covers outer one → Covers outer other
@@ -141,21 +141,6 @@ module _ (core : Core) (a : Attaching core) (acts : Acts core (step_of core a)) 
     joined-held : HasBody (scene_of core) i (λ r. r.phase ≡ Held)
     joined-held = record_body (record_at (scene_of core) i) (λ r. r.phase ≡ Held) j.body j.live j.held
 
-  -- ---- another one
-
-  stays-so : (i : ℕ) → record_at (scene_of Joined) i ≡ record_at (scene_of core) i → Stays attach core (step_of core a) i
-  stays-so i same = record {
-    body = as_before-same (record_at (scene_of core) i) (record_at (scene_of Joined) i) same;
-    loc_a = word-other core a (LocA i) (λ x. absurd cc);
-    loc_b = word-other core a (LocB i) (λ x. absurd cc);
-    phase = word-other core a (Phase i) (λ x. absurd cc);
-    box = λ q. word-other core a (BoxWord i q) (λ x. absurd cc);
-    state = word-other core a (State i) (λ x. absurd cc);
-    layer = word-other core a (Layer i) (λ x. absurd cc);
-    removes = (λ t. t, λ t. t);
-    places = (λ t. t, λ t. t);
-  }
-
   -- an entry of the new tree is that of a body of the batch, at its place
   part-entry : (i n k : ℕ) → k < 4 → IsPart (word_of core) a.batch a.whole.depth n k → word_of core (Child n k) ≡ body_child i → IsLocation Now i n k
   part-entry i n k below (nothing e) entry = absurd (omega arith)
@@ -184,14 +169,14 @@ module _ (core : Core) (a : Attaching core) (acts : Acts core (step_of core a)) 
               (anew-in-place attach core (step_of core a) acts Later (λ n. Contains a.batch.nodes n) leaves i (joined-placed m i j is)
               (λ seat number view apart. held-alone acts.laws.nodes core acts.laws.locations i (joined-held m i j is) seat number view)
               (word-other core a (LocA i) (λ x. absurd cc)) (word-other core a (LocB i) (λ x. absurd cc)) (λ t. t, λ t. t))
-          | stays apart same ↦ body_stays (stays-so i same)
+          | stays apart same ↦ body_stays (stays-so core a i same)
         ]
 
     own-stays : (i : ℕ) → IsHandled a.view.call.task i → Stays attach core (step_of core a) i
     own-stays i handled =
         elim (becomes-now i) [
           | joins m marked j old is ↦ absurd (held-alone acts.laws.nodes core acts.laws.locations i (joined-held m i j is) a.seat a.number a.view a.at a.pass handled)
-          | stays apart same ↦ stays-so i same
+          | stays apart same ↦ stays-so core a i same
         ]
 
     pub LocationsHold-attach : LocationsHold Later Joined

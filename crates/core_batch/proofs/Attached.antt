@@ -11,7 +11,7 @@ use Rattle.scene_model.specs.Step.{in_phase, with_phase}
 use Rattle.scene_model.specs.History.{scene_after}
 use Rattle.scene_model.proofs.Batches.{place_at-fold_phase}
 use Rattle.word_map.specs.declared.name.Name.{Name}
-use Rattle.word_map.specs.declared.name.Name.TheVariants.{Slot}
+use Rattle.word_map.specs.declared.name.Name.TheVariants.{Slot, State, Phase, Layer, BoxWord, LocA, LocB}
 use Rattle.core_state.specs.declared.view.Marked.{Marked}
 use Rattle.core_state.specs.declared.view.Batch.{Batch}
 use Rattle.core_state.specs.Log.{history}
@@ -21,16 +21,15 @@ use Rattle.core_state.specs.Kind.{log_after, after_step}
 use Rattle.core_state.specs.Formed.{IsFormed}
 use Rattle.core_state.specs.Guards.{GuardsHold}
 use Rattle.core_state.specs.Nodes.{Nodes, Home, owned, under}
-use Rattle.core_state.specs.Scope.{Scope, word_in}
 use Rattle.core_state.specs.Batches.{is_in_nodes, attach}
 use Rattle.core_state.specs.Invariants.{Invariants}
-use Rattle.core_state.proofs.SameNames.{cases_name}
 use Rattle.core_state.proofs.Steps.{word-step, word-step-other}
 use Rattle.core_guard.proofs.OneBody.{history-made, scene-made}
 use Rattle.core_state.proofs.Opening.{none_in}
 use Rattle.core_batch.proofs.Lists.{contains_later, contains_map, map_from}
 use Rattle.core_batch.proofs.Attaching.{Attaching, step_of, found, was_home, IsJoining, joining}
 use Rattle.core_state.proofs.Beginning.{cases_cons, contains_first}
+use Rattle.core_guard.proofs.Leaving.{Stays, as_before-same}
 
 -- ---- names of nodes
 
@@ -145,16 +144,6 @@ pub data Becomes (core : Core) (a : Attaching core) (i : ℕ) (o p : Option Reco
   stays : ((m : Marked) → Contains a.batch.marked m → m.index ≢ i) → p ≡ o → Becomes core a i o p
 
 module _ (core : Core) (a : Attaching core) (i : ℕ) where
-  -- what holds of a body afterwards comes from what held of it
-  pub becomes-back : (P Q : Record → Type 0) (o p : Option Record) → Becomes core a i o p → ((r : Record) → r.phase ≡ Held → P (in_phase In r) → Q r) → ((r : Record) → P r → Q r) → IsSomeAnd p P → IsSomeAnd o Q
-  becomes-back P Q o p (joins m marked j was is) changed same h =
-      subst (λ (x : Option Record). IsSomeAnd x Q) (sym was) (changed j.body j.held (subst (λ (x : Option Record). IsSomeAnd x P) is h))
-  becomes-back P Q o p (stays apart is) changed same h = go o (subst (λ (x : Option Record). IsSomeAnd x P) is h)
-    where
-      go : (x : Option Record) → IsSomeAnd x P → IsSomeAnd x Q
-      go None h = h
-      go (Some r) h = same r h
-
   pub becomes-forth : (P Q : Record → Type 0) (o p : Option Record) → Becomes core a i o p → ((r : Record) → r.phase ≡ Held → P r → Q (in_phase In r)) → ((r : Record) → P r → Q r) → IsSomeAnd o P → IsSomeAnd p Q
   becomes-forth P Q o p (joins m marked j was is) changed same h =
       subst (λ (x : Option Record). IsSomeAnd x Q) (sym is) (changed j.body j.held (subst (λ (x : Option Record). IsSomeAnd x P) was h))
@@ -208,14 +197,16 @@ module _ (core : Core) (a : Attaching core) where
   pub word-slot : word_of core_after (Slot a.layer a.slot) ≡ slot_tree a.root
   word-slot = word-step attach core (step_of core a)
 
-  -- a law that reads no slots reads the same words
-  pub word-hidden : (scope : Scope) → scope.names (Slot a.layer a.slot) ≡ false → (name : Name) → word_in scope core_after name ≡ word_in scope core name
-  word-hidden scope hidden name =
-      elim (cases_name name (Slot a.layer a.slot)) [
-        | inl same ↦ let test : scope.names name ≡ false = ap scope.names same ∙ hidden in rw test refl
-        | inr other ↦ ap (λ (w : ℕ). cond (scope.names name) w 0) (word-other name other)
-      ]
-
-  -- and of one that does, those of all but that slot
-  pub word-seen : (scope : Scope) (name : Name) → name ≢ Slot a.layer a.slot → word_in scope core_after name ≡ word_in scope core name
-  word-seen scope name other = ap (λ (w : ℕ). cond (scope.names name) w 0) (word-other name other)
+  -- a body that is as it was, with all words of its places
+  pub stays-so : (i : ℕ) → record_at (scene_of core_after) i ≡ record_at (scene_of core) i → Stays attach core (step_of core a) i
+  stays-so i same = record {
+    body = as_before-same _ _ same;
+    loc_a = word-other (LocA i) (λ e. absurd cc);
+    loc_b = word-other (LocB i) (λ e. absurd cc);
+    phase = word-other (Phase i) (λ e. absurd cc);
+    box = λ q. word-other (BoxWord i q) (λ e. absurd cc);
+    state = word-other (State i) (λ e. absurd cc);
+    layer = word-other (Layer i) (λ e. absurd cc);
+    removes = (λ h. h, λ h. h);
+    places = (λ h. h, λ h. h);
+  }

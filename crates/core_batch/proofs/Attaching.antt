@@ -1,5 +1,5 @@
 -- A batch that is to be attached: what is known of its slot, its nodes and its bodies before.
-use Rattle.std.proofs.Common.{List, ◌≡◌, ◌≢◌, ℕ, ◌<◌, true, Some, Contains, refl, ap, sym, ◌∙◌, subst, inl, inr, arith}
+use Rattle.std.proofs.Common.{◌≡◌, ◌≢◌, ℕ, ◌<◌, true, Some, Contains, refl, ap, sym, ◌∙◌, subst, inl, inr, arith}
 use Rattle.std.specs.Prelude.{flat_map, slice_index}
 use Rattle.std.proofs.lemmas.Bool.{false≢true}
 use Rattle.std.proofs.lemmas.List.Elements.{Contains-append_left}
@@ -23,7 +23,7 @@ use Rattle.core_state.specs.Space.{IsInHull}
 use Rattle.core_state.specs.Kind.{Step}
 use Rattle.core_state.specs.Formed.{IsFormed}
 use Rattle.core_state.specs.Guards.{GuardsHold, by_node}
-use Rattle.core_state.specs.Nodes.{Home, free, spare, owned, made, under, superseded, returning, IsOwnedBy, node_in, nodes_of, Above, here, higher}
+use Rattle.core_state.specs.Nodes.{owned, node_in, nodes_of, Above, here, higher}
 use Rattle.core_state.specs.Scope.{Sight, sight, scene_in}
 use Rattle.core_state.specs.Bodies.{MovesBody, HasWholeBox, IsBetweenBoxes, IsForSlot, AreOtherSlots, all_batches}
 use Rattle.core_state.specs.BodiesAgree.{body_scope, IsHeldFor}
@@ -31,12 +31,12 @@ use Rattle.core_state.specs.NodesInOnePlace.{node_scope}
 use Rattle.core_state.specs.LocationsHold.{location_scope, IsPlannedIn, IsUnheld}
 use Rattle.core_state.specs.Batches.{is_for, batch_for, IsPart, nothing, a_body, a_node, IsEntered, HasSide, IsWholeTree, attach}
 use Rattle.core_state.specs.Invariants.{Invariants}
-use Rattle.core_guard.proofs.Seats.{seat_seen, each-seat, has-seat, seat-has}
+use Rattle.core_guard.proofs.Seats.{seat_seen, each-seat, has-seat}
 use Rattle.core_guard.proofs.BodiesStep.{HoldsSlot, known-now}
 use Rattle.core_guard.proofs.Leaving.{held-once}
 use Rattle.core_state.proofs.Beginning.{contains_flat, body_record, record_body}
 use Rattle.core_batch.proofs.Lists.{find-only, pairs-two}
-use Rattle.core_batch.proofs.Owning.{nodes-seen, same-seat, number-low, slot-reserved}
+use Rattle.core_batch.proofs.Owning.{same-seat, number-low, slot-reserved, batch-home}
 use Rattle.core_batch.proofs.SlotLists.{is_for-true, is_for-slot}
 
 -- a pass with the batch that it attaches
@@ -58,18 +58,6 @@ pub record Attaching (core : Core) : Type 0 where
 -- its step
 abbrev pub step_of : (core : Core) → Attaching core → Step
 step_of core a = record { seat = a.seat; view = a.view; number = a.number; name = Slot a.layer a.slot; first = slot_tree a.root; second = a.second }
-
--- ---- nodes
-
--- an owned home that is none of an update
-owned_home : (home : Home) (number : ℕ) → IsOwnedBy number home → ((l : ℕ) → home ≢ made number l) → home ≡ owned number
-owned_home (owned p) number own none = ap owned own
-owned_home (made p l) number own none = absurd (none l (ap (λ (k : ℕ). made k l) own))
-owned_home free number own none = absurd own
-owned_home spare number own none = absurd own
-owned_home (under name) number own none = absurd own
-owned_home (superseded p name) number own none = absurd own
-owned_home (returning p) number own none = absurd own
 
 -- ---- bodies
 
@@ -150,12 +138,7 @@ module _ (core : Core) (a : Attaching core) (formed : IsFormed core) where
     node_owned n inside = Contains-append_left (flat_map (λ b. b.nodes) a.view.batches) _ n (contains_flat (λ b. b.nodes) a.view.batches a.batch n a.among inside)
 
     pub was_home : (n : ℕ) → Contains a.batch.nodes n → h.nodes.home n ≡ owned a.number
-    was_home n inside =
-        owned_home (h.nodes.home n) a.number
-        ((h.places.owned n a.number).1
-        (seat-has node_scope (λ k v. refl) core a.number (λ v. Contains (nodes_of v) n)
-        (record { seat = a.seat; view = a.view; at = a.at; pass = a.pass; holds = subst (λ (l : List ℕ). Contains l n) (sym (nodes-seen a.number a.view)) (node_owned n inside) })))
-        (λ l e. let arena = h.places.made_trees n a.number l e in let batch = batch_node n inside in absurd (omega arith))
+    was_home n inside = batch-home core h.nodes h.places a.seat a.number a.view a.at a.pass n (Contains-append_left (flat_map (λ b. b.nodes) a.view.batches) a.view.loose n (contains_flat (λ b. b.nodes) a.view.batches a.batch n a.among inside))
 
     module _ (guards : GuardsHold core) where
       -- their words are those that the pass knew

@@ -32,7 +32,7 @@ use Rattle.core_state.specs.Scope.{sight}
 use Rattle.core_state.specs.TreesSound.{tree_scope, AreTops}
 use Rattle.core_state.specs.Invariants.{Invariants}
 use Rattle.core_guard.proofs.BodiesStep.{sound, known-now}
-use Rattle.core_guard.proofs.Guarded.{marked-held}
+use Rattle.core_guard.proofs.Alone.{marked-held}
 use Rattle.core_guard.proofs.Seats.{each-seat}
 use Rattle.core_batch.proofs.Lists.{map_from}
 use Rattle.core_batch.proofs.Mapped.{marks-apart, held-by}

@@ -24,11 +24,11 @@ use Rattle.core_state.proofs.Beginning.{contains_flat, contains_filter, body_rec
 use Rattle.core_state.proofs.Opening.{none_in}
 use Rattle.core_state.proofs.SameNames.{cases_name}
 use Rattle.core_state.proofs.Steps.{word-step, word-step-other}
-use Rattle.core_guard.proofs.BodiesStep.{HoldsSlot}
+use Rattle.core_guard.proofs.BodiesStep.{same-locks, HoldsSlot}
 use Rattle.core_guard.proofs.Leaving.{Acts}
 use Rattle.core_guard.proofs.Seats.{has-seat, SeatAfter, stepped, stayed, seat-after, seat_seen}
 use Rattle.core_batch.proofs.BatchesStep.{ChangesBatches, Past, batch-part, slot-kept}
-use Rattle.core_batch.proofs.BodiesAside.{IsAside, IsAsideWord, same_calls, PhasesKept, BodiesAgree-aside}
+use Rattle.core_guard.proofs.BodiesAside.{IsAside, IsAsideWord, same_calls, PhasesKept, BodiesAgree-aside}
 use Rattle.core_batch.proofs.Lists.{filter_from}
 use Rattle.core_batch.proofs.Owning.{same-seat, number-low, slot-reserved}
 use Rattle.core_batch.proofs.SlotLists.{is_for-true, is_for-slot, slot_one}
@@ -117,8 +117,7 @@ module _ (core : Core) (step : Step) (a : Acts core step) (asked : MayLetSlotGo 
   leaves = record {
     word = subst IsAsideWord (sym asked.names) tt;
     entry = λ value. refl;
-    locks = ap (λ (v : View). v.locks) (freed-left core step asked);
-    call = same_calls (ap (λ (v : View). v.call) (freed-left core step asked));
+    call = same_calls (ap (λ (v : View). v.call) (freed-left core step asked)) (same-locks step.view Last (ap (λ (v : View). v.locks) (freed-left core step asked)));
   }
 
   -- ---- phases

@@ -24,15 +24,15 @@ use Rattle.core_state.proofs.Beginning.{cases_cons, contains_filter, contains_fi
 use Rattle.core_state.proofs.Steps.{word-step, word-step-other}
 use Rattle.core_guard.proofs.Chains.{chain-kept, chain-front}
 use Rattle.core_guard.proofs.Leaving.{Acts}
-use Rattle.core_guard.proofs.NodesLeft.{PoolPart, KeepsHomes, LeavesUpdate, tree-part, pool-part, pool-own, pool-idle, together}
+use Rattle.core_guard.proofs.NodesLeft.{PoolPart, KeepsHomes, LeavesUpdate, tree-part, pool-part, pool-own, pool-idle, together, seen-nodes}
 use Rattle.core_guard.proofs.Seats.{seen_of, each-seat}
 use Rattle.core_batch.proofs.Lists.{contains_later, filter_from, pairs-cons, pairs-left, pairs-right, pairs-across, pairs-append}
 use Rattle.core_batch.proofs.NodesStep.{OwnsAfter, owner-part}
-use Rattle.core_batch.proofs.Owning.{nodes-seen, owner_one, owned-by, owner-has, batch-below, batch-home}
+use Rattle.core_batch.proofs.Owning.{owner_one, owned-by, owner-has, batch-below, batch-home}
 use Rattle.core_batch.proofs.PoolHeads.{IsGiving, HeadStep, taking, giving, home_later, head-step, pool_later}
 use Rattle.core_batch.proofs.PoolSteps.{world-pool}
-use Rattle.core_batch.proofs.Rehome.{free_spare, owned_spare, free_owned, rehome, rehome-at, rehome-other, rehome-stood, rehome-keeps}
-use Rattle.core_batch.proofs.Taking.{NodesInOnePlace-taken, taken-home, taken-keeps, taken-owns}
+use Rattle.core_batch.proofs.Rehome.{free_spare, owned_spare, free_owned, rehome, rehome-at, rehome-other, rehome-keeps}
+use Rattle.core_batch.proofs.Taking.{NodesInOnePlace-taken}
 
 -- the pool has one node more
 given-under : (s t : Sight) (v w : View) (task : Task) (many : ℕ) → IsPoolTask task → Holds w (pool_lock t.config) Write → t.word PoolFree ≡ s.word PoolFree
@@ -97,7 +97,7 @@ module _ (core : Core) (step : Step) (a : Acts core step) (asked : MayStorePoolH
 
   all_once : IsOnce (front ++ (step.view.loose ++ updated))
   all_once =
-      subst IsOnce (nodes-seen p step.view) (each-seat node_scope (λ k v. refl) core (λ number view. IsOnce (nodes_of view)) a.laws.places.owned_once step.seat p step.view a.at a.pass)
+      subst IsOnce (seen-nodes p step.view) (each-seat node_scope (λ k v. refl) core (λ number view. IsOnce (nodes_of view)) a.laws.places.owned_once step.seat p step.view a.at a.pass)
 
   -- the node is nothing else that the pass has
   not_front : (n : ℕ) → Contains front n → n ≢ x
@@ -253,33 +253,3 @@ module _ (core : Core) (step : Step) (a : Acts core step) (asked : MayStorePoolH
       go : (h : HeadStep core step) → NodesInOnePlace (home_later core step a.laws.nodes h) (after_step store_pool_head core step)
       go (taking x t) = NodesInOnePlace-taken core step a asked x t
       go (giving x g) = NodesInOnePlace-given core step a asked x g
-
-  -- no node in a tree has another home, and no depth is another
-  pub pool_later-keeps : KeepsHomes core a.laws.nodes (pool_later core step a asked)
-  pool_later-keeps = go (head-step core step a asked)
-    where
-      go : (h : HeadStep core step) → KeepsHomes core a.laws.nodes (home_later core step a.laws.nodes h)
-      go (taking x t) = taken-keeps core step a asked x t
-      go (giving x g) = given-keeps core step a asked x g
-
-  pub pool_later-depth : (n : ℕ) → (pool_later core step a asked).depth n ≡ a.laws.nodes.depth n
-  pool_later-depth n = go (head-step core step a asked)
-    where
-      go : (h : HeadStep core step) → (home_later core step a.laws.nodes h).depth n ≡ a.laws.nodes.depth n
-      go (taking x t) = refl
-      go (giving x g) = refl
-
-  pub pool_later-stood : (n : ℕ) → IsInTree ((pool_later core step a asked).home n) → (pool_later core step a asked).home n ≡ a.laws.nodes.home n
-  pool_later-stood n = go (head-step core step a asked)
-    where
-      go : (h : HeadStep core step) → IsInTree ((home_later core step a.laws.nodes h).home n) → (home_later core step a.laws.nodes h).home n ≡ a.laws.nodes.home n
-      go (taking x t) inside = rehome-stood a.laws.nodes x (owned step.number) (λ low. subst IsInTree (taken-home core step a asked x t) low) (λ low. low) n inside
-      go (giving x g) inside = rehome-stood a.laws.nodes x free (λ low. subst IsInTree (given-home core step a asked x g) low) (λ low. low) n inside
-
-  -- and who owns what
-  pub pool_later-owns : OwnsAfter store_pool_head core step a (pool_later core step a asked)
-  pool_later-owns = go (head-step core step a asked)
-    where
-      go : (h : HeadStep core step) → OwnsAfter store_pool_head core step a (home_later core step a.laws.nodes h)
-      go (taking x t) = taken-owns core step a asked x t
-      go (giving x g) = given-owns core step a asked x g

@@ -10,9 +10,6 @@ use Rattle.word_map.specs.declared.name.Name.{Name}
 use Rattle.word_map.specs.declared.name.Name.TheVariants.{Phase, Slot, LocA, LocB}
 use Rattle.word_map.specs.Names.{IsName}
 use Rattle.core_state.specs.declared.item.Item.{Item}
-use Rattle.core_state.specs.declared.view.Task.{Task}
-use Rattle.core_state.specs.declared.view.Task.TheVariants.{Moving, Removing, Placing}
-use Rattle.core_state.specs.declared.view.Call.{Call}
 use Rattle.core_state.specs.declared.view.Marked.{Marked}
 use Rattle.core_state.specs.declared.view.Batch.{Batch}
 use Rattle.core_state.specs.declared.view.View.{View}
@@ -23,16 +20,15 @@ use Rattle.core_state.specs.Kind.{Kind, Step, learned, found_by, log_after, view
 use Rattle.core_state.specs.Formed.{IsFormed, IsSoundItem}
 use Rattle.core_state.specs.Encoding.{place, phase_join, slot_tree}
 use Rattle.core_state.specs.Nodes.{Home, owned, IsInTree}
-use Rattle.core_state.specs.Parts.{call_by_task}
 use Rattle.core_state.specs.Scope.{Sight, sight}
 use Rattle.core_state.specs.BodiesAgree.{body_scope, IsHeldFor}
-use Rattle.core_state.specs.LocationsHold.{location_scope, IsUnheld, IsTakenOut, Removes, IsPlannedIn}
+use Rattle.core_state.specs.LocationsHold.{location_scope, IsPlannedIn}
 use Rattle.core_state.specs.Invariants.{Invariants}
 use Rattle.core_state.proofs.Beginning.{contains_flat, body_record}
 use Rattle.core_state.proofs.Reading.{word-last}
 use Rattle.core_guard.proofs.PlacesStay as places
 use Rattle.core_guard.proofs.Leaving.{IsHandled, some_and_map}
-use Rattle.core_guard.proofs.Seats.{each-seat, seat_seen}
+use Rattle.core_guard.proofs.Seats.{seat_seen}
 use Rattle.core_batch.proofs.Mapped.{held-by}
 use Rattle.core_batch.proofs.Owning.{number-low, slot-reserved, batch-home}
 

@@ -1,5 +1,5 @@
 -- The steps on the bodies of a batch keep all invariants: a body is marked, placed, taken back and unmarked.
-use Rattle.std.proofs.Common.{◌≡◌, false, refl, ap}
+use Rattle.std.proofs.Common.{◌≡◌, false, ap}
 use Rattle.core_state.specs.Core.{Core}
 use Rattle.core_state.specs.Kind.{Kind, Step, view_after, after_step}
 use Rattle.core_state.specs.Batches.{MayMark, mark, MayPlace, place_body, MayTakeBack, take_back, MayUnmark, unmark}

@@ -14,7 +14,6 @@ pub mod NodesStep
 pub mod Rehome
 pub mod PoolSteps
 pub mod BatchesStep
-pub mod BodiesAside
 pub mod Newest
 pub mod BatchGuards
 pub mod HeldFacts
@@ -38,4 +37,3 @@ pub mod LocksStay
 pub mod PoolKeep
 pub mod Keeping
 pub mod PoolTouches
-pub mod HeldNodes

@@ -1,6 +1,6 @@
 -- Lists: their elements, what holds of all pairs of them, what is collected of them, and lists that are parts of others.
 use Rattle.std.proofs.Common.{◌≡◌, ◌≢◌, ◌⊎◌, ℕ, zero, suc, ◌<◌, List, [], ◌∷◌, ◌++◌, Bool, true, false, cond, Option, Some, None, Contains, AllPairs, get_or, set, refl, ap, sym, ◌∙◌, subst, inl, inr, arith}
-use Rattle.std.specs.Prelude.{All, filter, filter_map, find, flat_map, fold, map}
+use Rattle.std.specs.Prelude.{All, filter, filter_map, find, flat_map, map}
 use Rattle.std.specs.List.{cons_option}
 use Rattle.std.proofs.lemmas.Bool.{cases_lt, false≢true}
 use Rattle.std.proofs.lemmas.Grind.{flat_map-append}
@@ -12,6 +12,7 @@ use lib.ListN.{get_elem?}
 use Rattle.core_state.proofs.Opening.{none_in}
 use Rattle.core_state.proofs.Beginning.{contains_flat, cases_cons, contains_first}
 use Rattle.core_state.proofs.Lookups.{at_set}
+use Rattle.core_guard.proofs.NodesLeft.{flat_from}
 
 -- ---- elements
 
@@ -82,15 +83,6 @@ module _ {X : Type 0} where
             | inl same ↦ absurd (false≢true (sym fails ∙ (ap p same ∙ test)))
             | inr later ↦ later
           ]
-
--- what is collected comes from one of the elements
-pub flat_from : {X Y : Type 0} (f : X → List Y) (xs : List X) (y : Y) → Contains (flat_map f xs) y → (x : X) × Contains xs x × Contains (f x) y
-flat_from f [] y h = absurd (none_in y h)
-flat_from f (x ∷ xs) y h =
-    elim (Contains-append_cases (f x) (flat_map f xs) y h) [
-      | inl here ↦ (x, contains_first x xs, here)
-      | inr later ↦ let t = flat_from f xs y later in (t.0, contains_later x xs t.0 t.1, t.2)
-    ]
 
 -- ---- pairs
 
@@ -330,20 +322,6 @@ module _ {X Y : Type 0} (f : X → Option Y) where
       let first : f z ≡ Some a = ap f (some-injective z x at) ∙ old in
       rw (first, new) (part-append (g b) (g a) (flat_map g (filter_map f xs)) (flat_map g (filter_map f xs)) part (part-refl (flat_map g (filter_map f xs))))
   part-set g (z ∷ xs) (suc i) x y a b at old new part = part-more g (f z) (filter_map f (set xs i y)) (filter_map f xs) (part-set g xs i x y a b at old new part)
-
-  fold-more : {Z : Type 0} (step : Z → Y → Z) (o : Option Y) (ys zs : List Y) → ((start : Z) → fold step start ys ≡ fold step start zs) → (start : Z) → fold step start (cons_option o ys) ≡ fold step start (cons_option o zs)
-  fold-more step None ys zs same start = same start
-  fold-more step (Some b) ys zs same start = same (step start b)
-
-  -- to one that adds the same
-  pub fold-set : {Z : Type 0} (step : Z → Y → Z) (xs : List X) (i : ℕ) (x y : X) (a b : Y) → get_elem? xs i ≡ some x → f x ≡ Some a → f y ≡ Some b → ((start : Z) → step start b ≡ step start a)
-      → (start : Z) → fold step start (filter_map f (set xs i y)) ≡ fold step start (filter_map f xs)
-  fold-set step [] i x y a b at old new same start = refl
-  fold-set {Z = Z} step (z ∷ xs) zero x y a b at old new same start =
-      let first : f z ≡ Some a = ap f (some-injective z x at) ∙ old in
-      rw (first, new) (ap (λ (s : Z). fold step s (filter_map f xs)) (same start))
-  fold-set step (z ∷ xs) (suc i) x y a b at old new same start =
-      fold-more step (f z) (filter_map f (set xs i y)) (filter_map f xs) (fold-set step xs i x y a b at old new same) start
 
 part_before : {Y : Type 0} (xs ys zs : List Y) → IsPartOf xs ys → IsPartOf xs (ys ++ zs)
 part_before {Y = Y} xs ys zs part = subst (λ (l : List Y). IsPartOf l (ys ++ zs)) (append-nil xs) (part-append xs ys [] zs part (part-none zs))

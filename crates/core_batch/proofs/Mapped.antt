@@ -21,10 +21,11 @@ use Rattle.core_state.proofs.Beginning.{contains_flat}
 use Rattle.core_state.proofs.Steps.{view-step, view-step-other}
 use Rattle.core_guard.proofs.Seats.{KeepsNumber, seen_at, seat_seen, seat-after, stepped, stayed, has-step, has-unstep, SeatAfter}
 use Rattle.core_guard.proofs.BodiesStep.{new_sight, HoldsSlot, BatchPart}
-use Rattle.core_batch.proofs.Lists.{contains_at, at_contains, contains_map, map_from, flat_from, pairs-map, flat-own, flat-apart, flat-changed, flat-flat, kept_list, flat-kept}
+use Rattle.core_batch.proofs.Lists.{contains_at, at_contains, contains_map, map_from, pairs-map, flat-own, flat-apart, flat-changed, flat-flat, kept_list, flat-kept}
 use mathlib.Core.Option.{some-injective}
 use Rattle.core_state.proofs.Lookups.{at_one}
 use lib.ListN.{get_elem?}
+use Rattle.core_guard.proofs.NodesLeft.{flat_from}
 
 keeps : KeepsNumber body_scope
 keeps number view = refl

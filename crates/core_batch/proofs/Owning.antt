@@ -1,36 +1,31 @@
 -- Who owns a node: the homes of the nodes of batches and of those that are to be given back.
-use Rattle.std.proofs.Common.{◌≡◌, ◌≢◌, ℕ, ◌<◌, List, ◌++◌, Contains, Option, Some, None, option_map, append_assoc, refl, ap, sym, ◌∙◌, subst, inl, inr, arith, suc}
+use Rattle.std.proofs.Common.{◌≡◌, ◌≢◌, ℕ, ◌<◌, List, ◌++◌, Contains, append_assoc, refl, ap, sym, ◌∙◌, subst, inl, inr, arith, suc}
 use Rattle.std.specs.Prelude.{flat_map}
 use Rattle.std.proofs.lemmas.Bool.{cases_eq}
-use Rattle.std.proofs.lemmas.List.Elements.{Contains-append_left, Contains-append_right, Contains-append_cases}
+use Rattle.std.proofs.lemmas.List.Elements.{Contains-append_left, Contains-append_cases}
 use Rattle.core_state.specs.declared.view.Role.{Role}
 use Rattle.core_state.specs.declared.view.Role.TheVariants.{Pass}
 use Rattle.core_state.specs.declared.view.Batch.{Batch}
-use Rattle.core_state.specs.declared.view.Rebuild.{Rebuild}
 use Rattle.core_state.specs.declared.view.View.{View}
 use Rattle.core_state.specs.View.{IsPass}
 use Rattle.core_state.specs.Core.{Core, IsViewAt, word_of}
 use Rattle.core_state.specs.Formed.{IsFormed, AreApart}
-use Rattle.core_state.specs.Nodes.{Nodes, Home, free, spare, owned, made, under, superseded, returning, IsOwnedBy, nodes_of, nodes_in}
-use Rattle.core_state.specs.Parts.{update_on_nodes}
+use Rattle.core_state.specs.Nodes.{Nodes, Home, owned, made, IsOwnedBy, nodes_of, nodes_in}
 use Rattle.core_state.specs.Batches.{batch_nodes_of}
 use Rattle.core_state.specs.NodesInOnePlace.{NodesInOnePlace, node_scope}
 use Rattle.core_state.specs.Scope.{sight}
 use Rattle.core_state.proofs.Beginning.{contains_flat}
 use Rattle.core_state.proofs.Forming.{pass_role, pass_below, unspent_pass}
 use Rattle.core_state.proofs.Lookups.{at_one}
-use Rattle.core_guard.proofs.Seats.{seen_of, seat_seen, seat-has, has-seat, each-seat}
-use Rattle.core_batch.proofs.Lists.{flat_from}
+use Rattle.core_guard.proofs.Seats.{seat_seen, seat-has, has-seat, each-seat}
 use Rattle.core_guard.proofs.BodiesStep.{HoldsSlot}
 use Rattle.core_state.specs.BodiesAgree.{BodiesAgree, body_scope}
 use Rattle.core_state.specs.Encoding.{reserved_by}
 use Rattle.word_map.specs.declared.name.Name.TheVariants.{Slot}
+use Rattle.core_guard.proofs.NodesLeft.{seen-nodes, flat_from}
+use Rattle.core_guard.proofs.Leaving.{number-apart}
 
 -- ---- numbers
-
-number-apart : (number further rest : ℕ) → ¬ AreApart (Pass number further) (Pass number rest)
-number-apart number further rest (inl less) = absurd (omega arith)
-number-apart number further rest (inr less) = absurd (omega arith)
 
 -- two seats of one number are one seat
 module _ (core : Core) (formed : IsFormed core) (seat other number : ℕ) (v w : View) (at : IsViewAt core seat v) (found : IsViewAt core other w) (pass : IsPass v number) (own : IsPass w number) where
@@ -73,14 +68,10 @@ owner_one a b (owned p) h k = sym h ∙ k
 owner_one a b (made p l) h k = sym h ∙ k
 owner_one a b _ h k = absurd h
 
-owned_home : (number : ℕ) (home : Home) → IsOwnedBy number home → ((p l : ℕ) → home ≢ made p l) → home ≡ owned number
+pub owned_home : (number : ℕ) (home : Home) → IsOwnedBy number home → ((p l : ℕ) → home ≢ made p l) → home ≡ owned number
 owned_home number (owned p) h none = ap owned h
 owned_home number (made p l) h none = absurd (none p l refl)
-owned_home number free h none = absurd h
-owned_home number spare h none = absurd h
-owned_home number (under name) h none = absurd h
-owned_home number (superseded p name) h none = absurd h
-owned_home number (returning p) h none = absurd h
+owned_home number _ h none = absurd h
 
 -- the nodes of batches and loose ones are among all that a view has
 pub nodes_split : (view : View) → nodes_of view ≡ batch_nodes_of view ++ nodes_in view.rebuild
@@ -89,23 +80,12 @@ nodes_split view = sym (append_assoc (flat_map (λ (b : Batch). b.nodes) view.ba
 pub batch_among : (view : View) (n : ℕ) → Contains (batch_nodes_of view) n → Contains (nodes_of view) n
 batch_among view n h = subst (λ (l : List ℕ). Contains l n) (sym (nodes_split view)) (Contains-append_left (batch_nodes_of view) (nodes_in view.rebuild) n h)
 
-pub update_among : (view : View) (n : ℕ) → Contains (nodes_in view.rebuild) n → Contains (nodes_of view) n
-update_among view n h = subst (λ (l : List ℕ). Contains l n) (sym (nodes_split view)) (Contains-append_right (batch_nodes_of view) (nodes_in view.rebuild) n h)
-
--- a law sees all of them
-pub nodes-seen : (number : ℕ) (view : View) → nodes_of (seen_of node_scope number view) ≡ nodes_of view
-nodes-seen number view = ap (λ (l : List ℕ). flat_map (λ b. b.nodes) view.batches ++ (view.loose ++ l)) (go view.rebuild)
-  where
-    go : (o : Option Rebuild) → nodes_in (option_map update_on_nodes o) ≡ nodes_in o
-    go None = refl
-    go (Some r) = refl
-
 module _ (core : Core) (nodes : Nodes) (h : NodesInOnePlace nodes core) (seat number : ℕ) (view : View) (at : IsViewAt core seat view) (pass : IsPass view number) where
   -- a pass owns the nodes that it has
   pub owned-by : (n : ℕ) → Contains (nodes_of view) n → IsOwnedBy number (nodes.home n)
   owned-by n among =
       (h.owned n number).1
-      (seat-has node_scope (λ k v. refl) core number (λ v. Contains (nodes_of v) n) (record { seat = seat; view = view; at = at; pass = pass; holds = subst (λ (l : List ℕ). Contains l n) (sym (nodes-seen number view)) among }))
+      (seat-has node_scope (λ k v. refl) core number (λ v. Contains (nodes_of v) n) (record { seat = seat; view = view; at = at; pass = pass; holds = subst (λ (l : List ℕ). Contains l n) (sym (seen-nodes number view)) among }))
 
   -- those of its batches, and loose ones, are batch nodes
   pub batch-below : (n : ℕ) → Contains (batch_nodes_of view) n → n < core.config.nodes
@@ -129,4 +109,4 @@ pub owner-has : (core : Core) (nodes : Nodes) (h : NodesInOnePlace nodes core) �
 owner-has core nodes h formed seat number view at pass n owns =
     let from = has-seat node_scope (λ k v. refl) core number (λ v. Contains (nodes_of v) n) ((h.owned n number).0 owns) in
     subst (λ (v : View). Contains (nodes_of v) n) (same-view core formed from.seat seat number from.view view from.at at from.pass pass)
-    (subst (λ (l : List ℕ). Contains l n) (nodes-seen number from.view) from.holds)
+    (subst (λ (l : List ℕ). Contains l n) (seen-nodes number from.view) from.holds)

@@ -12,7 +12,6 @@ use Rattle.scene_model.proofs.Places.{place_at-with_change_same, place_at-with_b
 use Rattle.word_map.specs.declared.name.Name.{Name}
 use Rattle.word_map.specs.declared.name.Name.TheVariants.{SlotHead, SlotNext, State, Phase, Layer, User, BoxWord, Slot}
 use Rattle.core_state.specs.declared.view.Call.{Call}
-use Rattle.core_state.specs.declared.view.LockStep.{LockStep}
 use Rattle.core_state.specs.declared.view.Marked.{Marked}
 use Rattle.core_state.specs.declared.view.Batch.{Batch}
 use Rattle.core_state.specs.Log.{word, history}
@@ -22,12 +21,12 @@ use Rattle.core_state.specs.Operation.{store}
 use Rattle.core_state.specs.Kind.{Kind, Step, left_by, log_after, view_after, after_step}
 use Rattle.core_state.specs.Scope.{Sight, sight, scene_in}
 use Rattle.core_state.specs.Bodies.{state_word, phase_by, free_indexes, IsBetweenBoxes}
-use Rattle.core_state.specs.BodiesAgree.{BodiesAgree, body_scope, HasWordsOf, IsUnderStripe, IsHeldFor}
+use Rattle.core_state.specs.BodiesAgree.{BodiesAgree, body_scope, HasWordsOf, IsHeldFor}
 use Rattle.core_state.proofs.Steps.{word-step}
 use Rattle.core_guard.proofs.FreeIndexes.{free-change}
 use Rattle.core_guard.proofs.Scenes.{record_live}
 use Rattle.core_guard.proofs.OneBody.{history-made, scene-made, lawful-made}
-use Rattle.core_guard.proofs.BodiesStep.{new_sight, unstored, bodies-agree, WordsPart, together, whole-back, words-kept, list-stays, stripe-part, stripe-moved, BatchPart}
+use Rattle.core_guard.proofs.BodiesStep.{new_sight, unstored, bodies-agree, WordsPart, together, whole-back, words-kept, list-stays, stripe-stays, BatchPart}
 
 -- whether a body is live, and how often one was created, is no matter of its phase
 state-phase : (phase : BodyPhase) (p : Place) → state_word (record p { body = option_map (in_phase phase) p.body }) ≡ state_word p
@@ -141,15 +140,9 @@ module _ (kind : Kind) (core : Core) (step : Step) (at : IsViewAt core step.seat
             ];
       }
 
-      stripes-own : IsUnderStripe Old step.view step.view.call.task → IsUnderStripe phase_sight (view_after kind core step) (view_after kind core step).call.task
-      stripes-own was =
-          subst (λ (c : Call). IsUnderStripe phase_sight (view_after kind core step) c.task) (sym call)
-          (subst (λ (l : List LockStep). IsUnderStripe phase_sight (record step.view { locks = l }) step.view.call.task) (sym locks)
-          (stripe-moved kind core step at pass phase_past step.view step.view.call.task was))
-
       pub phase-agree : kind.operation ≡ store → kind.entry step.view step.name step.first ≡ Some entry → IsLawful core.config.layers (scene_in Old) entry → BatchPart phase_sight → BodiesAgree (after_step kind core step)
       phase-agree stores made lawful batches =
           bodies-agree kind core step at pass phase_past (history-made kind core step entry stores made)
           (together phase_sight (words lawful)
           (list-stays kind core step at pass phase_past h call locks (other_word SlotHead refl) (λ i. other_word (SlotNext i) refl) (ap free_indexes scene ∙ free-change (in_phase target) (scene_in Old) index))
-          (stripe-part kind core step at pass phase_past h stripes-own) batches)
+          (stripe-stays kind core step at pass phase_past h call locks) batches)

@@ -6,7 +6,6 @@ use Rattle.scene_model.specs.Scene.{record_at}
 use Rattle.word_map.specs.declared.name.Name.{Name}
 use Rattle.word_map.specs.declared.name.Name.TheVariants.{SlotHead, SlotNext, State, Phase, Layer, User, BoxWord, LocA, Slot}
 use Rattle.core_state.specs.declared.view.Call.{Call}
-use Rattle.core_state.specs.declared.view.LockStep.{LockStep}
 use Rattle.core_state.specs.declared.view.Marked.{Marked}
 use Rattle.core_state.specs.declared.view.Batch.{Batch}
 use Rattle.core_state.specs.Log.{history}
@@ -16,9 +15,9 @@ use Rattle.core_state.specs.Kind.{Kind, Step, view_after, after_step}
 use Rattle.core_state.specs.Batches.{with_bodies}
 use Rattle.core_state.specs.Scope.{Sight, sight, scene_in}
 use Rattle.core_state.specs.Bodies.{IsBetweenBoxes}
-use Rattle.core_state.specs.BodiesAgree.{BodiesAgree, body_scope, IsUnderStripe, IsHeldFor}
+use Rattle.core_state.specs.BodiesAgree.{BodiesAgree, body_scope, IsHeldFor}
 use Rattle.core_state.proofs.Frames.{step-history}
-use Rattle.core_guard.proofs.BodiesStep.{new_sight, unstored, bodies-agree, WordsPart, together, words-kept, list-stays, stripe-part, stripe-moved, BatchPart}
+use Rattle.core_guard.proofs.BodiesStep.{new_sight, unstored, bodies-agree, WordsPart, together, words-kept, list-stays, stripe-stays, BatchPart}
 use Rattle.core_batch.proofs.Lists.{contains_map, map_from, pairs-map, flat-own, flat-across, flat-pairs}
 use Rattle.core_batch.proofs.Mapped.{AreOtherBodies, own-marks, StemsFrom, mapped-part, batch-kept, own_batch, other_batch, held-by}
 use Rattle.scene_model.specs.declared.body_view.Phase.TheVariants.{Held}
@@ -51,12 +50,6 @@ module _ (kind : Kind) (core : Core) (step : Step) (at : IsViewAt core step.seat
         (h.live i r e);
     dead = λ i none. kept (Phase i) refl ∙ h.dead i none;
   }
-
-  stripes-own : IsUnderStripe Old step.view step.view.call.task → IsUnderStripe New (view_after kind core step) (view_after kind core step).call.task
-  stripes-own was =
-      subst (λ (c : Call). IsUnderStripe New (view_after kind core step) c.task) (sym call)
-      (subst (λ (l : List LockStep). IsUnderStripe New (record step.view { locks = l }) step.view.call.task) (sym locks)
-      (stripe-moved kind core step at pass (history core.log) step.view step.view.call.task was))
 
   -- ---- marks
 
@@ -109,4 +102,4 @@ module _ (kind : Kind) (core : Core) (step : Step) (at : IsViewAt core step.seat
       bodies-agree kind core step at pass (history core.log) (step-history kind core step plain)
       (together New words
       (list-stays kind core step at pass (history core.log) h call locks (kept SlotHead refl) (λ i. kept (SlotNext i) refl) refl)
-      (stripe-part kind core step at pass (history core.log) h stripes-own) batches)
+      (stripe-stays kind core step at pass (history core.log) h call locks) batches)

@@ -16,7 +16,7 @@ use Rattle.core_state.proofs.Steps.{word-step-other}
 use Rattle.core_guard.proofs.BodiesStep.{HoldsSlot}
 use Rattle.core_guard.proofs.Leaving.{Acts}
 use Rattle.core_batch.proofs.BatchesStep.{ChangesBatches, batch-part, slot-kept}
-use Rattle.core_batch.proofs.BodiesAside.{IsAside, IsAsideWord, IsPoolCall, same_calls, pool_calls, BodiesAgree-aside}
+use Rattle.core_guard.proofs.BodiesAside.{IsAside, IsAsideWord, IsPoolCall, same_calls, pool_calls, BodiesAgree-aside}
 use Rattle.core_batch.proofs.Newest.{newest-changes, newest-holds, newest-held}
 use Rattle.core_batch.proofs.PoolHeads.{IsTaking, IsGiving, taking, giving, head-step}
 use Rattle.core_batch.proofs.PoolSteps.{IsPoolWord, counting-pool}
@@ -56,10 +56,10 @@ module _ (kind : Kind) (core : Core) (step : Step) (a : Acts core step) (of_pool
   apart name none same = none (subst IsPoolWord (sym same) of_pool)
 
   -- slots are held as before
-  BodiesAgree-pool : ((value : ℕ) → kind.entry step.view step.name value ≡ None) → Last.locks ≡ step.view.locks → IsPoolCall step.view.call Last.call
+  BodiesAgree-pool : ((value : ℕ) → kind.entry step.view step.name value ≡ None) → IsPoolCall step.view Last
       → (batches : ChangesBatches (all_batches (sight body_scope core)) step.view.batches Last.batches) → ((l t : ℕ) → HoldsSlot l t step.view ↔ HoldsSlot l t Last) → BodiesAgree (after_step kind core step)
-  BodiesAgree-pool entry locks call batches holds =
-      let leaves : IsAside kind core step = record { word = pool_aside step.name of_pool; entry = entry; locks = locks; call = call } in
+  BodiesAgree-pool entry call batches holds =
+      let leaves : IsAside kind core step = record { word = pool_aside step.name of_pool; entry = entry; call = call } in
       let stands : (l t : ℕ) → word_of (after_step kind core step) (Slot l t) ≡ word_of core (Slot l t) = λ l t. word-step-other kind core step (Slot l t) (apart (Slot l t) (λ none. none)) in
       BodiesAgree-aside kind core step a leaves
       (λ i r e old. ap (λ (w : ℕ). phase_by (word_of core (Phase i)) w) (stands r.layer (word_of core (Phase i) - 2)) ∙ old)
@@ -71,12 +71,12 @@ module _ (kind : Kind) (core : Core) (step : Step) (a : Acts core step) (of_pool
 
 pub BodiesAgree-store_pool_link : (core : Core) (step : Step) (a : Acts core step) → MayStorePoolLink step.view step.name step.first step.second → BodiesAgree (after_step store_pool_link core step)
 BodiesAgree-store_pool_link core step a asked =
-    BodiesAgree-pool store_pool_link core step a (subst IsPoolWord (sym asked.names) tt) (λ value. refl) refl (same_calls refl) (same-batches (all_batches (sight body_scope core)) step.view.batches)
+    BodiesAgree-pool store_pool_link core step a (subst IsPoolWord (sym asked.names) tt) (λ value. refl) (same_calls refl (λ lock holds. holds)) (same-batches (all_batches (sight body_scope core)) step.view.batches)
     (λ l t. (λ has. has, λ has. has))
 
 pub BodiesAgree-store_pool_count : (core : Core) (step : Step) (a : Acts core step) → MayStorePoolCount step.view step.name step.first step.second → BodiesAgree (after_step store_pool_count core step)
 BodiesAgree-store_pool_count core step a asked =
-    BodiesAgree-pool store_pool_count core step a (subst IsPoolWord (sym asked.names) tt) (λ value. refl) refl (pool_calls (counting-pool step.view step.first asked.count) tt)
+    BodiesAgree-pool store_pool_count core step a (subst IsPoolWord (sym asked.names) tt) (λ value. refl) (pool_calls (counting-pool step.view step.first asked.count) tt)
     (same-batches (all_batches (sight body_scope core)) step.view.batches) (λ l t. (λ has. has, λ has. has))
 
 -- ---- the head
@@ -103,7 +103,7 @@ module _ (core : Core) (step : Step) (a : Acts core step) (asked : MayStorePoolH
       elim (head-step core step a asked) [
         | taking x t ↦
             let is : Head.batches ≡ _ = ap (λ (v : View). v.batches) t.left in
-            BodiesAgree-pool store_pool_head core step a of_pool (λ value. refl) (ap (λ (v : View). v.locks) t.left)
+            BodiesAgree-pool store_pool_head core step a of_pool (λ value. refl)
             (pool_calls asked.pool.idle (subst IsPoolTask (sym (ap (λ (v : View). v.call.task) t.left)) (taken_task step.view.call.task asked.pool.idle))) (taken-changes x t)
             (λ l s. (
               λ has. subst (IsHolding l s) (sym is) (newest-holds x step.view.batches l s has),
@@ -111,7 +111,7 @@ module _ (core : Core) (step : Step) (a : Acts core step) (asked : MayStorePoolH
             ))
         | giving x g ↦
             let is : Head.batches ≡ step.view.batches = ap (λ (v : View). v.batches) g.left in
-            BodiesAgree-pool store_pool_head core step a of_pool (λ value. refl) (ap (λ (v : View). v.locks) g.left)
+            BodiesAgree-pool store_pool_head core step a of_pool (λ value. refl)
             (pool_calls asked.pool.idle (subst IsPoolTask (sym (ap (λ (v : View). v.call.task) g.left)) (given_task step.view.call.task asked.pool.idle))) (given-changes x g)
             (λ l s. (λ has. subst (IsHolding l s) (sym is) has, λ has. subst (IsHolding l s) is has))
       ]

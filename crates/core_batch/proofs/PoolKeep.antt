@@ -1,20 +1,21 @@
 -- The steps on slots, own nodes and the pool keep all invariants.
-use Rattle.std.proofs.Common.{◌≡◌, ℕ, Some, None, false, option_map, refl, ap, sym, ◌∙◌}
+use Rattle.std.proofs.Common.{◌≡◌, ℕ, Some, false, refl, ap, sym, subst, inl, inr}
 use Rattle.std.proofs.lemmas.Bool.{false≢true}
 use Rattle.std.proofs.lemmas.Option.{none-some}
 use Rattle.word_map.specs.declared.name.Name.{Name}
 use Rattle.word_map.specs.declared.name.Name.TheVariants.{Child, Bound, Parent}
 use Rattle.core_state.specs.Core.{Core}
-use Rattle.core_state.specs.Kind.{Kind, Step, learned, found_by, view_after, after_step}
+use Rattle.core_state.specs.Kind.{Kind, Step, learned, found_by, after_step}
 use Rattle.core_state.specs.Batches.{MayReserve, reserve, MayStoreNode, store_node, MayLetSlotGo, let_slot_go}
 use Rattle.core_state.specs.Pool.{MayStorePoolLink, store_pool_link, MayStorePoolHead, store_pool_head, MayStorePoolCount, store_pool_count}
 use Rattle.core_state.specs.Frame.{IsOutside}
 use Rattle.core_state.specs.Nodes.{node_in}
 use Rattle.core_state.specs.LocksAgree.{LocksAgree, lock_scope}
-use Rattle.core_state.specs.BodiesAgree.{BodiesAgree, BodiesAgreeIn, body_scope}
-use Rattle.core_state.specs.NodesInOnePlace.{NodesInOnePlace, NodesInOnePlaceIn, node_scope}
+use Rattle.core_state.specs.BodiesAgree.{BodiesAgreeIn, body_scope}
+use Rattle.core_state.specs.NodesInOnePlace.{NodesInOnePlaceIn, node_scope}
 use Rattle.core_state.proofs.Frames.{frame, step-same}
 use Rattle.core_guard.proofs.Leaving.{Acts}
+use Rattle.core_guard.proofs.ListSteps.{IsAsideWord, Invariants-aside}
 use Rattle.core_guard.proofs.LockSteps.{LocksAgree-other}
 use Rattle.core_guard.proofs.Touched.{Invariants-touches, IsKept, kept}
 use Rattle.core_batch.proofs.LocksStay.{LeavesLocks, reserve-still, let_slot_go-still, pool_head-still}
@@ -22,8 +23,8 @@ use Rattle.core_batch.proofs.FreeBodies.{BodiesAgree-let_slot_go}
 use Rattle.core_batch.proofs.Giving.{NodesInOnePlace-store_pool_head}
 use Rattle.core_batch.proofs.PoolHeads.{pool_later}
 use Rattle.core_batch.proofs.PoolBodies.{BodiesAgree-store_pool_link, BodiesAgree-store_pool_head, BodiesAgree-store_pool_count}
-use Rattle.core_batch.proofs.PoolSteps.{NodesInOnePlace-store_pool_link, NodesInOnePlace-store_pool_count}
-use Rattle.core_batch.proofs.PoolTouches.{touches-reserve, touches-let_slot_go, touches-store_node, touches-store_pool_link, touches-store_pool_head, touches-store_pool_count}
+use Rattle.core_batch.proofs.PoolSteps.{counting-pool, NodesInOnePlace-store_pool_link, NodesInOnePlace-store_pool_count}
+use Rattle.core_batch.proofs.PoolTouches.{touches-reserve, touches-let_slot_go, touches-store_node, touches-store_pool_head, pool_idle}
 use Rattle.core_batch.proofs.ReserveBodies.{BodiesAgree-reserve}
 use Rattle.core_batch.proofs.SlotSteps.{NodesInOnePlace-reserve, NodesInOnePlace-let_slot_go}
 
@@ -70,17 +71,30 @@ Invariants-store_node = kept MayStoreNode store_node
 
 -- ---- the pool
 
+-- no law of trees sees a step on a link or on the count
 pub Invariants-store_pool_link : IsKept MayStorePoolLink store_pool_link
 Invariants-store_pool_link = kept MayStorePoolLink store_pool_link
-    (λ core step a asked. Invariants-touches store_pool_link core step a a.laws.nodes (touches-store_pool_link core step a asked)
-    (LocksAgree-other core step a store_pool_link (ap lock_scope.names asked.names) refl) (BodiesAgree-store_pool_link core step a asked) (NodesInOnePlace-store_pool_link core step a asked))
+    (λ core step a asked.
+    Invariants-aside store_pool_link core step a
+    (record { aside = subst IsAsideWord (sym asked.names) tt; entry = λ value. refl; batches = refl; written = refl; walk = refl; rebuild = refl; call = inl refl })
+    (LocksAgree-other core step a store_pool_link (ap lock_scope.names asked.names) refl)
+    (BodiesAgree-store_pool_link core step a asked) (NodesInOnePlace-store_pool_link core step a asked))
+
+pub Invariants-store_pool_count : IsKept MayStorePoolCount store_pool_count
+Invariants-store_pool_count = kept MayStorePoolCount store_pool_count
+    (λ core step a asked.
+    Invariants-aside store_pool_count core step a
+    (record {
+      aside = subst IsAsideWord (sym asked.names) tt;
+      entry = λ value. refl;
+      batches = refl;
+      written = refl;
+      walk = refl;
+      rebuild = refl;
+      call = inr (pool_idle step.view.call.task (counting-pool step.view step.first asked.count), tt);
+    }) (LocksAgree-other core step a store_pool_count (ap lock_scope.names asked.names) refl) (BodiesAgree-store_pool_count core step a asked) (NodesInOnePlace-store_pool_count core step a asked))
 
 pub Invariants-store_pool_head : IsKept MayStorePoolHead store_pool_head
 Invariants-store_pool_head = kept MayStorePoolHead store_pool_head
     (λ core step a asked. Invariants-touches store_pool_head core step a (pool_later core step a asked) (touches-store_pool_head core step a asked)
     (locks-still store_pool_head pool_head-still core step a (ap lock_scope.names asked.names)) (BodiesAgree-store_pool_head core step a asked) (NodesInOnePlace-store_pool_head core step a asked))
-
-pub Invariants-store_pool_count : IsKept MayStorePoolCount store_pool_count
-Invariants-store_pool_count = kept MayStorePoolCount store_pool_count
-    (λ core step a asked. Invariants-touches store_pool_count core step a a.laws.nodes (touches-store_pool_count core step a asked)
-    (LocksAgree-other core step a store_pool_count (ap lock_scope.names asked.names) refl) (BodiesAgree-store_pool_count core step a asked) (NodesInOnePlace-store_pool_count core step a asked))

@@ -8,7 +8,7 @@ use Rattle.word_map.specs.declared.name.Name.TheVariants.{PoolHead, PoolNext, Po
 use Rattle.word_map.specs.Names.{pool_lock}
 use Rattle.core_state.specs.declared.view.Mode.TheVariants.{Write}
 use Rattle.core_state.specs.declared.view.Task.{Task}
-use Rattle.core_state.specs.declared.view.Task.TheVariants.{Nothing, Pooling}
+use Rattle.core_state.specs.declared.view.Task.TheVariants.{Pooling}
 use Rattle.core_state.specs.declared.view.View.{View}
 use Rattle.core_state.specs.View.{Holds, known_word}
 use Rattle.core_state.specs.Core.{Core, word_of}
@@ -40,12 +40,6 @@ pool_guard c PoolHead h = refl
 pool_guard c (PoolNext n) h = refl
 pool_guard c PoolFree h = refl
 pool_guard c _ h = absurd h
-
--- the law sees the whole of a task on the pool
-pub pool_seen : (t : Task) → IsPoolTask t → task_on_pool t ≡ t
-pool_seen Nothing h = refl
-pool_seen (Pooling taken given) h = refl
-pool_seen _ h = absurd h
 
 -- the node whose link it is
 abbrev linked_node : Name → ℕ

@@ -1,5 +1,5 @@
 -- What the steps on slots, on the pool and on own nodes touch: no body, no tree, no walk.
-use Rattle.std.proofs.Common.{◌≡◌, ◌≢◌, ◌↔◌, ℕ, ◌<◌, ◌≤◌, List, Bool, true, false, Option, Some, None, Contains, refl, ap, sym, ◌∙◌, subst, inl, inr, arith}
+use Rattle.std.proofs.Common.{◌≡◌, ◌≢◌, ◌⊎◌, ◌↔◌, ℕ, List, Bool, true, false, Option, Some, None, Contains, refl, ap, sym, ◌∙◌, subst, inl, inr, arith}
 use Rattle.std.specs.Prelude.{not, filter, IfSome, ◌||◌, ◌∷◌, []}
 use Rattle.std.proofs.lemmas.Bool.{eq-eqb, false≢true}
 use Rattle.std.proofs.lemmas.Option.{none-some, same_Some}
@@ -17,12 +17,12 @@ use Rattle.core_state.specs.Names.{same_name}
 use Rattle.core_state.specs.Core.{Core, word_of}
 use Rattle.core_state.specs.Kind.{Kind, Step, view_after, after_step}
 use Rattle.core_state.specs.Encoding.{NamesRoot, slot_tree, layer_of}
-use Rattle.core_state.specs.Nodes.{Nodes, Home, free, spare, owned, made, under, superseded, returning, IsInTree, IsOwnedBy, node_in}
+use Rattle.core_state.specs.Nodes.{Nodes, Home, free, owned, IsInTree, IsOwnedBy, node_in}
 use Rattle.core_state.specs.Batches.{MayReserve, reserve, MayStoreNode, store_node, MayLetSlotGo, let_slot_go, is_in_nodes}
 use Rattle.core_state.specs.Bodies.{all_batches}
 use Rattle.core_state.specs.BodiesAgree.{body_scope}
 use Rattle.core_state.specs.LocationsHold.{location_scope, Removes, IsPlannedIn}
-use Rattle.core_state.specs.Pool.{IsPoolTask, MayStorePoolLink, store_pool_link, MayStorePoolHead, store_pool_head, MayStorePoolCount, store_pool_count}
+use Rattle.core_state.specs.Pool.{IsPoolTask, MayStorePoolHead, store_pool_head}
 use Rattle.core_state.specs.Scope.{sight, word_in}
 use Rattle.core_state.specs.TreesSound.{tree_scope, IsAsStored}
 use Rattle.core_state.specs.Updates.{IsPlacing}
@@ -30,15 +30,14 @@ use Rattle.core_state.proofs.SameNames.{same_name-refl, cases_name}
 use Rattle.core_state.proofs.Steps.{word-step, word-step-other}
 use Rattle.core_guard.proofs.Leaving.{Acts, if_some_with, IsIdle, leaves-aside, roots-other, Touches, as_before-same, scene-plain, stands-in_tree}
 use Rattle.core_guard.proofs.Seats.{each-seat}
+use Rattle.core_guard.proofs.TreesLeft.{stored-same, node-word}
 use Rattle.core_batch.proofs.BatchesStep.{ChangesBatches, marked-was}
-use Rattle.core_batch.proofs.BodiesAside.{IsPoolCall, same_calls, pool_calls}
 use Rattle.core_batch.proofs.FreeBodies.{freed-low, freed-old, freed-new, freed-changes}
 use Rattle.core_batch.proofs.Giving.{given-home, given-other}
 use Rattle.core_batch.proofs.Lists.{filter_from}
 use Rattle.core_batch.proofs.Owning.{batch-home}
 use Rattle.core_batch.proofs.PoolBodies.{same-batches, taken_task, given_task, taken-changes, given-changes}
 use Rattle.core_batch.proofs.PoolHeads.{IsTaking, IsGiving, HeadStep, taking, giving, home_later, head-step, pool_later}
-use Rattle.core_batch.proofs.PoolSteps.{counting-pool}
 use Rattle.core_batch.proofs.Rehome.{rehome, rehome-other, rehome-stays, rehome-stood}
 use Rattle.core_batch.proofs.ReserveBodies.{reserved-new, reserved-low, reserved-changes, missed-word}
 use Rattle.core_batch.proofs.SlotSteps.{IsReserving, IsMissing, reserving, missing, reserve-step, freed-left}
@@ -61,30 +60,16 @@ is_of_body _ = false
 record IsNodeWord (name : Name) : Type 0 where
   body : is_of_body name ≡ false
   layer : layer_of name ≡ None
-  read : (core : Core) → word_in tree_scope core name ≡ word_of core name
 
 node_word : (name : Name) (n : ℕ) → node_in name ≡ Some n → IsNodeWord name
-node_word (Child m k) n e = record { body = refl; layer = refl; read = λ core. refl }
-node_word (Bound m k q) n e = record { body = refl; layer = refl; read = λ core. refl }
-node_word (Parent m) n e = record { body = refl; layer = refl; read = λ core. refl }
+node_word (Child m k) n e = record { body = refl; layer = refl }
+node_word (Bound m k q) n e = record { body = refl; layer = refl }
+node_word (Parent m) n e = record { body = refl; layer = refl }
 node_word _ n e = absurd (none-some n e)
-
--- what was stored stands in the same word
-stored-same : (v w : Name → ℕ) (home : Home) (name : Name) (value : ℕ) → w name ≡ v name → IsAsStored v home name value → IsAsStored w home name value
-stored-same v w (owned number) name value same h = same ∙ h
-stored-same v w (made number l) (Parent n) value same h = same ∙ h
-stored-same v w (made number l) (Child n k) value same h = elim h [ inl e ↦ inl (same ∙ e) | inr t ↦ inr (same ∙ t.0, t.1) ]
-stored-same v w (made number l) (Bound n k q) value same h = subst (λ (x : ℕ). (q < 3 → x ≤ value) × (3 ≤ q → value ≤ x)) (sym same) h
-stored-same v w (made number l) _ value same h = absurd h
-stored-same v w free name value same h = absurd h
-stored-same v w spare name value same h = absurd h
-stored-same v w (under n) name value same h = absurd h
-stored-same v w (superseded p n) name value same h = absurd h
-stored-same v w (returning p) name value same h = absurd h
 
 -- ---- tasks on the pool
 
-pool_idle : (t : Task) → IsPoolTask t → IsIdle t
+pub pool_idle : (t : Task) → IsPoolTask t → IsIdle t
 pool_idle Nothing h = tt
 pool_idle (Pooling taken given) h = tt
 pool_idle _ h = absurd h
@@ -127,7 +112,7 @@ module _ (kind : Kind) (core : Core) (step : Step) (a : Acts core step) where
     others : (n number : ℕ) → number ≢ step.number → IsOwnedBy number (nodes.home n) → (later.home n ≡ nodes.home n) × (node_in step.name ≢ Some n)
     rebuild : Last.rebuild ≡ step.view.rebuild
     walk : Last.walk ≡ step.view.walk
-    call : IsPoolCall step.view.call Last.call
+    call : (Last.call ≡ step.view.call) ⊎ (IsPoolTask step.view.call.task × IsPoolTask Last.call.task)
     written : (store : Store) → Contains Last.written store → StandsIn later store
     batches : ChangesBatches (all_batches (sight body_scope core)) step.view.batches Last.batches
 
@@ -138,7 +123,7 @@ module _ (kind : Kind) (core : Core) (step : Step) (a : Acts core step) where
       if_some_with (node_in store.name) _ _
       (λ n some both.
       subst (λ (home : Home). IsOwnedBy step.number home × IsAsStored (word_of After) home store.name store.value) (sym (homes n some both.0))
-      (both.0, stored-same (word_in tree_scope core) (word_of After) (nodes.home n) store.name store.value (word-step-other kind core step store.name (other n some) ∙ sym ((node_word store.name n some).read core)) both.1))
+      (both.0, stored-same (word_in tree_scope core) (word_of After) (nodes.home n) store.name store.value (word-step-other kind core step store.name (other n some) ∙ sym (node-word core store.name n some)) both.1))
       (each-seat tree_scope (λ k v. refl) core _ a.laws.trees.stored step.seat step.number step.view a.at a.pass store among)
 
   module _ (later : Nodes) (b : IsBeside later) where
@@ -146,18 +131,12 @@ module _ (kind : Kind) (core : Core) (step : Step) (a : Acts core step) where
     same : (name : Name) → is_of_body name ≡ true → word_of After name ≡ word_of core name
     same name of_body = word-step-other kind core step name (λ e. false≢true (sym b.hidden ∙ (ap is_of_body (sym e) ∙ of_body)))
 
-    removes-same : (i : ℕ) → Removes step.view.call.task i ↔ Removes Last.call.task i
-    removes-same i =
+    -- what is said of no task on the pool is said of the own task as before
+    task-same : (P : Task → Type 0) → ((t : Task) → IsPoolTask t → ¬ P t) → P step.view.call.task ↔ P Last.call.task
+    task-same P none =
         elim b.call [
-          | same_calls e ↦ (λ h. subst (λ (c : Call). Removes c.task i) (sym e) h, λ h. subst (λ (c : Call). Removes c.task i) e h)
-          | pool_calls before after ↦ (λ h. absurd (pool_removes step.view.call.task i before h), λ h. absurd (pool_removes Last.call.task i after h))
-        ]
-
-    places-same : (i : ℕ) → IsPlacing step.view.call.task i ↔ IsPlacing Last.call.task i
-    places-same i =
-        elim b.call [
-          | same_calls e ↦ (λ h. subst (λ (c : Call). IsPlacing c.task i) (sym e) h, λ h. subst (λ (c : Call). IsPlacing c.task i) e h)
-          | pool_calls before after ↦ (λ h. absurd (pool_places step.view.call.task i before h), λ h. absurd (pool_places Last.call.task i after h))
+          | inl e ↦ (λ h. subst (λ (c : Call). P c.task) (sym e) h, λ h. subst (λ (c : Call). P c.task) e h)
+          | inr t ↦ (λ h. absurd (none step.view.call.task t.0 h), λ h. absurd (none Last.call.task t.1 h))
         ]
 
     -- bodies that batches have marked stand where they stood
@@ -184,12 +163,12 @@ module _ (kind : Kind) (core : Core) (step : Step) (a : Acts core step) where
         box = λ q. same (BoxWord i q) refl;
         state = same (State i) refl;
         layer = same (Layer i) refl;
-        removes = removes-same i;
-        places = places-same i;
+        removes = task-same (λ task. Removes task i) (λ task pool. pool_removes task i pool);
+        places = task-same (λ task. IsPlacing task i) (λ task pool. pool_places task i pool);
       });
       call = elim b.call [
-        | same_calls e ↦ inl e
-        | pool_calls before after ↦ inr (pool_idle step.view.call.task before, pool_idle Last.call.task after)
+        | inl e ↦ inl e
+        | inr t ↦ inr (pool_idle step.view.call.task t.0, pool_idle Last.call.task t.1)
       ];
       walk = b.walk;
       reader = λ p. same (Reader p) refl;
@@ -238,7 +217,7 @@ module _ (kind : Kind) (core : Core) (step : Step) (a : Acts core step) (l t : �
         others = λ n number apart owns. (refl, λ e. none-some n (sym none ∙ e));
         rebuild = ap (λ (v : View). v.rebuild) is ∙ rebuild;
         walk = ap (λ (v : View). v.walk) is ∙ walk;
-        call = same_calls (ap (λ (v : View). v.call) is ∙ call);
+        call = inl (ap (λ (v : View). v.call) is ∙ call);
         written = λ store among.
             stands-on kind core step a a.laws.nodes store (subst (λ (xs : List Store). Contains xs store) (ap (λ (v : View). v.written) is ∙ written) among)
             (λ n some same. none-some n (sym none ∙ (ap node_in (sym same) ∙ some))) (λ n some owns. refl);
@@ -296,7 +275,7 @@ module _ (core : Core) (step : Step) (a : Acts core step) where
         others = λ n number apart owns. (refl, λ e. apart (sym (subst (IsOwnedBy number) (ap a.laws.nodes.home (the_node n e) ∙ home) owns)));
         rebuild = refl;
         walk = refl;
-        call = same_calls refl;
+        call = inl refl;
         written = λ store among.
             elim (Contains-push_cases (filter (λ s. not (same_name s.name step.name)) step.view.written) (record { name = step.name; value = step.first }) store among) [
               | inl early ↦
@@ -330,7 +309,7 @@ module _ (kind : Kind) (core : Core) (step : Step) (a : Acts core step) (later :
     others : (n number : ℕ) → number ≢ step.number → IsOwnedBy number (a.laws.nodes.home n) → later.home n ≡ a.laws.nodes.home n
     rebuild : (view_after kind core step).rebuild ≡ step.view.rebuild
     walk : (view_after kind core step).walk ≡ step.view.walk
-    call : IsPoolCall step.view.call (view_after kind core step).call
+    call : IsPoolTask step.view.call.task × IsPoolTask (view_after kind core step).call.task
     written : (store : Store) → Contains (view_after kind core step).written store
         → Contains step.view.written store × ((n : ℕ) → node_in store.name ≡ Some n → IsOwnedBy step.number (a.laws.nodes.home n) → later.home n ≡ a.laws.nodes.home n)
     batches : ChangesBatches (all_batches (sight body_scope core)) step.view.batches (view_after kind core step).batches
@@ -349,7 +328,7 @@ module _ (kind : Kind) (core : Core) (step : Step) (a : Acts core step) (later :
         others = λ n number apart owns. (b.others n number apart owns, λ e. none-some n (sym b.no_node ∙ e));
         rebuild = b.rebuild;
         walk = b.walk;
-        call = b.call;
+        call = inr b.call;
         written = λ store among.
             let t = b.written store among in
             stands-on kind core step a later store t.0 (λ n some same. none-some n (sym b.no_node ∙ (ap node_in (sym same) ∙ some))) t.1;
@@ -357,44 +336,6 @@ module _ (kind : Kind) (core : Core) (step : Step) (a : Acts core step) (later :
       })
 
 module _ (core : Core) (step : Step) (a : Acts core step) where
-  pub touches-store_pool_link : MayStorePoolLink step.view step.name step.first step.second → Touches store_pool_link core step a.laws.nodes a.laws.nodes
-  touches-store_pool_link asked =
-      touches-pool store_pool_link core step a a.laws.nodes
-      (record {
-        plain = λ value. refl;
-        hidden = ap is_of_body asked.names;
-        no_node = ap node_in asked.names;
-        no_layer = ap layer_of asked.names;
-        stays = λ n inside. refl;
-        stood = λ n inside. refl;
-        depth = λ n. refl;
-        others = λ n number apart owns. refl;
-        rebuild = refl;
-        walk = refl;
-        call = same_calls refl;
-        written = λ store among. (among, λ n some owns. refl);
-        batches = same-batches (all_batches (sight body_scope core)) step.view.batches;
-      })
-
-  pub touches-store_pool_count : MayStorePoolCount step.view step.name step.first step.second → Touches store_pool_count core step a.laws.nodes a.laws.nodes
-  touches-store_pool_count asked =
-      touches-pool store_pool_count core step a a.laws.nodes
-      (record {
-        plain = λ value. refl;
-        hidden = ap is_of_body asked.names;
-        no_node = ap node_in asked.names;
-        no_layer = ap layer_of asked.names;
-        stays = λ n inside. refl;
-        stood = λ n inside. refl;
-        depth = λ n. refl;
-        others = λ n number apart owns. refl;
-        rebuild = refl;
-        walk = refl;
-        call = pool_calls (counting-pool step.view step.first asked.count) tt;
-        written = λ store among. (among, λ n some owns. refl);
-        batches = same-batches (all_batches (sight body_scope core)) step.view.batches;
-      })
-
   module _ (asked : MayStorePoolHead step.view step.name step.first step.second) where
     taken-touches : (x : ℕ) → IsTaking core step x → Touches store_pool_head core step a.laws.nodes (rehome a.laws.nodes x (owned step.number))
     taken-touches x t =
@@ -411,7 +352,7 @@ module _ (core : Core) (step : Step) (a : Acts core step) where
           others = λ n number apart owns. rehome-other a.laws.nodes x (owned step.number) n (taken-other core step a asked x t number n owns);
           rebuild = ap (λ (v : View). v.rebuild) t.left;
           walk = ap (λ (v : View). v.walk) t.left;
-          call = pool_calls asked.pool.idle (subst IsPoolTask (sym (ap (λ (v : View). v.call.task) t.left)) (taken_task step.view.call.task asked.pool.idle));
+          call = (asked.pool.idle, (subst IsPoolTask (sym (ap (λ (v : View). v.call.task) t.left)) (taken_task step.view.call.task asked.pool.idle)));
           written = λ store among. (
             subst (λ (xs : List Store). Contains xs store) (ap (λ (v : View). v.written) t.left) among,
             λ n some owns. rehome-other a.laws.nodes x (owned step.number) n (taken-other core step a asked x t step.number n owns),
@@ -434,7 +375,7 @@ module _ (core : Core) (step : Step) (a : Acts core step) where
           others = λ n number apart owns. rehome-other a.laws.nodes x free n (given-other core step a asked x g number n apart owns);
           rebuild = ap (λ (v : View). v.rebuild) g.left;
           walk = ap (λ (v : View). v.walk) g.left;
-          call = pool_calls asked.pool.idle (subst IsPoolTask (sym (ap (λ (v : View). v.call.task) g.left)) (given_task step.view.call.task asked.pool.idle));
+          call = (asked.pool.idle, (subst IsPoolTask (sym (ap (λ (v : View). v.call.task) g.left)) (given_task step.view.call.task asked.pool.idle)));
           written = λ store among.
               let t =
               filter_from (λ (s : Store). not (is_in_nodes (x ∷ []) (node_in s.name))) step.view.written store (subst (λ (xs : List Store). Contains xs store) (ap (λ (v : View). v.written) g.left) among)

@@ -1,5 +1,5 @@
 -- The bodies agree after a slot is reserved, or in vain.
-use Rattle.std.proofs.Common.{◌≡◌, ◌≢◌, ◌↔◌, ℕ, zero, suc, ◌-◌, ◌<◌, List, [], ◌∷◌, ◌++◌, Bool, true, false, cond, eqb, None, Some, Contains, refl, ap, sym, ◌∙◌, subst, inl, inr, arith}
+use Rattle.std.proofs.Common.{◌≡◌, ◌≢◌, ◌↔◌, ℕ, zero, suc, ◌-◌, ◌<◌, List, [], ◌∷◌, ◌++◌, Bool, true, cond, eqb, None, Some, Contains, refl, ap, sym, ◌∙◌, subst, inl, inr, arith}
 use Rattle.std.specs.Prelude.{flat_map}
 use Rattle.std.proofs.lemmas.Bool.{eq-eqb, false≢true}
 use Rattle.std.proofs.lemmas.Option.{none-some}
@@ -26,15 +26,16 @@ use Rattle.core_state.proofs.Frames.{frame, step-same}
 use Rattle.core_state.proofs.Opening.{none_in, only}
 use Rattle.core_state.proofs.SameNames.{cases_name}
 use Rattle.core_state.proofs.Steps.{gained-unstored, word-step, word-step-other, view-step}
-use Rattle.core_guard.proofs.BodiesStep.{HoldsSlot}
+use Rattle.core_guard.proofs.BodiesStep.{same-locks, HoldsSlot}
 use Rattle.core_guard.proofs.Leaving.{Acts}
 use Rattle.core_guard.proofs.Seats.{seen_at, has-seat, seat-has, SeatAfter, stepped, stayed, seat-after, seat_seen}
 use Rattle.core_batch.proofs.BatchesStep.{ChangesBatches, Past, batch-part, slot-kept}
-use Rattle.core_batch.proofs.BodiesAside.{IsAside, IsAsideWord, same_calls, PhasesKept, BodiesAgree-aside}
-use Rattle.core_batch.proofs.Lists.{flat_from, pairs-cons, pairs-none, pairs-append}
+use Rattle.core_guard.proofs.BodiesAside.{IsAside, IsAsideWord, same_calls, PhasesKept, BodiesAgree-aside}
+use Rattle.core_batch.proofs.Lists.{pairs-cons, pairs-none, pairs-append}
 use Rattle.core_batch.proofs.Owning.{number-low, slot-reserved}
 use Rattle.core_batch.proofs.SlotLists.{slot_one}
 use Rattle.core_batch.proofs.SlotSteps.{IsReserving, IsMissing, reserving, missing, reserve-step}
+use Rattle.core_guard.proofs.NodesLeft.{flat_from}
 
 -- ---- a batch of which nothing is there but its slot
 
@@ -100,8 +101,7 @@ module _ (core : Core) (step : Step) (a : Acts core step) (l t : ℕ) (r : IsRes
   leaves = record {
     word = subst IsAsideWord (sym r.names) tt;
     entry = λ value. refl;
-    locks = ap (λ (v : View). v.locks) r.left;
-    call = same_calls (ap (λ (v : View). v.call) r.left);
+    call = same_calls (ap (λ (v : View). v.call) r.left) (same-locks step.view Last (ap (λ (v : View). v.locks) r.left));
   }
 
   pub reserved-changes : ChangesBatches (all_batches (sight body_scope core)) step.view.batches Last.batches

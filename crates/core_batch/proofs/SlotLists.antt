@@ -13,8 +13,6 @@ use Rattle.core_state.proofs.SameNames.{and_left, and_right}
 use Rattle.word_map.specs.declared.name.Name.{Name}
 use Rattle.word_map.specs.declared.name.Name.TheVariants.{Slot}
 
--- ---- the test
-
 -- ---- slots
 
 abbrev slot_layer : Name → ℕ

@@ -25,12 +25,12 @@ use Rattle.core_state.proofs.Opening.{none_in, only}
 use Rattle.core_state.proofs.Steps.{word-step, word-step-other}
 use Rattle.core_guard.proofs.Chains.{chain-kept, chain-first}
 use Rattle.core_guard.proofs.Leaving.{Acts}
-use Rattle.core_guard.proofs.NodesLeft.{PoolPart, KeepsHomes, LeavesUpdate, tree-part, pool-part, pool-own, pool-idle, together}
+use Rattle.core_guard.proofs.NodesLeft.{PoolPart, KeepsHomes, LeavesUpdate, tree-part, pool-part, pool-own, pool-idle, together, seen-nodes}
 use Rattle.core_guard.proofs.Seats.{seen_of, each-seat}
 use Rattle.core_batch.proofs.Lists.{contains_later, pairs-first, pairs-rest, pairs-cons, pairs-none, pairs-left, pairs-right, pairs-across, pairs-append}
 use Rattle.core_batch.proofs.Newest.{newest-nodes}
 use Rattle.core_batch.proofs.NodesStep.{OwnsAfter, owner-part}
-use Rattle.core_batch.proofs.Owning.{nodes-seen, owned-by, owner-has, batch-below}
+use Rattle.core_batch.proofs.Owning.{owned-by, owner-has, batch-below}
 use Rattle.core_batch.proofs.PoolHeads.{IsTaking}
 use Rattle.core_batch.proofs.PoolSteps.{world-pool}
 use Rattle.core_batch.proofs.Rehome.{free_spare, owned_spare, free_owned, rehome, rehome-at, rehome-other, rehome-keeps}
@@ -129,7 +129,7 @@ module _ (core : Core) (step : Step) (a : Acts core step) (asked : MayStorePoolH
 
   once_before : IsOnce (flat ++ behind)
   once_before =
-      subst IsOnce (nodes-seen p step.view) (each-seat node_scope (λ k v. refl) core (λ number view. IsOnce (nodes_of view)) a.laws.places.owned_once step.seat p step.view a.at a.pass)
+      subst IsOnce (seen-nodes p step.view) (each-seat node_scope (λ k v. refl) core (λ number view. IsOnce (nodes_of view)) a.laws.places.owned_once step.seat p step.view a.at a.pass)
 
   pub taken-owns : OwnsAfter store_pool_head core step a later
   taken-owns = record {

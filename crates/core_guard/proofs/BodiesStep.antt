@@ -11,11 +11,11 @@ use Rattle.scene_model.specs.History.{IsLawfulHistory}
 use Rattle.word_map.specs.declared.config.Config.{Config}
 use Rattle.word_map.specs.declared.name.Name.{Name}
 use Rattle.word_map.specs.declared.name.Name.TheVariants.{SlotHead, SlotNext, State, Phase, Layer, User, BoxWord, Slot}
-use Rattle.word_map.specs.Names.{index_lock}
+use Rattle.word_map.specs.Names.{index_lock, stripe_of}
 use Rattle.core_state.specs.declared.view.Mode.TheVariants.{Write}
 use Rattle.core_state.specs.declared.view.Role.{Role}
 use Rattle.core_state.specs.declared.view.Task.{Task}
-use Rattle.core_state.specs.declared.view.Task.TheVariants.{Nothing, Creating, Destroying, Pooling, Moving, Removing, Placing}
+use Rattle.core_state.specs.declared.view.Task.TheVariants.{Nothing, Creating, Destroying, Moving, Removing, Placing}
 use Rattle.core_state.specs.declared.view.LockStep.{LockStep}
 use Rattle.core_state.specs.declared.view.Call.{Call}
 use Rattle.core_state.specs.declared.view.Marked.{Marked}
@@ -103,6 +103,10 @@ pub unlisted : (s : Sight) (view : View) (task : Task) (chain : List ℕ) → ¬
 unlisted s view (Creating index) chain none = absurd (none tt)
 unlisted s view (Destroying index) chain none = absurd (none tt)
 unlisted s view _ chain none = tt
+
+-- who keeps its locks holds what it held
+pub same-locks : (v w : View) → w.locks ≡ v.locks → (lock : ℕ) → Holds v lock Write → Holds w lock Write
+same-locks v w locks lock holds = subst (λ (l : List LockStep). Holds (record v { locks = l }) lock Write) (sym locks) holds
 
 -- a phase word stands as it stood where slot words do
 pub phase-kept : (old new : ℕ) (before after : ℕ → ℕ) (phase : BodyPhase) → new ≡ old → ((t : ℕ) → after t ≡ before t) → phase_by old (before (old - 2)) ≡ Some phase
@@ -199,20 +203,23 @@ module _ (kind : Kind) (core : Core) (step : Step) (at : IsViewAt core step.seat
     -- ---- stripes
 
     -- what a task needs of a stripe it needs afterwards
-    pub stripe-moved : (view : View) (task : Task) → IsUnderStripe (sight body_scope core) view task → IsUnderStripe new_sight view task
-    stripe-moved view (Moving index target) h = h
-    stripe-moved view (Removing index) h = h
-    stripe-moved view (Placing index) h = h
-    stripe-moved view Nothing h = tt
-    stripe-moved view (Creating index) h = tt
-    stripe-moved view (Destroying index) h = tt
-    stripe-moved view (Pooling taken given) h = tt
+    pub stripe-moved : (v w : View) (task : Task) → ((lock : ℕ) → Holds v lock Write → Holds w lock Write) → IsUnderStripe (sight body_scope core) v task → IsUnderStripe new_sight w task
+    stripe-moved v w (Moving index target) locks h = locks (stripe_of core.config index) h
+    stripe-moved v w (Removing index) locks h = locks (stripe_of core.config index) h
+    stripe-moved v w (Placing index) locks h = locks (stripe_of core.config index) h
+    stripe-moved v w _ locks h = tt
 
     pub stripe-part : BodiesAgree core
         → (IsUnderStripe (sight body_scope core) step.view step.view.call.task → IsUnderStripe new_sight (view_after kind core step) (view_after kind core step).call.task) → StripePart new_sight
     stripe-part h own =
         each-step body_scope keeps kind core step at pass (λ n v. IsUnderStripe (sight body_scope core) v v.call.task) (λ n v. IsUnderStripe new_sight v v.call.task) h.stripes
-        (λ seat number view apart found is old. stripe-moved view view.call.task old) own
+        (λ seat number view apart found is old. stripe-moved view view view.call.task (λ lock holds. holds) old) own
+
+    pub stripe-stays : BodiesAgree core → (view_after kind core step).call ≡ step.view.call → (view_after kind core step).locks ≡ step.view.locks → StripePart new_sight
+    stripe-stays h call locks =
+        stripe-part h
+        (λ old. stripe-moved step.view (view_after kind core step) (view_after kind core step).call.task (same-locks step.view (view_after kind core step) locks)
+        (subst (λ (c : Call). IsUnderStripe (sight body_scope core) step.view c.task) (sym call) old))
 
     -- ---- the list
 
@@ -234,35 +241,38 @@ module _ (kind : Kind) (core : Core) (step : Step) (at : IsViewAt core step.seat
     }
 
     -- a step that leaves the list, whoever is changing it
-    list-moved : (view : View) (task : Task) (chain : List ℕ) → free_indexes (scene_in new_sight) ≡ free_indexes (scene_in (sight body_scope core))
-        → ListsFree (sight body_scope core) view task chain → ListsFree new_sight view task chain
-    list-moved view (Creating index) chain same h = (h.0, h.1 ∙ sym same)
-    list-moved view (Destroying index) chain same h = (h.0, h.1 ∙ ap (λ (l : List ℕ). index ∷ l) (sym same))
-    list-moved view Nothing chain same h = tt
-    list-moved view (Moving index target) chain same h = tt
-    list-moved view (Removing index) chain same h = tt
-    list-moved view (Placing index) chain same h = tt
-    list-moved view (Pooling taken given) chain same h = tt
+    pub list-moved : (v w : View) (task : Task) (chain : List ℕ) → (Holds v (index_lock core.config) Write → Holds w (index_lock core.config) Write)
+        → free_indexes (scene_in new_sight) ≡ free_indexes (scene_in (sight body_scope core)) → ListsFree (sight body_scope core) v task chain → ListsFree new_sight w task chain
+    list-moved v w (Creating index) chain locks same h = (locks h.0, h.1 ∙ sym same)
+    list-moved v w (Destroying index) chain locks same h = (locks h.0, h.1 ∙ ap (λ (l : List ℕ). index ∷ l) (sym same))
+    list-moved v w _ chain locks same h = tt
 
-    pub list-stays : BodiesAgree core → (view_after kind core step).call ≡ step.view.call → (view_after kind core step).locks ≡ step.view.locks
+    -- what the own task says of it is to be shown, and that it is half done afterwards if it was before
+    pub list-left : (h : BodiesAgree core) → (ListsFree (sight body_scope core) step.view step.view.call.task h.chain → ListsFree new_sight (view_after kind core step) (view_after kind core step).call.task h.chain)
+        → (¬ ChangesList (view_after kind core step).call.task → ¬ ChangesList step.view.call.task)
         → new_sight.word SlotHead ≡ (sight body_scope core).word SlotHead → ((i : ℕ) → new_sight.word (SlotNext i) ≡ (sight body_scope core).word (SlotNext i))
         → free_indexes (scene_in new_sight) ≡ free_indexes (scene_in (sight body_scope core)) → ListPart new_sight
-    list-stays h call locks head next same = record {
+    list-left h own quiet_before head next same = record {
       chain = h.chain;
       linked =
           rw head (chain-kept (λ i. (sight body_scope core).word (SlotNext i)) (λ i. new_sight.word (SlotNext i)) ((sight body_scope core).word SlotHead) h.chain (λ j c. next j) h.linked);
       listed =
           each-step body_scope keeps kind core step at pass (λ n v. ListsFree (sight body_scope core) v v.call.task h.chain) (λ n v. ListsFree new_sight v v.call.task h.chain) h.listed
-          (λ seat number view apart found is old. list-moved view view.call.task h.chain same old)
-          (λ old. list-moved (view_after kind core step) (view_after kind core step).call.task h.chain same
-          (subst (λ (l : List LockStep). ListsFree (sight body_scope core) (record step.view { locks = l }) (view_after kind core step).call.task h.chain) (sym locks)
-          (subst (λ (c : Call). ListsFree (sight body_scope core) step.view c.task h.chain) (sym call) old)));
+          (λ seat number view apart found is old. list-moved view view view.call.task h.chain (λ holds. holds) same old) own;
       settled = λ quiet.
           h.settled
-          (each-unstep body_scope keeps kind core step at pass (λ n v. ¬ ChangesList v.call.task) (λ n v. ¬ ChangesList v.call.task) quiet (λ seat number view apart found is none. none)
-          (λ none. subst (λ (c : Call). ¬ ChangesList c.task) call none))
+          (each-unstep body_scope keeps kind core step at pass (λ n v. ¬ ChangesList v.call.task) (λ n v. ¬ ChangesList v.call.task) quiet (λ seat number view apart found is none. none) quiet_before)
           ∙ sym same;
     }
+
+    pub list-stays : BodiesAgree core → (view_after kind core step).call ≡ step.view.call → (view_after kind core step).locks ≡ step.view.locks
+        → new_sight.word SlotHead ≡ (sight body_scope core).word SlotHead → ((i : ℕ) → new_sight.word (SlotNext i) ≡ (sight body_scope core).word (SlotNext i))
+        → free_indexes (scene_in new_sight) ≡ free_indexes (scene_in (sight body_scope core)) → ListPart new_sight
+    list-stays h call locks head next same =
+        list-left h
+        (λ old. list-moved step.view (view_after kind core step) (view_after kind core step).call.task h.chain (same-locks step.view (view_after kind core step) locks (index_lock core.config)) same
+        (subst (λ (c : Call). ListsFree (sight body_scope core) step.view c.task h.chain) (sym call) old))
+        (λ none. subst (λ (c : Call). ¬ ChangesList c.task) call none) head next same
 
     -- ---- batches
 

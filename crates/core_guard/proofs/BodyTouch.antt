@@ -1,5 +1,5 @@
 -- A step on one word of one body leaves all but that body: what is then left to show of it.
-use Rattle.std.proofs.Common.{◌≡◌, ◌≢◌, ◌⊎◌, ◌↔◌, ℕ, ◌<◌, ◌≤◌, ◌++◌, ◌∷◌, [], List, Option, Some, None, true, false, refl, ap, sym, ◌∙◌, subst, inl, inr, arith}
+use Rattle.std.proofs.Common.{◌≡◌, ◌≢◌, ◌⊎◌, ◌↔◌, ℕ, ◌<◌, ◌++◌, ◌∷◌, [], List, Option, Some, None, true, false, refl, ap, sym, ◌∙◌, subst, inl, inr, arith}
 use Rattle.std.specs.Prelude.{Contains, IfSome}
 use Rattle.std.proofs.lemmas.Bool.{cases_eq, true≢false}
 use Rattle.std.proofs.lemmas.Option.{none-some, same_Some}
@@ -25,9 +25,9 @@ use Rattle.core_state.specs.Operation.{store}
 use Rattle.core_state.specs.View.{IsPass, Holds}
 use Rattle.core_state.specs.Core.{Core, word_of, scene_of, IsViewAt}
 use Rattle.core_state.specs.Kind.{Kind, Step}
-use Rattle.core_state.specs.Encoding.{body_child, place, phase_join, slot_tree, layer_of}
+use Rattle.core_state.specs.Encoding.{place, phase_join, slot_tree, layer_of}
 use Rattle.core_state.specs.Parts.{call_by_task, call_on_places}
-use Rattle.core_state.specs.Nodes.{Nodes, Home, node_in, IsOwnedBy, owned, made}
+use Rattle.core_state.specs.Nodes.{Nodes, node_in, IsOwnedBy}
 use Rattle.core_state.specs.Scope.{Sight, sight}
 use Rattle.core_state.specs.TreesSound.{tree_scope, IsAsStored}
 use Rattle.core_state.specs.Updates.{IsPlacing}
@@ -36,10 +36,11 @@ use Rattle.core_state.specs.BodiesAgree.{body_scope, IsUnderStripe}
 use Rattle.core_state.specs.LocationsHold.{location_scope, Removes, IsPlannedIn, is_location_store}
 use Rattle.core_state.proofs.Lookups.{at_one}
 use Rattle.core_state.proofs.Steps.{word-step-other}
-use Rattle.core_guard.proofs.Guarded.{lock-alone}
+use Rattle.core_guard.proofs.Alone.{lock-alone}
 use Rattle.core_guard.proofs.OneBody.{history-made, scene-made}
 use Rattle.core_guard.proofs.Seats.{each-seat, flat-step}
 use Rattle.core_guard.proofs.Leaving.{Acts, IsHandled, IsIdle, Stays, IsApart, After, Last, Touches, leaves-same, as_before-same}
+use Rattle.core_guard.proofs.TreesLeft.{stored-same}
 
 -- ---- words of bodies
 
@@ -97,18 +98,6 @@ removes-handled call i h = go call.task refl h
     go (Placing index) e h = absurd (subst (λ (t : Task). Removes t i) e h)
     go _ e h = absurd h
 
--- ---- stores
-
--- what was stored stands where its word does
-stored-same : (home : Home) (name : Name) (value : ℕ) (word new : Name → ℕ) → new name ≡ word name → IsAsStored word home name value → IsAsStored new home name value
-stored-same (owned p) name value word new same h = same ∙ h
-stored-same (made p l) (Parent n) value word new same h = same ∙ h
-stored-same (made p l) (Child n k) value word new same h =
-    subst (λ (x : ℕ). (x ≡ value) ⊎ ((x ≡ 0) × ((i : ℕ) × (value ≡ body_child i)))) (sym same) h
-stored-same (made p l) (Bound n k q) value word new same h = subst (λ (x : ℕ). (q < 3 → x ≤ value) × (3 ≤ q → value ≤ x)) (sym same) h
-stored-same (made p l) _ value word new same h = absurd h
-stored-same _ name value word new same h = absurd h
-
 -- ---- a step on one word of a body
 
 module _ (kind : Kind) (core : Core) (step : Step) where
@@ -156,9 +145,9 @@ module _ (kind : Kind) (core : Core) (step : Step) where
       where
         go : (name : Name) → IfSome (node_in name) (λ n. IsOwnedBy number (nodes.home n) × IsAsStored (sight tree_scope core).word (nodes.home n) name item.value)
             → IfSome (node_in name) (λ n. IsOwnedBy number (nodes.home n) × IsAsStored (word_of (After kind core step)) (nodes.home n) name item.value)
-        go (Child n k) h = (h.0, stored-same (nodes.home n) (Child n k) item.value (sight tree_scope core).word (word_of (After kind core step)) (off_body (Child n k) refl) h.1)
-        go (Bound n k q) h = (h.0, stored-same (nodes.home n) (Bound n k q) item.value (sight tree_scope core).word (word_of (After kind core step)) (off_body (Bound n k q) refl) h.1)
-        go (Parent n) h = (h.0, stored-same (nodes.home n) (Parent n) item.value (sight tree_scope core).word (word_of (After kind core step)) (off_body (Parent n) refl) h.1)
+        go (Child n k) h = (h.0, stored-same (sight tree_scope core).word (word_of (After kind core step)) (nodes.home n) (Child n k) item.value (off_body (Child n k) refl) h.1)
+        go (Bound n k q) h = (h.0, stored-same (sight tree_scope core).word (word_of (After kind core step)) (nodes.home n) (Bound n k q) item.value (off_body (Bound n k q) refl) h.1)
+        go (Parent n) h = (h.0, stored-same (sight tree_scope core).word (word_of (After kind core step)) (nodes.home n) (Parent n) item.value (off_body (Parent n) refl) h.1)
         go _ h = tt
 
   -- so nothing else is touched

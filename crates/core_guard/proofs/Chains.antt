@@ -1,5 +1,5 @@
 -- Lists that are linked: what a link stored elsewhere leaves of one, and that the links determine it.
-use Rattle.std.proofs.Common.{◌≡◌, ℕ, suc, List, [], ◌∷◌, Contains, refl, sym, subst, arith}
+use Rattle.std.proofs.Common.{◌≡◌, ℕ, suc, List, [], ◌∷◌, Contains, refl, subst, arith}
 use Rattle.scene_model.proofs.Lives.{Contains-cons_tail}
 use Rattle.core_state.specs.Bodies.{IsChain}
 use Rattle.core_state.proofs.Beginning.{contains_first}
@@ -15,10 +15,6 @@ chain-kept next after link (at ∷ rest) same h =
 pub chain-front : (next : ℕ → ℕ) (link at : ℕ) (chain : List ℕ) → next at ≡ link → IsChain next link chain → IsChain next (suc at) (at ∷ chain)
 chain-front next link at chain own h = (refl, rw own h)
 
--- the first element is taken off
-pub chain-rest : (next : ℕ → ℕ) (link at : ℕ) (rest : List ℕ) → IsChain next link (at ∷ rest) → (link ≡ suc at) × IsChain next (next at) rest
-chain-rest next link at rest h = h
-
 -- a link of 0 is the end
 pub chain-end : (next : ℕ → ℕ) (chain : List ℕ) → IsChain next 0 chain → chain ≡ []
 chain-end next [] h = refl
@@ -30,13 +26,3 @@ chain-first next at [] h = absurd (omega (arith, h))
 chain-first next at (first ∷ rest) h =
     let same : first ≡ at = (let link = h.0 in omega arith) in
     (rest, (λ i. same i ∷ rest), subst (λ (k : ℕ). IsChain next (next k) rest) same h.1)
-
--- the links determine the list
-pub chain-one : (next : ℕ → ℕ) (link : ℕ) (one other : List ℕ) → IsChain next link one → IsChain next link other → one ≡ other
-chain-one next link [] [] h k = refl
-chain-one next link [] (at ∷ rest) h k = let first = k.0 in absurd (omega (arith, h))
-chain-one next link (at ∷ rest) [] h k = let first = h.0 in absurd (omega (arith, k))
-chain-one next link (at ∷ rest) (first ∷ later) h k =
-    let same : first ≡ at = (let one = h.0 in let other = k.0 in omega arith) in
-    let tails : rest ≡ later = chain-one next (next at) rest later h.1 (subst (λ (i : ℕ). IsChain next (next i) later) same k.1) in
-    (λ i. sym same i ∷ tails i)

@@ -24,8 +24,9 @@ use Rattle.core_state.specs.Updates.{EachUpdate, IsOldTree, IsStillMerged, IsNot
 use Rattle.core_state.specs.LocationsHold.{IsLocation, Removes, IsRemoved}
 use Rattle.core_state.specs.BodiesCovered.{BodiesCovered, cover_scope, IsCovered, IsInOldTree, LooksAsNoted, IsAsNoted, IsOpen, NotesHold, KeepsMerged, ExchangesDone}
 use Rattle.core_guard.proofs.Seats.{seen_of, has-step}
-use Rattle.core_guard.proofs.Turning.{point-grown, length-grown}
-use Rattle.core_guard.proofs.Leaving.{Acts, After, Last, Stays, IsApart, Leaves, Touches, IsHandled, home-back, each_update, if_some_map, if_some_both, body-forth, body-back, record-back, published-stands, old-stands, stands-in_tree}
+use Rattle.core_guard.proofs.Growing.{point-grown, length-grown}
+use Rattle.core_guard.proofs.Leaving.{Acts, After, Last, Stays, IsApart, Leaves, Touches, home-back, each_update, if_some_map, if_some_both, body-forth, body-back, record-back, published-stands, old-stands, stands-in_tree}
+use Rattle.core_guard.proofs.PlacesStay.{places-handles}
 
 -- ---- what the law says of one body
 
@@ -84,27 +85,15 @@ module _ (nodes : Nodes) (s : Sight) where
 
 -- ---- what the law reads of a task
 
-removes-seen : (task : Task) (i : ℕ) → Removes task i ↔ Removes (task_on_cover task) i
-removes-seen Nothing i = (λ h. h, λ h. h)
-removes-seen (Creating index) i = (λ h. h, λ h. h)
-removes-seen (Destroying index) i = (λ h. h, λ h. h)
-removes-seen (Pooling taken given) i = (λ h. h, λ h. h)
-removes-seen (Moving index target) i = (λ h. h, λ h. h)
-removes-seen (Removing index) i = (λ h. h, λ h. h)
-removes-seen (Placing index) i = (λ h. h, λ h. h)
-
-places-seen : (task : Task) (i : ℕ) → IsPlacing task i ↔ IsPlacing (task_on_cover task) i
-places-seen Nothing i = (λ h. h, λ h. h)
-places-seen (Creating index) i = (λ h. h, λ h. h)
-places-seen (Destroying index) i = (λ h. h, λ h. h)
-places-seen (Pooling taken given) i = (λ h. h, λ h. h)
-places-seen (Moving index target) i = (λ h. h, λ h. h)
-places-seen (Removing index) i = (λ h. h, λ h. h)
-places-seen (Placing index) i = (λ h. h, λ h. h)
-
-placing-handled : (task : Task) (i : ℕ) → IsPlacing task i → IsHandled task i
-placing-handled (Placing index) i h = h
-placing-handled _ i h = absurd h
+-- who takes a body out, or places it, is seen to
+task-seen : (task : Task) (i : ℕ) → (Removes task i ↔ Removes (task_on_cover task) i) × (IsPlacing task i ↔ IsPlacing (task_on_cover task) i)
+task-seen Nothing i = ((λ h. h, λ h. h), (λ h. h, λ h. h))
+task-seen (Creating index) i = ((λ h. h, λ h. h), (λ h. h, λ h. h))
+task-seen (Destroying index) i = ((λ h. h, λ h. h), (λ h. h, λ h. h))
+task-seen (Pooling taken given) i = ((λ h. h, λ h. h), (λ h. h, λ h. h))
+task-seen (Moving index target) i = ((λ h. h, λ h. h), (λ h. h, λ h. h))
+task-seen (Removing index) i = ((λ h. h, λ h. h), (λ h. h, λ h. h))
+task-seen (Placing index) i = ((λ h. h, λ h. h), (λ h. h, λ h. h))
 
 -- an update has done with a body still, where nobody begins to place it
 still_done : (v w : View) (r : Rebuild) (i : ℕ) → (IsPlacing w.call.task i → IsPlacing v.call.task i) → IsDone v r i → IsDone w r i
@@ -188,7 +177,7 @@ module _ (kind : Kind) (core : Core) (step : Step) (a : Acts core step) (nodes l
     removed-forth h = (
       h.0,
       has-step cover_scope (λ k v. refl) kind core step a.at a.pass h.0 (λ v. Removes v.call.task i) (λ v. Removes v.call.task i) h.1 (λ seat view apart found own removes. removes)
-      (λ same removes. (removes-seen (Last kind core step).call.task i).0 (b.removes.0 ((removes-seen step.view.call.task i).1 removes))),
+      (λ same removes. (task-seen (Last kind core step).call.task i).0.0 (b.removes.0 ((task-seen step.view.call.task i).0.1 removes))),
     )
 
     same_body-forth : (n : Noted) → n.index ≡ i → IsSameBody Old n → IsSameBody Seen n
@@ -225,7 +214,7 @@ module _ (kind : Kind) (core : Core) (step : Step) (a : Acts core step) (nodes l
       };
       off = b.off_after;
       unjoined = b.unjoined;
-      calm = λ places. absurd (b.alone_after (placing-handled (Last kind core step).call.task i places));
+      calm = λ places. absurd (b.alone_after (places-handles (Last kind core step).call.task i places));
     }
 
   -- ---- for one update
@@ -353,10 +342,10 @@ module _ (kind : Kind) (core : Core) (step : Step) (a : Acts core step) (nodes l
         rights-forth (seen_of cover_scope step.number step.view) (seen_of cover_scope step.number (Last kind core step)) r
         (λ i b.
         (
-          λ x. (places-seen (Last kind core step).call.task i).0 (b.places.0 ((places-seen step.view.call.task i).1 x)),
-          λ x. (places-seen step.view.call.task i).0 (b.places.1 ((places-seen (Last kind core step).call.task i).1 x)),
+          λ x. (task-seen (Last kind core step).call.task i).1.0 (b.places.0 ((task-seen step.view.call.task i).1.1 x)),
+          λ x. (task-seen step.view.call.task i).1.0 (b.places.1 ((task-seen (Last kind core step).call.task i).1.1 x)),
         ))
-        (λ i b x. (places-seen step.view.call.task i).0 (b.calm ((places-seen (Last kind core step).call.task i).1 x))) was)
+        (λ i b x. (task-seen step.view.call.task i).1.0 (b.calm ((task-seen (Last kind core step).call.task i).1.1 x))) was)
 
     right-later : EachUpdate Seen (λ number view r. RestHolds Seen r × ((i : ℕ) → IsNotedRight later Seen view r i))
     right-later number view among pass = go view.rebuild (right-seen number view among pass) (λ i b. b.noted number view among pass)

@@ -1,12 +1,10 @@
 -- The list of free indexes of a scene: whom it names, and what entries do to it.
-use Rattle.std.proofs.Common.{◌≡◌, ◌≢◌, ℕ, zero, suc, ◌+◌, ◌-◌, ◌<◌, ◌≤◌, List, [], ◌∷◌, ◌++◌, length, get_or, drop, refl, sym, ◌∙◌, ap, subst, Contains, AllPairs, Some, None, is_some, IsSome, IsNone, inl, inr, arith}
+use Rattle.std.proofs.Common.{◌≡◌, ◌≢◌, ℕ, zero, suc, ◌+◌, ◌-◌, ◌<◌, ◌≤◌, List, [], ◌∷◌, ◌++◌, length, get_or, drop, refl, sym, ◌∙◌, ap, subst, Contains, Some, None, is_some, IsSome, IsNone, inl, inr, arith}
 use Rattle.std.specs.List.{range_with_len}
-use Rattle.std.proofs.lemmas.List.{length-append, length-set, length_push, get_or_append_left, get_or-append-add, get_or_past}
-use Rattle.std.proofs.lemmas.List.Elements.{Contains-append_left, Contains-append_right, Contains-append_cases, Contains-get_or}
+use Rattle.std.proofs.lemmas.List.{length-set, length_push, get_or_past}
+use Rattle.std.proofs.lemmas.List.Elements.{Contains-append_left, Contains-append_right, Contains-append_cases}
 use Rattle.std.proofs.lemmas.List.FromFn.{length-range_with_len, get_or-range_with_len}
-use Rattle.std.proofs.lemmas.Map.Made.{AllPairs-from_IsDistinct}
 use Rattle.std.proofs.lemmas.Bool.{cases_lt, lt-ltb, false≢true}
-use Rattle.std.proofs.lemmas.Bool.Decides.{Decides-eqb}
 use Rattle.scene_model.specs.Scene.{Scene, Place, Record, place_at, record_at, unused, next_of, next_index}
 use Rattle.scene_model.specs.Step.{created_in, with_new_body, with_change, after_entry}
 use Rattle.scene_model.specs.Consistent.{IsConsistent}
@@ -35,36 +33,6 @@ range_has a n i low high =
     let inside : i - a < length (range_with_len a n) = omega (arith, length-range_with_len a n) in
     let at : a + (i - a) ≡ i = omega arith in
     (i - a, inside, get_or-range_with_len a n (i - a) i (omega arith) ∙ at)
-
--- two lists without repeats, and no element of both
-module _ (xs ys : List ℕ) (apart : (x y : ℕ) → Contains xs x → Contains ys y → x ≢ y) where
-  AllPairs-append : AllPairs (λ x y. x ≢ y) xs → AllPairs (λ x y. x ≢ y) ys → AllPairs (λ x y. x ≢ y) (xs ++ ys)
-  AllPairs-append h k i j d less inside =
-      elim (cases_lt j (length xs)) [
-        | inl early ↦ rw (get_or_append_left xs ys d i (omega arith), get_or_append_left xs ys d j early) (h i j d less early)
-        | inr late ↦
-            let long = length-append xs ys in
-            let back : length xs + (j - length xs) ≡ j = omega arith in
-            let second : get_or (xs ++ ys) j d ≡ get_or ys (j - length xs) d = sym (ap (λ (n : ℕ). get_or (xs ++ ys) n d) back) ∙ get_or-append-add xs ys (j - length xs) d in
-            elim (cases_lt i (length xs)) [
-              | inl early ↦
-                  rw (get_or_append_left xs ys d i early, second)
-                  (apart (get_or xs i d) (get_or ys (j - length xs) d) (Contains-get_or xs i d early) (Contains-get_or ys (j - length xs) d (omega arith)))
-              | inr later ↦
-                  let forth : length xs + (i - length xs) ≡ i = omega arith in
-                  let first : get_or (xs ++ ys) i d ≡ get_or ys (i - length xs) d = sym (ap (λ (n : ℕ). get_or (xs ++ ys) n d) forth) ∙ get_or-append-add xs ys (i - length xs) d in
-                  rw (first, second) (k (i - length xs) (j - length xs) d (omega arith) (omega arith))
-            ]
-      ]
-
-range-once : (a n : ℕ) → AllPairs (λ x y. x ≢ y) (range_with_len a n)
-range-once a n i j d less inside =
-    let long = length-range_with_len a n in
-    rw (get_or-range_with_len a n i d (omega arith), get_or-range_with_len a n j d (omega arith)) (λ same. absurd (omega arith))
-
--- the first of a list without repeats does not come again
-pub once_first : (x : ℕ) (xs : List ℕ) → AllPairs (λ a b. a ≢ b) (x ∷ xs) → (y : ℕ) → Contains xs y → y ≢ x
-once_first x xs once y c same = let inside = c.1 in once 0 (suc c.0) y (omega arith) (omega arith) (sym (c.2 ∙ same))
 
 -- ---- the next index
 
@@ -149,21 +117,6 @@ module _ (layers : ℕ) (scene : Scene) (h : IsConsistent layers scene) where
             Contains-append_right scene.freed (range_with_len (length scene.places) (scene.bodies - length scene.places)) index
             (range_has (length scene.places) (scene.bodies - length scene.places) index past (omega arith))
       ]
-
-  -- each once
-  pub free-once : AllPairs (λ a b. a ≢ b) (free_indexes scene)
-  free-once =
-      let count = scene.bodies - length scene.places in
-      AllPairs-append scene.freed (range_with_len (length scene.places) count)
-      (λ x y freed later same.
-      let used = (h.freed_empty x freed).0 in
-      let past = (in_range (length scene.places) count y later).0 in
-      absurd (omega arith))
-      (AllPairs-from_IsDistinct Decides-eqb scene.freed h.freed_once) (range-once (length scene.places) count)
-
-  -- so the first one is none of the others
-  pub free-first : (index : ℕ) (chain : List ℕ) → free_indexes scene ≡ index ∷ chain → (other : ℕ) → Contains chain other → other ≢ index
-  free-first index chain e = once_first index chain (subst (λ (l : List ℕ). AllPairs (λ a b. a ≢ b) l) e free-once)
 
   -- a live index is not free
   pub free-apart : (index other : ℕ) → IsSome (record_at scene index) → Contains (free_indexes scene) other → other ≢ index

@@ -1,6 +1,6 @@
 -- What a step leaves of trees, bodies and passes. It stores one word, changes one view and the scene at few bodies: so a law
 -- is shown anew only of what the step touches, and stays of all else.
-use Rattle.std.proofs.Common.{◌≡◌, ◌≢◌, ◌⊎◌, ◌↔◌, ℕ, ◌+◌, ◌++◌, ◌<◌, ◌≤◌, List, Option, Some, None, false, refl, ap, sym, ◌∙◌, subst, inl, inr, arith}
+use Rattle.std.proofs.Common.{◌≡◌, ◌≢◌, ◌⊎◌, ◌↔◌, ℕ, ◌+◌, ◌++◌, ◌<◌, ◌≤◌, List, Option, Some, None, refl, ap, sym, ◌∙◌, subst, inl, inr, arith}
 use Rattle.std.specs.Prelude.{Contains, IsNone, IsSomeAnd, IfSome, option_map}
 use Rattle.std.proofs.lemmas.List.Elements.{filter_map-append}
 use Rattle.std.proofs.lemmas.Option.{none-some, same_Some}
@@ -11,7 +11,7 @@ use Rattle.scene_model.specs.Step.{HasBody}
 use Rattle.scene_model.specs.History.{scene_after}
 use Rattle.word_map.specs.Names.{IsName}
 use Rattle.word_map.specs.declared.name.Name.{Name}
-use Rattle.word_map.specs.declared.name.Name.TheVariants.{State, Phase, Layer, User, BoxWord, LocA, LocB, Child, Bound, Parent, Main, Slot, Reader}
+use Rattle.word_map.specs.declared.name.Name.TheVariants.{State, Phase, Layer, BoxWord, LocA, LocB, Child, Bound, Parent, Main, Slot, Reader}
 use Rattle.core_state.specs.declared.item.Store.{Store}
 use Rattle.core_state.specs.declared.view.Marked.{Marked}
 use Rattle.core_state.specs.declared.view.Batch.{Batch}
@@ -23,11 +23,11 @@ use Rattle.core_state.specs.declared.view.View.{View}
 use Rattle.core_state.specs.Log.{history, made_by}
 use Rattle.core_state.specs.View.{IsPass, no_call}
 use Rattle.core_state.specs.Core.{Core, word_of, scene_of, IsViewAt}
-use Rattle.core_state.specs.Kind.{Kind, Asking, Step, Steps, found_by, gained_by, view_after, after_step}
-use Rattle.core_state.specs.Formed.{IsFormed}
+use Rattle.core_state.specs.Kind.{Kind, Asking, Step, Steps, gained_by, view_after, after_step}
+use Rattle.core_state.specs.Formed.{IsFormed, AreApart}
 use Rattle.core_state.specs.Guards.{GuardsHold}
-use Rattle.core_state.specs.Encoding.{NamesRoot, place, node_child, phase_join, slot_tree, layer_of, Covers, bound_in}
-use Rattle.core_state.specs.Nodes.{Nodes, Home, Stands, IsInTree, IsPublished, IsOwnedBy, node_in, Above, here, higher, under, made, superseded, returning}
+use Rattle.core_state.specs.Encoding.{NamesRoot, place, node_child, phase_join, slot_tree, layer_of, Covers, bound_in, Sides}
+use Rattle.core_state.specs.Nodes.{Nodes, Home, Stands, IsLive, IsInTree, IsPublished, IsOwnedBy, node_in, Above, here, higher, under, made, superseded}
 use Rattle.core_state.specs.Parts.{call_by_task, call_on_places, task_on_cover, task_at_place}
 use Rattle.core_state.specs.Scope.{Scope, Sight, sight, HasPass}
 use Rattle.core_state.specs.TreesSound.{TreesSoundIn, IsChild, nothing, a_body, a_node, IsPlaced, as_root, at_place, IsAsStored}
@@ -35,9 +35,12 @@ use Rattle.core_state.specs.Updates.{EachUpdate, HasUpdate, IsOldTree, IsPlacing
 use Rattle.core_state.specs.Bodies.{all_batches}
 use Rattle.core_state.specs.LocationsHold.{Removes, location_scope, IsPlannedIn}
 use Rattle.core_state.specs.Invariants.{Invariants}
+use Rattle.core_state.proofs.Forming.{pass_role}
 use Rattle.core_state.proofs.Frames.{step-history}
 use Rattle.core_state.proofs.Steps.{word-step-other}
 use Rattle.core_guard.proofs.Seats.{KeepsNumber, seen_of, each-step, has-step}
+use Rattle.core_state.specs.declared.view.Role.{Role}
+use Rattle.core_state.specs.declared.view.Role.TheVariants.{Pass}
 
 -- ---- a step that is made, by a pass, in a core in which all holds
 
@@ -373,10 +376,6 @@ module _ (P : Record → Type 0) (steady : (r : Record) (user : ℕ) → P r ↔
   body-back o p not_live h = h
   body-back o p (is_live r user) h = (steady r user).1 h
 
-pub none-forth : (o p : Option Record) → IsAsBefore o p → IsNone o → IsNone p
-none-forth o p not_live h = h
-none-forth o p (is_live r user) h = absurd cc
-
 pub none-back : (o p : Option Record) → IsAsBefore o p → IsNone p → IsNone o
 none-back o p not_live h = h
 none-back o p (is_live r user) h = absurd cc
@@ -393,3 +392,26 @@ record-back o p r (is_live old user) e = (old.user, λ i. Some (record (same i) 
 pub held-once : (o : Option Record) → IsSomeAnd o (λ r. r.phase ≢ Held) → ¬ IsSomeAnd o (λ r. r.phase ≡ Held)
 held-once None h held = h
 held-once (Some r) h held = h held
+
+-- ---- used by many
+
+-- a node that is live stands
+pub live-stands : (home : Home) → IsLive home → Stands home
+live-stands (under name) h = tt
+live-stands (superseded p name) h = tt
+live-stands _ h = absurd h
+
+pub covers-more : (a b c : Sides) → Covers a b → Covers b c → Covers a c
+covers-more a b c ab bc q low = let x = ab q low in let y = bc q low in (omega arith, omega arith)
+
+-- two seats of passes have two numbers
+pub number-apart : (number further rest : ℕ) → ¬ AreApart (Pass number further) (Pass number rest)
+number-apart number further rest (inl less) = absurd (omega arith)
+number-apart number further rest (inr less) = absurd (omega arith)
+
+pub other-number : (core : Core) (step : Step) → Acts core step → (seat number : ℕ) (view : View) → seat ≢ step.seat → IsViewAt core seat view → IsPass view number → number ≢ step.number
+other-number core step a seat number view apart at pass same =
+    let one = pass_role view.role step.number (pass ∙ ap Some same) in
+    let two = pass_role step.view.role step.number a.pass in
+    let parts = a.formed.apart seat step.seat view step.view at a.at apart in
+    number-apart step.number one.0 two.0 (subst (λ (r : Role). AreApart r (Pass step.number two.0)) one.1 (subst (λ (r : Role). AreApart view.role r) two.1 parts))

@@ -1,19 +1,15 @@
-pub mod Likeness
-pub mod UpdatesAlike
-pub mod Changing
 pub mod LockWords
 pub mod Chains
 pub mod Scenes
 pub mod FreeIndexes
 pub mod Seats
-pub mod Turning
+pub mod Growing
 pub mod Leaving
 pub mod BodiesStep
-pub mod Guarded
+pub mod Alone
 pub mod ListsAgree
 pub mod OneBody
 pub mod LivesAgree
-pub mod BodiesAlike
 pub mod TreesLeft
 pub mod WalksLeft
 pub mod ReadersLeft
@@ -35,3 +31,4 @@ pub mod WalkReaders
 pub mod Opened
 pub mod Keeping
 pub mod Settled
+pub mod BodiesAside

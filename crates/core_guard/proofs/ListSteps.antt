@@ -8,39 +8,30 @@ use Rattle.core_state.specs.declared.view.Task.{Task}
 use Rattle.core_state.specs.declared.view.Task.TheVariants.{Nothing, Creating, Destroying, Pooling, Moving, Removing, Placing}
 use Rattle.core_state.specs.declared.view.Call.{Call}
 use Rattle.core_state.specs.declared.view.View.{View}
-use Rattle.core_state.specs.View.{IsPass, known_word}
-use Rattle.core_state.specs.Core.{Core, IsViewAt}
+use Rattle.core_state.specs.View.{known_word}
+use Rattle.core_state.specs.Core.{Core}
 use Rattle.core_state.specs.Kind.{Kind, Step, Steps, learned, found_by, view_after, after_step}
 use Rattle.core_state.specs.Formed.{IsFormed}
 use Rattle.core_state.specs.Frame.{IsOutside}
 use Rattle.core_state.specs.Guards.{GuardsHold}
 use Rattle.core_state.specs.Scope.{Scope, bare_view}
-use Rattle.core_state.specs.Nodes.{Nodes}
 use Rattle.core_state.specs.Parts.{call_at, call_on_places, task_on_pool, task_on_cover, task_at_place, update_on_nodes, update_on_trees, update_on_places, update_on_cover, update_on_readers}
 use Rattle.core_state.specs.LocksAgree.{LocksAgree, lock_scope}
 use Rattle.core_state.specs.BodiesAgree.{BodiesAgree}
 use Rattle.core_state.specs.NodesInOnePlace.{NodesInOnePlaceIn, NodesInOnePlace, node_scope}
-use Rattle.core_state.specs.TreesSound.{TreesSoundIn, TreesSound, tree_scope}
-use Rattle.core_state.specs.LocationsHold.{LocationsHoldIn, LocationsHold, location_scope}
-use Rattle.core_state.specs.BodiesCovered.{BodiesCoveredIn, BodiesCovered, cover_scope}
-use Rattle.core_state.specs.WalksLead.{WalksLeadIn, WalksLead, walk_scope}
-use Rattle.core_state.specs.ReadersCounted.{ReadersCountedIn, ReadersCounted, reader_scope}
+use Rattle.core_state.specs.TreesSound.{TreesSoundIn, tree_scope}
+use Rattle.core_state.specs.LocationsHold.{LocationsHoldIn, location_scope}
+use Rattle.core_state.specs.BodiesCovered.{BodiesCoveredIn, cover_scope}
+use Rattle.core_state.specs.WalksLead.{WalksLeadIn, walk_scope}
+use Rattle.core_state.specs.ReadersCounted.{ReadersCountedIn, reader_scope}
 use Rattle.core_state.specs.Invariants.{Invariants}
 use Rattle.core_state.specs.Lists.{MayStoreLink, store_link, MayStoreHead, store_head, task_by_head, is_live}
 use Rattle.core_state.proofs.Frames.{frame, step-same}
-use Rattle.core_guard.proofs.Likeness.{IsNothing, IsLikeCall, same_call, idle_calls, nothing-is, IsLike}
 use Rattle.core_guard.proofs.ListsAgree.{BodiesAgree-store_link, BodiesAgree-store_head}
 use Rattle.core_guard.proofs.LockSteps.{LocksAgree-other}
 use Rattle.core_guard.proofs.Leaving.{Acts, acts-of, IsIdle, idle-places, idle-cover, idle-at_place}
 
 -- ---- the laws of places
-
-pub record PlaceLaws (nodes : Nodes) (core : Core) : Type 0 where
-  pub trees : TreesSound nodes core
-  pub locations : LocationsHold nodes core
-  pub cover : BodiesCovered nodes core
-  pub walks : WalksLead core
-  pub readers : ReadersCounted nodes core
 
 -- a word that none of them reads: of a lock or of a list
 abbrev pub IsAsideWord : Name → Type 0
@@ -90,10 +81,12 @@ module _ (kind : Kind) (core : Core) (step : Step) where
       → IsOutside scope kind core step
   outside scope k hidden part = record { name = λ stored. hidden; entry = λ reads. k.entry; part = part }
 
-  -- leaves them all
-  pub place-laws : IsViewAt core step.seat step.view → IsPass step.view step.number → KeepsPlaces → (nodes : Nodes) → PlaceLaws nodes core → PlaceLaws nodes (after_step kind core step)
-  place-laws at pass k nodes h =
+  -- leaves them all, so that the other three are what is to be shown
+  pub Invariants-aside : (a : Acts core step) → KeepsPlaces → LocksAgree (after_step kind core step) → BodiesAgree (after_step kind core step) → NodesInOnePlace a.laws.nodes (after_step kind core step)
+      → Invariants (after_step kind core step)
+  Invariants-aside a k locks bodies nodes =
       let bare = bare_view step.number in
+      let h = a.laws in
       let last = view_after kind core step in
       let hidden = aside-hidden step.name k.aside in
       let places : call_on_places last.call ≡ call_on_places step.view.call = same-part call_on_places _ idle-places step.view.call last.call k.call in
@@ -103,48 +96,30 @@ module _ (kind : Kind) (core : Core) (step : Step) where
       let stands : call_at (task_at_place last.call.task) ≡ call_at (task_at_place step.view.call.task) =
       same-part (λ c. call_at (task_at_place c.task)) _ (λ c calm. ap call_at (idle-at_place c.task calm)) step.view.call last.call k.call
       in
-      let same = λ (scope : Scope) (o : IsOutside scope kind core step). step-same scope kind core step at pass o in
+      let same = λ (scope : Scope) (o : IsOutside scope kind core step). step-same scope kind core step a.at a.pass o in
       record {
+        nodes = h.nodes;
+        locks = locks;
+        bodies = bodies;
+        places = nodes;
         trees =
-            frame tree_scope (TreesSoundIn nodes) core (after_step kind core step)
+            frame tree_scope (TreesSoundIn h.nodes) core (after_step kind core step)
             (same tree_scope (outside tree_scope k hidden.trees (λ i. record bare { written = k.written i; rebuild = option_map update_on_trees (k.rebuild i) }))) h.trees;
         locations =
-            frame location_scope (LocationsHoldIn nodes) core (after_step kind core step)
+            frame location_scope (LocationsHoldIn h.nodes) core (after_step kind core step)
             (same location_scope (outside location_scope k hidden.locations (λ i. record bare { call = places i; batches = k.batches i; rebuild = option_map update_on_places (k.rebuild i) })))
             h.locations;
         cover =
-            frame cover_scope (BodiesCoveredIn nodes) core (after_step kind core step)
+            frame cover_scope (BodiesCoveredIn h.nodes) core (after_step kind core step)
             (same cover_scope (outside cover_scope k hidden.cover (λ i. record bare { call = covers i; rebuild = option_map update_on_cover (k.rebuild i) }))) h.cover;
         walks =
             frame walk_scope WalksLeadIn core (after_step kind core step)
             (same walk_scope (outside walk_scope k hidden.walks (λ i. record bare { walk = k.walk i }))) h.walks;
         readers =
-            frame reader_scope (ReadersCountedIn nodes) core (after_step kind core step)
+            frame reader_scope (ReadersCountedIn h.nodes) core (after_step kind core step)
             (same reader_scope (outside reader_scope k hidden.readers (λ i. record bare { walk = k.walk i; call = stands i; rebuild = option_map update_on_readers (k.rebuild i) })))
             h.readers;
       }
-
-  -- what a view that is like what it was keeps
-  pub like-keeps : IsAsideWord step.name → ((value : ℕ) → kind.entry step.view step.name value ≡ None) → IsLike IsNothing step.view (view_after kind core step) → KeepsPlaces
-  like-keeps aside entry like = record {
-    aside = aside;
-    entry = entry;
-    batches = like.batches;
-    written = like.written;
-    walk = like.walk;
-    rebuild = like.rebuild;
-    call = go like.call;
-  }
-    where
-      calm : (t : Task) → IsNothing t → IsIdle t
-      calm t is = subst IsIdle (sym (nothing-is t is)) tt
-      go : IsLikeCall IsNothing step.view.call (view_after kind core step).call → ((view_after kind core step).call ≡ step.view.call) ⊎ (IsIdle step.view.call.task × IsIdle (view_after kind core step).call.task)
-      go (same_call e) = inl e
-      go (idle_calls before after loads stores) = inr (calm step.view.call.task before, calm (view_after kind core step).call.task after)
-
-pub laws-of-places : (core : Core) (h : Invariants core) → PlaceLaws h.nodes core
-laws-of-places core h = record { trees = h.trees; locations = h.locations; cover = h.cover; walks = h.walks; readers = h.readers }
-
 
 -- ---- the steps on the list of free indexes
 
@@ -190,26 +165,6 @@ NodesInOnePlace-other kind core step a k =
     } in
     frame node_scope (NodesInOnePlaceIn a.laws.nodes) core (after_step kind core step) (step-same node_scope kind core step a.at a.pass aside) a.laws.places
 
--- all laws, those of places as one
-pub laws-together : (nodes : Nodes) (core : Core) → LocksAgree core → BodiesAgree core → NodesInOnePlace nodes core → PlaceLaws nodes core → Invariants core
-laws-together nodes core locks bodies places laws = record {
-  nodes = nodes;
-  locks = locks;
-  bodies = bodies;
-  places = places;
-  trees = laws.trees;
-  locations = laws.locations;
-  cover = laws.cover;
-  walks = laws.walks;
-  readers = laws.readers;
-}
-
-module _ (kind : Kind) (core : Core) (step : Step) (a : Acts core step) (k : KeepsPlaces kind core step) where
-  pub list-laws : lock_scope.names step.name ≡ false → KeepsPool kind core step → BodiesAgree (after_step kind core step) → Invariants (after_step kind core step)
-  list-laws hidden pool bodies =
-      laws-together a.laws.nodes (after_step kind core step) (LocksAgree-other core step a kind hidden pool.locks) bodies (NodesInOnePlace-other kind core step a pool)
-      (place-laws kind core step a.at a.pass k a.laws.nodes (laws-of-places core a.laws))
-
 pub Invariants-store_link : (before after : Core) → Steps MayStoreLink store_link before after → IsFormed before → GuardsHold before → Invariants before → Invariants after
 Invariants-store_link before after steps formed guards h =
     let step = steps.step in
@@ -228,7 +183,7 @@ Invariants-store_link before after steps formed guards h =
       call = inl refl;
     } in
     let pool : KeepsPool store_link before step = record { hidden = pooled; locks = refl; batches = refl; loose = refl; rebuild = refl; pool = refl } in
-    subst Invariants (sym steps.result) (list-laws store_link before step a keeps hidden pool bodies)
+    subst Invariants (sym steps.result) (Invariants-aside store_link before step a keeps (LocksAgree-other before step a store_link hidden refl) bodies (NodesInOnePlace-other store_link before step a pool))
 
 pub Invariants-store_head : (before after : Core) → Steps MayStoreHead store_head before after → IsFormed before → GuardsHold before → Invariants before → Invariants after
 Invariants-store_head before after steps formed guards h =
@@ -257,4 +212,4 @@ Invariants-store_head before after steps formed guards h =
       rebuild = refl;
       pool = off-pool (view_after store_head before step).call.task off ∙ sym (ap task_on_pool asked.list.idle);
     } in
-    subst Invariants (sym steps.result) (list-laws store_head before step a keeps hidden pool bodies)
+    subst Invariants (sym steps.result) (Invariants-aside store_head before step a keeps (LocksAgree-other before step a store_head hidden refl) bodies (NodesInOnePlace-other store_head before step a pool))

@@ -453,7 +453,7 @@ module _ (core : Core) (step : Step) (at : IsViewAt core step.seat step.view) (p
         record_body (record_at (scene_in s) asked.index) (λ p. p.phase ≡ Held) r e now))
         (list-stays set_user core step at pass past h refl refl (user_word SlotHead refl) (λ i. user_word (SlotNext i) refl)
         (ap free_indexes scene ∙ free-user (scene_in s) asked.index step.first))
-        (λ was. stripe-moved set_user core step at pass past step.view step.view.call.task was)
+        (λ was. stripe-moved set_user core step at pass past step.view step.view step.view.call.task (λ lock holds. holds) was)
 
 pub BodiesAgree-set_user : (before after : Core) → Steps MaySetUser set_user before after → IsFormed before → GuardsHold before → LocksAgree before → BodiesAgree before → BodiesAgree after
 BodiesAgree-set_user before after steps formed guards agree h =

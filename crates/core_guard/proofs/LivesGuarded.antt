@@ -25,7 +25,7 @@ use Rattle.core_guard.proofs.Scenes.{state-dead_low, none_here}
 use Rattle.core_guard.proofs.FreeIndexes.{free-dead}
 use Rattle.core_guard.proofs.Seats.{each-seat}
 use Rattle.core_guard.proofs.BodiesStep.{others-idle}
-use Rattle.core_guard.proofs.Guarded.{marked-held}
+use Rattle.core_guard.proofs.Alone.{marked-held}
 use Rattle.core_guard.proofs.ListsAgree.{scene_consistent, world-lock}
 use Rattle.core_guard.proofs.LivesAgree.{creating-dead, destroy_body, user_live}
 use Rattle.core_guard.proofs.Leaving.{Acts, some_and_map}

@@ -3,16 +3,14 @@ use Rattle.std.proofs.Common.{◌≡◌, ℕ, option_map, false, refl, ap, sym, 
 use Rattle.std.proofs.lemmas.Bool.{false≢true}
 use Rattle.word_map.specs.declared.config.Config.{Config}
 use Rattle.word_map.specs.declared.name.Name.{Name}
-use Rattle.word_map.specs.declared.name.Name.TheVariants.{State, Layer, User, BoxWord}
+use Rattle.word_map.specs.declared.name.Name.TheVariants.{Layer, User, BoxWord}
 use Rattle.core_state.specs.declared.view.View.{View}
 use Rattle.core_state.specs.Core.{Core}
-use Rattle.core_state.specs.Kind.{Kind, Asking, Step, Steps, view_after, after_step}
-use Rattle.core_state.specs.Formed.{IsFormed}
-use Rattle.core_state.specs.Guards.{GuardsHold}
+use Rattle.core_state.specs.Kind.{Kind, Step, view_after, after_step}
 use Rattle.core_state.specs.Lives.{IsFieldOf, MayStoreField, store_field, MayCreate, create, MayDestroy, destroy, MaySetUser, set_user}
-use Rattle.core_state.specs.LocksAgree.{LocksAgree, lock_scope}
+use Rattle.core_state.specs.LocksAgree.{lock_scope}
 use Rattle.core_state.specs.BodiesAgree.{BodiesAgree}
-use Rattle.core_state.specs.NodesInOnePlace.{NodesInOnePlace, NodesInOnePlaceIn, node_scope}
+use Rattle.core_state.specs.NodesInOnePlace.{NodesInOnePlaceIn, node_scope}
 use Rattle.core_state.specs.Parts.{call_at, task_on_pool, update_on_nodes}
 use Rattle.core_state.specs.Frame.{IsOutside}
 use Rattle.core_state.specs.Scope.{bare_view}

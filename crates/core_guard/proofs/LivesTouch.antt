@@ -1,8 +1,7 @@
 -- What creation, destruction and user numbers leave of trees, bodies and passes.
-use Rattle.std.proofs.Common.{◌≡◌, ◌≢◌, ℕ, ◌<◌, Bool, Option, Some, None, true, false, is_some, IsSome, IsNone, IsSomeAnd, refl, ap, sym, ◌∙◌, subst, inl, inr, arith}
-use Rattle.std.specs.Prelude.{⊤}
+use Rattle.std.proofs.Common.{◌≡◌, ℕ, ◌<◌, Bool, Option, Some, None, true, false, is_some, IsSome, IsNone, IsSomeAnd, refl, ap, sym, ◌∙◌, subst, inl, inr, arith}
 use Rattle.std.proofs.lemmas.Bool.{false≢true}
-use Rattle.scene_model.specs.declared.body_view.Phase.TheVariants.{Out, Held, In}
+use Rattle.scene_model.specs.declared.body_view.Phase.TheVariants.{Out, In}
 use Rattle.scene_model.specs.declared.entry.Entry.TheVariants.{Destroy, SetUser}
 use Rattle.scene_model.specs.Scene.{Record, record_at}
 use Rattle.scene_model.specs.Step.{HasBody}
@@ -12,21 +11,16 @@ use Rattle.word_map.specs.declared.name.Name.TheVariants.{State, Phase, Layer, U
 use Rattle.word_map.specs.Names.{IsName, stripe_of}
 use Rattle.core_state.specs.declared.view.Mode.TheVariants.{Write}
 use Rattle.core_state.specs.declared.view.Task.{Task}
-use Rattle.core_state.specs.declared.view.Task.TheVariants.{Moving, Removing, Placing}
-use Rattle.core_state.specs.declared.view.Call.{Call}
 use Rattle.core_state.specs.declared.view.View.{View}
 use Rattle.core_state.specs.View.{IsPass, Holds}
 use Rattle.core_state.specs.Core.{Core, word_of, scene_of, IsViewAt}
 use Rattle.core_state.specs.Kind.{Step}
 use Rattle.core_state.specs.Encoding.{phase_out}
 use Rattle.core_state.specs.Lives.{IsFieldOf, MayStoreField, store_field, MayCreate, create, MayDestroy, destroy, MaySetUser, set_user}
-use Rattle.core_state.specs.Parts.{call_by_task}
-use Rattle.core_state.specs.Scope.{Sight, sight, scene_in, EachPass}
-use Rattle.core_state.specs.Invariants.{Invariants}
-use Rattle.core_state.specs.LocationsHold.{location_scope, is_location_store, Removes, IsTakenOut}
+use Rattle.core_state.specs.LocationsHold.{location_scope, is_location_store, Removes}
 use Rattle.core_state.proofs.Steps.{word-step-other}
 use Rattle.core_guard.proofs.Scenes.{live_or_dead, none_here, with_user}
-use Rattle.core_guard.proofs.Seats.{each-seat, has-seat}
+use Rattle.core_guard.proofs.Seats.{has-seat}
 use Rattle.core_guard.proofs.BodiesStep.{sound}
 use Rattle.core_guard.proofs.LivesAgree as lives
 use Rattle.core_guard.proofs.Leaving.{Acts, IsHandled, IsIdle, Stays, IsAsBefore, is_live, After, Touches, scene-plain}
@@ -35,33 +29,6 @@ use Rattle.core_guard.proofs.BodyTouch.{body_of, touches-body, held-kept, record
 -- a pass moves, removes or places live bodies only
 abbrev pub HandlesLive : Core → Type 0
 HandlesLive core = (seat number : ℕ) (view : View) (i : ℕ) → IsViewAt core seat view → IsPass view number → IsHandled view.call.task i → IsSome (record_at (scene_of core) i)
-
--- what a pass would have to say of the body that it moves or places: it is live, and no batch holds it
-abbrev pub IsLiveUnheld : Sight → Task → Type 0
-IsLiveUnheld s (Moving index target) = HasBody (scene_in s) index (λ r. r.phase ≢ Held)
-IsLiveUnheld s (Placing index) = HasBody (scene_in s) index (λ r. r.phase ≢ Held)
-IsLiveUnheld s _ = ⊤
-
-live_some : (o : Option Record) (P : Record → Type 0) → IsSomeAnd o P → IsSome o
-live_some None P h = absurd h
-live_some (Some r) P h = refl
-
--- so it handles live bodies only; one that it takes out is live by the law
-pub handles-live : (core : Core) → Invariants core → EachPass (sight location_scope core) (λ number view. IsLiveUnheld (sight location_scope core) view.call.task) → HandlesLive core
-handles-live core h unheld seat number view i at pass handled =
-    let s = sight location_scope core in
-    let live = each-seat location_scope (λ n v. refl) core (λ n v. IsLiveUnheld s v.call.task) unheld seat number view at pass in
-    let removed = each-seat location_scope (λ n v. refl) core (λ n v. (i : ℕ) → Removes v.call.task i → IsTakenOut h.nodes s v i) h.locations.removed seat number view at pass in
-    go view.call view.call.task refl handled live (λ removes. (removed i removes).out)
-  where
-    go : (call : Call) (task : Task) → call.task ≡ task → IsHandled task i → IsLiveUnheld (sight location_scope core) (call_by_task task call).task
-        → (Removes (call_by_task task call).task i → HasBody (scene_of core) i (λ r. r.phase ≡ Out)) → IsSome (record_at (scene_of core) i)
-    go call (Moving index target) e same live out =
-        subst (λ (k : ℕ). IsSome (record_at (scene_of core) k)) same (live_some (record_at (scene_of core) index) _ (subst (IsLiveUnheld (sight location_scope core)) e live))
-    go call (Placing index) e same live out =
-        subst (λ (k : ℕ). IsSome (record_at (scene_of core) k)) same (live_some (record_at (scene_of core) index) _ (subst (IsLiveUnheld (sight location_scope core)) e live))
-    go call (Removing index) e same live out = live_some (record_at (scene_of core) i) _ (out (subst (λ (t : Task). Removes t i) (sym e) same))
-    go call _ e none live out = absurd none
 
 -- a body that is out is not in the broad phase
 pub out_unseen : (o : Option Record) → IsSomeAnd o (λ r. r.phase ≡ Out) → ¬ IsSomeAnd o (λ r. r.phase ≡ In)

@@ -8,7 +8,7 @@ use Rattle.std.proofs.lemmas.List.Elements.{Contains-append_left, Contains-appen
 use Rattle.word_map.specs.declared.name.Name.{Name}
 use Rattle.word_map.specs.declared.name.Name.TheVariants.{PoolHead, PoolNext, PoolFree, Main, Slot, Update, Arena}
 use Rattle.word_map.specs.Names.{node_count, pool_lock}
-use Rattle.core_state.specs.declared.view.Mode.TheVariants.{Read, Write}
+use Rattle.core_state.specs.declared.view.Mode.TheVariants.{Write}
 use Rattle.core_state.specs.declared.view.Task.{Task}
 use Rattle.core_state.specs.declared.view.Task.TheVariants.{Pooling}
 use Rattle.core_state.specs.declared.view.Batch.{Batch}
@@ -17,8 +17,7 @@ use Rattle.core_state.specs.declared.view.Rebuild.{Rebuild}
 use Rattle.core_state.specs.declared.view.View.{View}
 use Rattle.core_state.specs.View.{IsPass, Holds, HoldsNot}
 use Rattle.core_state.specs.Core.{Core, IsViewAt}
-use Rattle.core_state.specs.Kind.{Kind, Step, learned, found_by, view_after, after_step}
-use Rattle.core_state.specs.Locking.{MayRead, take_read, MayWrite, take_write, MayRelease, release}
+use Rattle.core_state.specs.Kind.{Kind, Step, view_after, after_step}
 use Rattle.core_state.specs.Encoding.{IsInArena}
 use Rattle.core_state.specs.Nodes.{Nodes, Home, free, spare, made, under, superseded, returning, IsOwnedBy, IsInTree, nodes_of, nodes_in}
 use Rattle.core_state.specs.Parts.{task_on_pool, update_on_nodes}
@@ -33,10 +32,8 @@ use Rattle.core_state.proofs.Lookups.{at_one}
 use Rattle.core_state.proofs.Opening.{none_in}
 use Rattle.core_state.proofs.Steps.{view-step, word-step-other}
 use Rattle.core_guard.proofs.Chains.{chain-kept}
-use Rattle.core_guard.proofs.Changing.{taken_if-like, released-like, after-like}
 use Rattle.core_guard.proofs.Leaving.{Acts, if_some_map}
-use Rattle.core_guard.proofs.Likeness.{IsNothing, nothing-is, IsLike, IsLikeCall, same_call, idle_calls, zip-set, zip-fold}
-use Rattle.core_guard.proofs.Seats.{seen_of, seen_at, each-seat, each-seats, each-step, each-unstep, has-step, has-unstep}
+use Rattle.core_guard.proofs.Seats.{seen_of, seen_at, each-seat, each-seats, each-step, each-unstep, has-step, has-unstep, fold-step}
 
 -- ---- the parts
 
@@ -74,7 +71,7 @@ pub record TreePart (nodes : Nodes) (s : Sight) : Type 0 where
   pub idle : IsArenaUnread s → (n : ℕ) → IsInArena s.config (1 - s.word Arena) n → nodes.home n ≡ spare
 
 -- what is collected comes from one of the list
-flat_from : {X Y : Type 0} (f : X → List Y) (xs : List X) (y : Y) → Contains (flat_map f xs) y → (x : X) × Contains xs x × Contains (f x) y
+pub flat_from : {X Y : Type 0} (f : X → List Y) (xs : List X) (y : Y) → Contains (flat_map f xs) y → (x : X) × Contains xs x × Contains (f x) y
 flat_from f [] y h = absurd (none_in y h)
 flat_from f (x ∷ xs) y h =
     elim (Contains-append_cases (f x) (flat_map f xs) y h) [
@@ -224,11 +221,7 @@ module _ (kind : Kind) (core : Core) (step : Step) where
     module _ (leaves : LeavesUpdate) where
       arena-same : (named layer : ℕ) → arena_of New named layer ≡ arena_of Old named layer
       arena-same named layer =
-          let R : View → View → Type 0 = (λ v w. w.rebuild ≡ v.rebuild) in
-          zip-fold R (λ arena view. arena_after layer arena view.rebuild) named Old.passes New.passes
-          (λ n v w e. ap (λ (o : Option Rebuild). arena_after layer n o) e)
-          (zip-set R (λ v. refl) _ core.views step.seat step.view Last (seen_of node_scope step.number step.view) (seen_of node_scope step.number Last) a.at
-          (ap (option_map (λ n. seen_of node_scope n step.view)) a.pass) (ap (option_map (λ n. seen_of node_scope n Last)) a.pass) leaves.rebuild)
+          fold-step node_scope (λ k v. refl) kind core step a.at a.pass (λ arena view. arena_after layer arena view.rebuild) (λ n. ap (λ (o : Option Rebuild). arena_after layer n o) leaves.rebuild) named
 
       -- of some update
       has-forth : (number : ℕ) (P : Option Rebuild → Type 0) → HasPass Old number (λ view. P view.rebuild) → HasPass New number (λ view. P view.rebuild)
@@ -425,33 +418,3 @@ module _ (kind : Kind) (core : Core) (step : Step) where
         NodesInOnePlace-stays
         (unseen-pool none (ap (λ (c : Call). task_on_pool c.task) call) (λ pooling holds. subst (λ l. Holds (record Last { locks = l }) (pool_lock core.config) Write) (sym locks) holds))
         (same-nodes batches loose (ap nodes_in rebuild)) (unseen-update none (ap (option_map update_on_nodes) rebuild))
-
-    -- ---- locks
-
-    -- a step on a lock
-    locked : node_scope.names step.name ≡ false → IsLike IsNothing step.view Last → NodesInOnePlace nodes (after_step kind core step)
-    locked none like =
-        NodesInOnePlace-stays (unseen-pool none (task like.call) (λ pooling holds. like.locks (busy pooling) (pool_lock core.config) Write holds))
-        (same-nodes (ap (λ (l : List Batch). flat_map (λ (b : Batch). b.nodes) l) like.batches) like.loose (ap nodes_in like.rebuild))
-        (unseen-update none (ap (option_map update_on_nodes) like.rebuild))
-      where
-        task : IsLikeCall IsNothing step.view.call Last.call → task_on_pool Last.call.task ≡ task_on_pool step.view.call.task
-        task (same_call e) = ap (λ (c : Call). task_on_pool c.task) e
-        task (idle_calls before after loads stores) = ap task_on_pool (nothing-is Last.call.task after ∙ sym (nothing-is step.view.call.task before))
-
-        busy : IsPooling (task_on_pool Last.call.task) → ¬ IsNothing Last.call.task
-        busy pooling calm = subst (λ (t : Task). IsPooling (task_on_pool t)) (nothing-is Last.call.task calm) pooling
-
-pub NodesInOnePlace-take_read : (core : Core) (step : Step) (a : Acts core step) → MayRead step.view step.name step.first step.second → NodesInOnePlace a.laws.nodes (after_step take_read core step)
-NodesInOnePlace-take_read core step a asked =
-    locked take_read core step a (ap node_scope.names asked.names)
-    (after-like take_read core step (taken_if-like (learned core step) step.name asked.lock Read (found_by core step) step.first asked.names asked.free))
-
-pub NodesInOnePlace-take_write : (core : Core) (step : Step) (a : Acts core step) → MayWrite step.view step.name step.first step.second → NodesInOnePlace a.laws.nodes (after_step take_write core step)
-NodesInOnePlace-take_write core step a asked =
-    locked take_write core step a (ap node_scope.names asked.names)
-    (after-like take_write core step (taken_if-like (learned core step) step.name asked.lock Write (found_by core step) step.first asked.names asked.free))
-
-pub NodesInOnePlace-release : (core : Core) (step : Step) (a : Acts core step) → MayRelease step.view step.name step.first step.second → NodesInOnePlace a.laws.nodes (after_step release core step)
-NodesInOnePlace-release core step a asked =
-    locked release core step a (ap node_scope.names asked.names) (after-like release core step (released-like (learned core step) step.name asked.lock asked.names asked.done))

@@ -16,16 +16,16 @@ use Rattle.core_state.specs.declared.view.View.{View}
 use Rattle.core_state.specs.View.{IsPass}
 use Rattle.core_state.specs.Core.{Core, scene_of, IsViewAt}
 use Rattle.core_state.specs.Kind.{Kind, Step}
-use Rattle.core_state.specs.Encoding.{body_child, place, Sides, sides_of, Covers, bound_in}
+use Rattle.core_state.specs.Encoding.{body_child, place, Sides, sides_of, bound_in}
 use Rattle.core_state.specs.Parts.{call_by_task, call_on_places, update_on_places}
-use Rattle.core_state.specs.Nodes.{Nodes, Home, under, superseded, IsLive, Stands, IsInTree, Above}
+use Rattle.core_state.specs.Nodes.{Nodes, Home, IsLive, Stands, IsInTree, Above}
 use Rattle.core_state.specs.Scope.{Sight, sight, scene_in, bare_view, HasPass, EachPass}
 use Rattle.core_state.specs.TreesSound.{tree_scope}
 use Rattle.core_state.specs.Updates.{HasUpdate, IsStillMerged, IsSameBody, IsPlacing, IsDone}
 use Rattle.core_state.specs.LocationsHold.{LocationsHold, LocationsHoldIn, location_scope, IsLocation, IsAt, Encloses, box_in, Removes, IsRemoved, IsTakenOut, has_cleared_location, IsPlacedNow, IsWhere, in_slot, in_main, in_old, in_merged, IsSecondFor, IsSecond, IsPlannedAt, IsPublishedAt, GivesBox, IsWidened, IsStillWide, ClimbsFrom, IsOnItsWay, IsWidenedOnWay, IsUnheld}
 use Rattle.core_state.proofs.Beginning.{record_body}
 use Rattle.core_guard.proofs.Seats.{each-seat, has-step}
-use Rattle.core_guard.proofs.Leaving.{Acts, IsHandled, IsIdle, idle-unhandled, LeadsWithin, sound-leads, IsAsBefore, After, Last, Stays, IsApart, Leaves, home-forth, stands-later, wider, above-stands, above-forth, above-back, has_update, body-forth, body-back, none-back, record-back, stands-in_tree, held-once}
+use Rattle.core_guard.proofs.Leaving.{Acts, IsHandled, IsIdle, idle-unhandled, LeadsWithin, sound-leads, IsAsBefore, After, Last, Stays, IsApart, Leaves, home-forth, stands-later, wider, above-stands, above-forth, above-back, has_update, body-forth, body-back, none-back, record-back, stands-in_tree, held-once, live-stands, covers-more}
 
 -- ---- what the law says of one body, and of one pass
 
@@ -64,11 +64,6 @@ taken-out nodes s v w i same h = record {
       );
   live = h.live;
 }
-
-live-stands : (home : Home) → IsLive home → Stands home
-live-stands (under name) h = tt
-live-stands (superseded p name) h = tt
-live-stands _ h = absurd h
 
 abbrev pub EachPlaced : Nodes → Sight → Type 0
 EachPlaced nodes s = EachPass s (λ number v. PassIsPlaced nodes s v.call v.rebuild)
@@ -167,9 +162,6 @@ held-alone nodes core h i held seat number view at pass handled =
     let p = each-seat location_scope (λ k v. refl) core (λ k v. PassIsPlaced nodes s v.call v.rebuild) (pass-placed nodes s h) seat number view at pass in
     held-unhandled s (call_on_places view.call).task i p.unheld (λ removes. (p.removed i removes).out) held
     (task-seen (λ task. IsHandled task i) (λ task calm. idle-unhandled task i calm) view.call handled)
-
-pub covers-more : (a b c : Sides) → Covers a b → Covers b c → Covers a c
-covers-more a b c ab bc q low = let x = ab q low in let y = bc q low in (omega arith, omega arith)
 
 -- ---- the step
 

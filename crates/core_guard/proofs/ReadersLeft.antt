@@ -10,8 +10,6 @@ use Rattle.scene_model.specs.Step.{HasBody}
 use Rattle.word_map.specs.declared.name.Name.{Name}
 use Rattle.word_map.specs.declared.name.Name.TheVariants.{Reader, Child, Bound, Parent, LocA, LocB}
 use Rattle.core_state.specs.declared.item.Load.{Load}
-use Rattle.core_state.specs.declared.view.Role.{Role}
-use Rattle.core_state.specs.declared.view.Role.TheVariants.{Pass}
 use Rattle.core_state.specs.declared.view.Task.{Task}
 use Rattle.core_state.specs.declared.view.Task.TheVariants.{Moving, Removing}
 use Rattle.core_state.specs.declared.view.Call.{Call}
@@ -23,9 +21,8 @@ use Rattle.core_state.specs.declared.view.View.{View}
 use Rattle.core_state.specs.View.{IsPass}
 use Rattle.core_state.specs.Core.{Core, word_of, scene_of, IsViewAt}
 use Rattle.core_state.specs.Kind.{Kind, Step}
-use Rattle.core_state.specs.Formed.{AreApart as NumbersApart}
 use Rattle.core_state.specs.Encoding.{node_child, place, Sides, sides_of, bound_in}
-use Rattle.core_state.specs.Nodes.{Nodes, Home, made, under, superseded, IsLive, Stands, IsInTree, IsOfLayer, Above, here, Below, itself, lower}
+use Rattle.core_state.specs.Nodes.{Nodes, Home, made, IsLive, Stands, IsInTree, IsOfLayer, Above, here, Below, itself, lower}
 use Rattle.core_state.specs.Parts.{task_at_place, update_on_places, update_on_readers}
 use Rattle.core_state.specs.Scope.{Sight, sight, HasPass, EachPass}
 use Rattle.core_state.specs.Space.{HadAs, HadInLayer, IsTarget, IsComing, IsInHull, IsInLayer, IsInSpace}
@@ -35,24 +32,9 @@ use Rattle.core_state.specs.LocationsHold.{LocationsHold, IsLocation, IsPlannedA
 use Rattle.core_state.specs.Walking.{Query, Spot, resting, at_child, at_bound, Position, waiting, Follows, position_of}
 use Rattle.core_state.specs.ReadersCounted.{ReadersCounted, reader_scope, ReachesByChild, ReachesBySpot, the_node, the_node_of_bound, by_child, by_next_child, by_part, Reaches, by_stack, by_spot, layer_at_hand, waiting_at, AreApart, IsWalkedAt, WalkStays, ReadsInSpace, AvoidsSuperseded, HasSeenOff, ClimbsInTrees, IsPlannedBelow, IsSideOf, IsTight}
 use Rattle.core_state.proofs.Beginning.{body_record, record_body, cases_cons}
-use Rattle.core_state.proofs.Forming.{pass_role}
 use Rattle.core_guard.proofs.Seats.{each-seat, each-seats, has-seat, each-step, has-step, has-unstep}
-use Rattle.core_guard.proofs.Turning.{point-grown, length-grown, had_in_layer-grown}
-use Rattle.core_guard.proofs.Leaving.{Acts, if_some_map, if_some_both, some_and_map, IsHandled, IsIdle, LeadsWithin, sound-leads, stands-in_tree, After, Last, Stays, Leaves, Touches, above-forth, above-back, each_update, body-forth}
-
--- ---- passes
-
--- two seats of passes have two numbers
-number-apart : (number further rest : ℕ) → ¬ NumbersApart (Pass number further) (Pass number rest)
-number-apart number further rest (inl less) = absurd (omega arith)
-number-apart number further rest (inr less) = absurd (omega arith)
-
-pub other-number : (core : Core) (step : Step) → Acts core step → (seat number : ℕ) (view : View) → seat ≢ step.seat → IsViewAt core seat view → IsPass view number → number ≢ step.number
-other-number core step a seat number view apart at pass same =
-    let one = pass_role view.role step.number (pass ∙ ap Some same) in
-    let two = pass_role step.view.role step.number a.pass in
-    let parts = a.formed.apart seat step.seat view step.view at a.at apart in
-    number-apart step.number one.0 two.0 (subst (λ (r : Role). NumbersApart r (Pass step.number two.0)) one.1 (subst (λ (r : Role). NumbersApart view.role r) two.1 parts))
+use Rattle.core_guard.proofs.Growing.{point-grown, length-grown, had_in_layer-grown}
+use Rattle.core_guard.proofs.Leaving.{Acts, if_some_map, if_some_both, some_and_map, IsHandled, IsIdle, LeadsWithin, sound-leads, stands-in_tree, After, Last, Stays, Leaves, Touches, above-forth, above-back, each_update, body-forth, live-stands, other-number}
 
 -- ---- hulls and lists
 
@@ -82,11 +64,6 @@ pairs-again R Q xs more h i j d below inside =
 pub some-all : {X : Type 0} (o : Option X) (P : X → Type 0) → ((x : X) → P x) → IfSome o P
 some-all None P h = tt
 some-all (Some x) P h = h x
-
-live-stands : (home : Home) → IsLive home → Stands home
-live-stands (under name) h = tt
-live-stands (superseded p name) h = tt
-live-stands _ h = absurd h
 
 -- ---- the places that an update has planned stand
 

@@ -114,9 +114,6 @@ state-live at live = rw live refl
 pub state-dead : (at : Place) → IsNone at.body → state_word at ≡ at.creations % 256
 state-dead at dead = rw dead (omega arith)
 
-pub state-live_high : (at : Place) → IsSome at.body → 256 ≤ state_word at
-state-live_high at live = omega (arith, state-live at live)
-
 pub state-dead_low : (at : Place) → IsNone at.body → state_word at < 256
 state-dead_low at dead = omega (arith, state-dead at dead)
 
@@ -127,13 +124,6 @@ state-tells_live at high = go at.body refl
     go : (o : Option Record) → at.body ≡ o → IsSome at.body
     go (Some r) e = ap is_some e
     go None e = absurd (omega (arith, state-dead_low at (ap is_some e)))
-
-pub state-tells_dead : (at : Place) → state_word at < 256 → IsNone at.body
-state-tells_dead at low = go at.body refl
-  where
-    go : (o : Option Record) → at.body ≡ o → IsNone at.body
-    go (Some r) e = absurd (omega (arith, state-live_high at (ap is_some e)))
-    go None e = ap is_some e
 
 -- a creation stores the next sequence number, plus 256
 pub state-created : (at : Place) (layer : ℕ) (bounds : FixBox) (user : ℕ) → IsNone at.body → state_word (created_in at layer bounds user) ≡ (state_word at + 1) % 256 + 256

@@ -1,6 +1,6 @@
 -- What a law sees of passes, seat by seat, before a step and after it.
 use Rattle.std.proofs.Common.{◌≡◌, ◌≢◌, ◌⊎◌, ℕ, zero, suc, ◌<◌, List, [], ◌∷◌, ◌++◌, Option, Some, None, option_map, get_or, length, set, refl, ap, sym, ◌∙◌, subst, inl, inr, arith}
-use Rattle.std.specs.Prelude.{Contains, filter_map, flat_map}
+use Rattle.std.specs.Prelude.{Contains, filter_map, flat_map, fold}
 use Rattle.std.specs.List.{cons_option}
 use Rattle.std.proofs.lemmas.Bool.{cases_eq}
 use Rattle.std.proofs.lemmas.Option.{none-some, same_Some}
@@ -47,6 +47,20 @@ module _ {X Y : Type 0} (f : X → Option Y) where
       let first : f z ≡ Some a = ap f (some-injective z x at) ∙ old in
       rw (first, new, same) refl
   flat-set g (z ∷ xs) (suc i) x y a b at old new same = flat_more g (f z) (filter_map f (set xs i y)) (filter_map f xs) (flat-set g xs i x y a b at old new same)
+
+  fold_more : {Z : Type 0} (add : Z → Y → Z) (o : Option Y) (ys zs : List Y) → ((start : Z) → fold add start ys ≡ fold add start zs) → (start : Z) → fold add start (cons_option o ys) ≡ fold add start (cons_option o zs)
+  fold_more add None ys zs same start = same start
+  fold_more add (Some b) ys zs same start = same (add start b)
+
+  -- and so is what it adds up to
+  pub fold-set : {Z : Type 0} (add : Z → Y → Z) (xs : List X) (i : ℕ) (x y : X) (a b : Y) → get_elem? xs i ≡ some x → f x ≡ Some a → f y ≡ Some b → ((start : Z) → add start b ≡ add start a)
+      → (start : Z) → fold add start (filter_map f (set xs i y)) ≡ fold add start (filter_map f xs)
+  fold-set add [] i x y a b at old new same start = refl
+  fold-set {Z = Z} add (z ∷ xs) zero x y a b at old new same start =
+      let first : f z ≡ Some a = ap f (some-injective z x at) ∙ old in
+      rw (first, new) (ap (λ (s : Z). fold add s (filter_map f xs)) (same start))
+  fold-set add (z ∷ xs) (suc i) x y a b at old new same start =
+      fold_more add (f z) (filter_map f (set xs i y)) (filter_map f xs) (fold-set add xs i x y a b at old new same) start
 
 -- ---- seats
 
@@ -233,3 +247,10 @@ module _ (scope : Scope) (keeps : KeepsNumber scope) (kind : Kind) (core : Core)
       flat-set (part_of scope) f core.views step.seat step.view (view_after kind core step) seen_before seen_after at
       (ap (option_map (λ n. scope.part (bare_view n) step.view)) pass)
       (ap (option_map (λ n. scope.part (bare_view n) (view_after kind core step))) pass) same
+
+  pub fold-step : {Z : Type 0} (add : Z → View → Z) → ((start : Z) → add start seen_after ≡ add start seen_before) → (start : Z)
+      → fold add start (sight scope (after_step kind core step)).passes ≡ fold add start (sight scope core).passes
+  fold-step add same start =
+      fold-set (part_of scope) add core.views step.seat step.view (view_after kind core step) seen_before seen_after at
+      (ap (option_map (λ n. scope.part (bare_view n) step.view)) pass)
+      (ap (option_map (λ n. scope.part (bare_view n) (view_after kind core step))) pass) same start

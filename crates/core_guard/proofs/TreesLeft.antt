@@ -5,25 +5,19 @@ use Rattle.std.proofs.lemmas.Option.{none-some, same_Some}
 use Rattle.word_map.specs.declared.name.Name.{Name}
 use Rattle.word_map.specs.declared.name.Name.TheVariants.{Main, Slot, Child, Bound, Parent}
 use Rattle.core_state.specs.declared.item.Store.{Store}
-use Rattle.core_state.specs.declared.view.Role.{Role}
-use Rattle.core_state.specs.declared.view.Role.TheVariants.{Pass}
 use Rattle.core_state.specs.declared.view.Rebuild.{Rebuild}
 use Rattle.core_state.specs.declared.view.Waiting.{Waiting}
-use Rattle.core_state.specs.declared.view.View.{View}
-use Rattle.core_state.specs.View.{IsPass}
-use Rattle.core_state.specs.Core.{Core, word_of, IsViewAt}
+use Rattle.core_state.specs.Core.{Core, word_of}
 use Rattle.core_state.specs.Kind.{Kind, Step}
-use Rattle.core_state.specs.Formed.{AreApart}
 use Rattle.core_state.specs.Encoding.{NamesRoot, IsBox, Sides, bound_in}
 use Rattle.core_state.specs.Nodes.{Nodes, Home, owned, made, under, superseded, returning, Stands, IsInTree, IsOwnedBy, node_in}
 use Rattle.core_state.specs.Parts.{update_on_trees}
 use Rattle.core_state.specs.Scope.{Sight, sight, word_in, HasPass}
 use Rattle.core_state.specs.Updates.{EachUpdate, HasUpdate}
 use Rattle.core_state.specs.TreesSound.{TreesSound, tree_scope, IsRootOf, IsSupersededRoot, IsChild, nothing, a_body, a_node, IsPlaced, as_root, at_place, IsSoundNode, IsAsStored, IsLeft, as_top, below, IsLeftNode, IsTop, AreTops, RootsMade, RootsSuperseded}
-use Rattle.core_state.proofs.Forming.{pass_role}
 use Rattle.core_state.proofs.Steps.{word-step-other}
 use Rattle.core_guard.proofs.Seats.{each-seat, each-step}
-use Rattle.core_guard.proofs.Leaving.{Acts, After, Last, Leaves, Touches, if_some_with, stands-in_tree, home-forth, home-back, has_update, each_update}
+use Rattle.core_guard.proofs.Leaving.{Acts, After, Last, Leaves, Touches, if_some_with, stands-in_tree, home-forth, home-back, has_update, each_update, other-number}
 
 -- ---- what passes stored in their own nodes
 
@@ -35,18 +29,6 @@ stored-same v w (made number l) (Child n k) value same h = elim h [ inl e ↦ in
 stored-same v w (made number l) (Bound n k q) value same h = subst (λ (x : ℕ). (q < 3 → x ≤ value) × (3 ≤ q → value ≤ x)) (sym same) h
 stored-same v w (made number l) _ value same h = absurd h
 stored-same v w _ name value same h = absurd h
-
--- two passes have two numbers
-apart-numbers : (number further rest : ℕ) → ¬ AreApart (Pass number further) (Pass number rest)
-apart-numbers number further rest (inl less) = absurd (omega arith)
-apart-numbers number further rest (inr less) = absurd (omega arith)
-
-pub other-number : (core : Core) (step : Step) → Acts core step → (seat number : ℕ) (view : View) → seat ≢ step.seat → IsViewAt core seat view → IsPass view number → number ≢ step.number
-other-number core step a seat number view apart at pass same =
-    let one = pass_role view.role number pass in
-    let two = pass_role step.view.role number (a.pass ∙ ap Some (sym same)) in
-    let parts = a.formed.apart seat step.seat view step.view at a.at apart in
-    apart-numbers number one.0 two.0 (subst (λ (r : Role). AreApart r (Pass number two.0)) one.1 (subst (λ (r : Role). AreApart view.role r) two.1 parts))
 
 -- the word of a node is one that the law reads
 pub node-word : (core : Core) (name : Name) (n : ℕ) → node_in name ≡ Some n → word_in tree_scope core name ≡ word_of core name

@@ -2,7 +2,6 @@
 use Rattle.std.proofs.Common.{◌≡◌, ◌≢◌, ◌⊎◌, ◌↔◌, ℕ, ◌+◌, ◌%◌, ◌^◌, List, [], ◌∷◌, ◌++◌, true, false, None, refl, ap, sym, ◌∙◌, subst, inl, inr, arith}
 use Rattle.std.specs.Prelude.{Option, IsSomeAnd}
 use Rattle.std.proofs.lemmas.Bool.{cases_eq, cases_lt, false≢true}
-use Rattle.std.proofs.lemmas.Option.{same_Some}
 use Rattle.scene_model.specs.Scene.{Record}
 use Rattle.word_map.specs.declared.config.Config.{Config}
 use Rattle.word_map.specs.declared.name.Name.{Name}
@@ -16,13 +15,13 @@ use Rattle.core_state.specs.Nodes.{Nodes}
 use Rattle.core_state.specs.Scope.{Sight, sight, HasPass}
 use Rattle.core_state.specs.Space.{IsTarget}
 use Rattle.core_state.specs.Walking.{Query, Spot, resting, start}
-use Rattle.core_state.specs.Walks.{MayBegin, begin_walk, MayEnd, end_walk}
+use Rattle.core_state.specs.Walks.{begin_walk, end_walk}
 use Rattle.core_state.specs.ReadersCounted.{ReadersCounted, reader_scope, ReachesBySpot, the_node, the_node_of_bound, by_child, by_next_child, by_part, Reaches, by_stack, by_spot, IsWalkedAt, WalkStays, ReadsInSpace}
 use Rattle.core_state.proofs.Opening.{none_in}
 use Rattle.core_state.proofs.Steps.{word-step, word-step-other, view-step}
 use Rattle.core_guard.proofs.Seats.{seat-has, has-step, has-unstep}
-use Rattle.core_guard.proofs.Leaving.{Acts, After, Last, Leaves, step-goes_on, scene-plain}
-use Rattle.core_guard.proofs.ReadersLeft.{other-number, some-all, Counts, GoesOn, KeepsTargets, layers-kept, gives-kept, climbs-own, ReadersCounted-goes_on}
+use Rattle.core_guard.proofs.Leaving.{Acts, After, Last, Leaves, step-goes_on, scene-plain, other-number}
+use Rattle.core_guard.proofs.ReadersLeft.{some-all, Counts, GoesOn, KeepsTargets, layers-kept, gives-kept, climbs-own, ReadersCounted-goes_on}
 
 -- ---- a step that stores no word but those of readers, and makes no entry
 
@@ -240,14 +239,3 @@ module _ (core : Core) (step : Step) (a : Acts core step) (names : step.name ≡
         in_space = λ on. absurd (false≢true on);
         avoids = λ number view among pass. some-all view.rebuild _ (λ r seen on. absurd (false≢true on));
       })
-
--- as the kinds ask it
-pub ReadersCounted-begin : (core : Core) (step : Step) (a : Acts core step) → MayBegin step.view step.name step.first step.second → ReadersCounted a.laws.nodes (After begin_walk core step)
-ReadersCounted-begin core step a may =
-    let same : may.number ≡ step.number = same_Some may.number step.number (sym may.pass ∙ a.pass) in
-    ReadersCounted-begins core step a (may.names ∙ ap Reader same) may.one may.rests
-
-pub ReadersCounted-end : (core : Core) (step : Step) (a : Acts core step) → MayEnd step.view step.name step.first step.second → ReadersCounted a.laws.nodes (After end_walk core step)
-ReadersCounted-end core step a may =
-    let same : may.number ≡ step.number = same_Some may.number step.number (sym may.pass ∙ a.pass) in
-    ReadersCounted-ends core step a (may.names ∙ ap Reader same) may.one may.walks

@@ -16,7 +16,7 @@ use Rattle.core_state.specs.View.{IsPass}
 use Rattle.core_state.specs.Core.{Core, IsViewAt}
 use Rattle.core_state.specs.Kind.{Kind, Step}
 use Rattle.core_state.specs.Encoding.{node_child, NamesRoot, IsBox, Sides, Covers, bound_in}
-use Rattle.core_state.specs.Nodes.{Nodes, Home, under, superseded, IsLive, Stands, itself}
+use Rattle.core_state.specs.Nodes.{Nodes, Stands, itself}
 use Rattle.core_state.specs.Scope.{Sight, sight, word_in}
 use Rattle.core_state.specs.Space.{HadSince}
 use Rattle.core_state.specs.TreesSound.{tree_scope}
@@ -25,14 +25,11 @@ use Rattle.core_state.specs.WalksLead.{WalksLead, WalkLeads, walk_scope, since_b
 use Rattle.core_state.specs.ReadersCounted.{reader_scope, Reaches, ReachesBySpot, the_node, the_node_of_bound, by_spot, WalkStays}
 use Rattle.core_state.specs.ReadersCounted as readers
 use Rattle.core_guard.proofs.Seats.{each-seat, each-step}
-use Rattle.core_guard.proofs.Turning.{grown, point-grown, length-grown, had-grown}
-use Rattle.core_guard.proofs.Leaving.{Acts, After, Last, Leaves, Touches, LeadsWithin, sound-leads, stands-in_tree, wider}
+use Rattle.core_guard.proofs.Growing.{grown, point-grown, length-grown, had-grown}
+use Rattle.core_guard.proofs.Leaving.{Acts, After, Last, Leaves, Touches, LeadsWithin, sound-leads, stands-in_tree, wider, live-stands, covers-more}
 use Rattle.core_guard.proofs.TreesLeft.{KeepsBoxes, boxes-touched}
 
 -- ---- bounds that are read in part
-
-covers-more : (a b c : Sides) → Covers a b → Covers b c → Covers a c
-covers-more a b c ab bc q low = let x = ab q low in let y = bc q low in (omega arith, omega arith)
 
 -- sides that were read, and then those that stand
 module _ (read : List ℕ) (a b : Sides) (wide : Covers a b) where
@@ -86,11 +83,6 @@ due-back : (s : Sight) (word : Name → ℕ) (touches : FixBox → Type 0) (mask
 due-back s word touches mask index generation walk more due n from to =
     let longer = length-grown s.history more in
     subst (λ (scene : Scene). Fits touches mask scene index generation) (point-grown s.config.bodies s.history more n to) (due n from (omega arith))
-
-pub live-stands : (home : Home) → IsLive home → Stands home
-live-stands (under name) h = tt
-live-stands (superseded p name) h = tt
-live-stands _ h = absurd h
 
 module _ (kind : Kind) (core : Core) (step : Step) (a : Acts core step) (later : Nodes) (New : ℕ → Type 0) (m : Leaves kind core step a.laws.nodes later New) where
   abbrev nodes : Nodes

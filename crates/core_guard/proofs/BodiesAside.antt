@@ -1,14 +1,13 @@
--- What a step on slots or on the pool owes for the bodies to agree: what its batches hold, and what phase words say.
+-- What a step on locks, slots or the pool owes for the bodies to agree: what its batches hold, and what phase words say.
 use Rattle.std.proofs.Common.{◌≡◌, ℕ, ◌+◌, ◌-◌, ◌<◌, List, Some, None, refl, ap, sym, ◌∙◌, subst}
 use Rattle.std.specs.Prelude.{⊤}
 use Rattle.scene_model.specs.Scene.{Record, record_at}
 use Rattle.word_map.specs.declared.name.Name.{Name}
-use Rattle.word_map.specs.declared.name.Name.TheVariants.{SlotHead, SlotNext, State, Phase, Layer, User, BoxWord, PoolHead, PoolNext, PoolFree, Slot}
-use Rattle.word_map.specs.Names.{index_lock, stripe_of}
+use Rattle.word_map.specs.declared.name.Name.TheVariants.{Lock, SlotHead, SlotNext, State, Phase, Layer, User, BoxWord, PoolHead, PoolNext, PoolFree, Slot}
+use Rattle.word_map.specs.Names.{index_lock}
 use Rattle.core_state.specs.declared.view.Mode.TheVariants.{Write}
-use Rattle.core_state.specs.declared.view.LockStep.{LockStep}
 use Rattle.core_state.specs.declared.view.Task.{Task}
-use Rattle.core_state.specs.declared.view.Task.TheVariants.{Nothing, Creating, Destroying, Pooling, Moving, Removing, Placing}
+use Rattle.core_state.specs.declared.view.Task.TheVariants.{Nothing, Pooling}
 use Rattle.core_state.specs.declared.view.Call.{Call}
 use Rattle.core_state.specs.declared.view.View.{View}
 use Rattle.core_state.specs.Log.{history}
@@ -20,23 +19,22 @@ use Rattle.core_state.specs.BodiesAgree.{BodiesAgree, body_scope, ListsFree, Cha
 use Rattle.core_state.specs.Pool.{IsPoolTask}
 use Rattle.core_state.specs.Scope.{Sight, sight, scene_in}
 use Rattle.core_state.proofs.Frames.{step-history}
-use Rattle.core_guard.proofs.Chains.{chain-kept}
 use Rattle.core_guard.proofs.Leaving.{Acts}
-use Rattle.core_guard.proofs.Seats.{seen_of, each-step, each-unstep}
-use Rattle.core_guard.proofs.BodiesStep.{WordsPart, ListPart, StripePart, BatchPart, together, unstored, new_sight, bodies-agree, whole-back, stripe-part}
+use Rattle.core_guard.proofs.BodiesStep.{WordsPart, BatchPart, together, unstored, new_sight, bodies-agree, whole-back, list-moved, list-left, stripe-moved, stripe-part}
 
--- a word of a slot, or of the pool
+-- a word of a lock, of a slot, or of the pool
 abbrev pub IsAsideWord : Name → Type 0
+IsAsideWord (Lock lock) = ⊤
 IsAsideWord (Slot l t) = ⊤
 IsAsideWord PoolHead = ⊤
 IsAsideWord (PoolNext n) = ⊤
 IsAsideWord PoolFree = ⊤
 IsAsideWord _ = ⊥
 
--- a call that is as before, or one that changes nothing but the pool, before and after
-pub data IsPoolCall (before after : Call) : Type 0 where
-  same_calls : after ≡ before → IsPoolCall before after
-  pool_calls : IsPoolTask before.task → IsPoolTask after.task → IsPoolCall before after
+-- a call that is as before, and the locks with it, or one that changes nothing but the pool, before and after
+pub data IsPoolCall (v w : View) : Type 0 where
+  same_calls : w.call ≡ v.call → ((lock : ℕ) → Holds v lock Write → Holds w lock Write) → IsPoolCall v w
+  pool_calls : IsPoolTask v.call.task → IsPoolTask w.call.task → IsPoolCall v w
 
 pool_moves : (t : Task) (i : ℕ) → IsPoolTask t → ¬ MovesBody t i
 pool_moves Nothing i h moves = moves
@@ -58,12 +56,11 @@ pool_stripe s view Nothing h = tt
 pool_stripe s view (Pooling taken given) h = tt
 pool_stripe s view _ h = absurd h
 
--- what such a step is: a word of a slot or of the pool is stored, no entry is made, and locks are as before
+-- what such a step is: it stores such a word and makes no entry
 pub record IsAside (kind : Kind) (core : Core) (step : Step) : Type 0 where
   pub word : IsAsideWord step.name
   pub entry : (value : ℕ) → kind.entry step.view step.name value ≡ None
-  pub locks : (view_after kind core step).locks ≡ step.view.locks
-  pub call : IsPoolCall step.view.call (view_after kind core step).call
+  pub call : IsPoolCall step.view (view_after kind core step)
 
 module _ (kind : Kind) (core : Core) (step : Step) (a : Acts core step) (leaves : IsAside kind core step) where
   abbrev Last : View
@@ -81,7 +78,7 @@ module _ (kind : Kind) (core : Core) (step : Step) (a : Acts core step) (leaves 
   between : (i : ℕ) → IsBetweenBoxes step.view i → IsBetweenBoxes Last i
   between i b =
       elim leaves.call [
-        | same_calls e ↦ subst (λ (c : Call). IsBetweenBoxes (record Last { call = c }) i) (sym e) b
+        | same_calls e locks ↦ subst (λ (c : Call). IsBetweenBoxes (record Last { call = c }) i) (sym e) b
         | pool_calls before after ↦ absurd (pool_moves step.view.call.task i before b.0)
       ]
 
@@ -109,63 +106,34 @@ module _ (kind : Kind) (core : Core) (step : Step) (a : Acts core step) (leaves 
     dead = λ i none. same_word (Phase i) (λ none. none) ∙ a.laws.bodies.dead i none;
   }
 
-  -- ---- the list of free indexes
+  -- ---- the list of free indexes, and stripes
 
-  lists-moved : (v w : View) (task : Task) → (Holds v (index_lock core.config) Write → Holds w (index_lock core.config) Write) → ListsFree Old v task a.laws.bodies.chain → ListsFree New w task a.laws.bodies.chain
-  lists-moved v w (Creating index) locks old = (locks old.0, old.1)
-  lists-moved v w (Destroying index) locks old = (locks old.0, old.1)
-  lists-moved v w _ locks old = tt
-
-  -- the stepping pass holds what it held
-  holds-after : (lock : ℕ) → Holds step.view lock Write → Holds Last lock Write
-  holds-after lock holds = subst (λ (l : List LockStep). Holds (record step.view { locks = l }) lock Write) (sym leaves.locks) holds
-
-  own-list : ListsFree Old (seen_of body_scope step.number step.view) step.view.call.task a.laws.bodies.chain → ListsFree New (seen_of body_scope step.number Last) Last.call.task a.laws.bodies.chain
+  own-list : ListsFree Old step.view step.view.call.task a.laws.bodies.chain → ListsFree New Last Last.call.task a.laws.bodies.chain
   own-list old =
       elim leaves.call [
-        | same_calls e ↦
-            lists-moved (seen_of body_scope step.number step.view) (seen_of body_scope step.number Last) Last.call.task (holds-after (index_lock core.config))
-            (subst (λ (c : Call). ListsFree Old (seen_of body_scope step.number step.view) c.task a.laws.bodies.chain) (sym e) old)
-        | pool_calls before after ↦ pool_free New (seen_of body_scope step.number Last) Last.call.task a.laws.bodies.chain after
+        | same_calls e locks ↦
+            list-moved kind core step a.at a.pass (history core.log) step.view Last Last.call.task a.laws.bodies.chain (locks (index_lock core.config)) refl
+            (subst (λ (c : Call). ListsFree Old step.view c.task a.laws.bodies.chain) (sym e) old)
+        | pool_calls before after ↦ pool_free New Last Last.call.task a.laws.bodies.chain after
       ]
 
   own-quiet : ¬ ChangesList Last.call.task → ¬ ChangesList step.view.call.task
   own-quiet none =
       elim leaves.call [
-        | same_calls e ↦ subst (λ (c : Call). ¬ ChangesList c.task) e none
+        | same_calls e locks ↦ subst (λ (c : Call). ¬ ChangesList c.task) e none
         | pool_calls before after ↦ pool_lists step.view.call.task before
       ]
 
-  list-part : ListPart New
-  list-part = record {
-    chain = a.laws.bodies.chain;
-    linked =
-        rw (same_word SlotHead (λ none. none))
-        (chain-kept (λ i. Old.word (SlotNext i)) (λ i. New.word (SlotNext i)) (Old.word SlotHead) a.laws.bodies.chain (λ j c. same_word (SlotNext j) (λ none. none)) a.laws.bodies.linked);
-    listed =
-        each-step body_scope (λ k v. refl) kind core step a.at a.pass (λ number view. ListsFree Old view view.call.task a.laws.bodies.chain) (λ number view. ListsFree New view view.call.task a.laws.bodies.chain) a.laws.bodies.listed
-        (λ seat number view apart found own old. lists-moved (seen_of body_scope number view) (seen_of body_scope number view) view.call.task (λ holds. holds) old) own-list;
-    settled = λ quiet.
-        a.laws.bodies.settled
-        (each-unstep body_scope (λ k v. refl) kind core step a.at a.pass (λ number view. ¬ ChangesList view.call.task) (λ number view. ¬ ChangesList view.call.task) quiet
-        (λ seat number view apart found own none. none) own-quiet);
-  }
-
-  stripe-same : (task : Task) → IsUnderStripe Old step.view task → IsUnderStripe New Last task
-  stripe-same (Moving index target) old = holds-after (stripe_of core.config index) old
-  stripe-same (Removing index) old = holds-after (stripe_of core.config index) old
-  stripe-same (Placing index) old = holds-after (stripe_of core.config index) old
-  stripe-same _ old = tt
-
-  stripes : StripePart New
-  stripes =
-      stripe-part kind core step a.at a.pass (history core.log) a.laws.bodies
-      (λ old.
+  own-stripe : IsUnderStripe Old step.view step.view.call.task → IsUnderStripe New Last Last.call.task
+  own-stripe old =
       elim leaves.call [
-        | same_calls e ↦ stripe-same Last.call.task (subst (λ (c : Call). IsUnderStripe Old step.view c.task) (sym e) old)
+        | same_calls e locks ↦ stripe-moved kind core step a.at a.pass (history core.log) step.view Last Last.call.task locks (subst (λ (c : Call). IsUnderStripe Old step.view c.task) (sym e) old)
         | pool_calls before after ↦ pool_stripe New Last Last.call.task after
-      ])
+      ]
 
   pub BodiesAgree-aside : PhasesKept → BatchPart New → BodiesAgree (after_step kind core step)
   BodiesAgree-aside phases batches =
-      bodies-agree kind core step a.at a.pass (history core.log) (step-history kind core step leaves.entry) (together New (words-part phases) list-part stripes batches)
+      bodies-agree kind core step a.at a.pass (history core.log) (step-history kind core step leaves.entry)
+      (together New (words-part phases)
+      (list-left kind core step a.at a.pass (history core.log) a.laws.bodies own-list own-quiet (same_word SlotHead (λ none. none)) (λ i. same_word (SlotNext i) (λ none. none)) refl)
+      (stripe-part kind core step a.at a.pass (history core.log) a.laws.bodies own-stripe) batches)

@@ -27,7 +27,7 @@ use Rattle.core_state.specs.Pool.{IsPoolTask, HasPool, MayStorePoolLink, store_p
 use Rattle.core_state.proofs.Beginning.{contains_first}
 use Rattle.core_guard.proofs.Seats.{each-seat}
 use Rattle.core_batch.proofs.Lists.{pairs-left, pairs-right}
-use Rattle.core_batch.proofs.Owning.{nodes-seen}
+use Rattle.core_guard.proofs.NodesLeft.{seen-nodes}
 use Rattle.pass_table.specs.Stepping.{step_by}
 use Rattle.pass_table.specs.Turning.{AtMostOneStep, MadeBy}
 use Rattle.pass_table.proofs.Knowing.{step-alone}
@@ -215,7 +215,7 @@ module _ (start : View) (before : List Batch) (batch : Batch) (after : List Batc
       front_once =
           let s = gave.step.1 in
           let all : IsOnce (nodes_of view) =
-          subst IsOnce (nodes-seen s.number view) (each-seat node_scope (λ k v. refl) s.before (λ k v. IsOnce (nodes_of v)) s.stands.laws.places.owned_once s.seat s.number view s.allowed.at s.allowed.pass)
+          subst IsOnce (seen-nodes s.number view) (each-seat node_scope (λ k v. refl) s.before (λ k v. IsOnce (nodes_of v)) s.stands.laws.places.owned_once s.seat s.number view s.allowed.at s.allowed.pass)
           in
           subst (λ (l : List ℕ). AllPairs (λ a b. a ≢ b) l) put_loose
           (pairs-left (λ a b. a ≢ b) view.loose (nodes_in view.rebuild) (pairs-right (λ a b. a ≢ b) (flat_map (λ (b : Batch). b.nodes) view.batches) (view.loose ++ nodes_in view.rebuild) all))

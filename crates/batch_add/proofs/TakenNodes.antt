@@ -17,7 +17,8 @@ use Rattle.core_state.specs.NodesInOnePlace.{NodesInOnePlace, node_scope}
 use Rattle.core_state.specs.Batches.{change_newest, batch_nodes_of}
 use Rattle.core_guard.proofs.Seats.{each-seat}
 use Rattle.core_batch.proofs.Lists.{pairs-left, pairs-right, pairs-across}
-use Rattle.core_batch.proofs.Owning.{nodes-seen, batch-below}
+use Rattle.core_batch.proofs.Owning.{batch-below}
+use Rattle.core_guard.proofs.NodesLeft.{seen-nodes}
 use Rattle.batch_add.specs.Parts.{IsNewest, with_nodes}
 use Rattle.batch_add.specs.TakingNodes.{with_more}
 
@@ -84,7 +85,7 @@ module _ (core : Core) (homes : Nodes) (places : NodesInOnePlace homes core) (se
   -- all nodes that the pass has are different
   once : IsOnce ((had ++ nodes) ++ (start.loose ++ nodes_in view.rebuild))
   once =
-      subst IsOnce (λ i. flat i ++ (loose i ++ nodes_in view.rebuild)) (subst IsOnce (nodes-seen number view) (each-seat node_scope (λ k v. refl) core (λ k v. IsOnce (nodes_of v)) places.owned_once seat number view at pass))
+      subst IsOnce (λ i. flat i ++ (loose i ++ nodes_in view.rebuild)) (subst IsOnce (seen-nodes number view) (each-seat node_scope (λ k v. refl) core (λ k v. IsOnce (nodes_of v)) places.owned_once seat number view at pass))
 
   once_batches : IsOnce (had ++ nodes)
   once_batches = pairs-left (λ a b. a ≢ b) (had ++ nodes) (start.loose ++ nodes_in view.rebuild) once

@@ -1,5 +1,5 @@
 -- The steps on batches and on the pool store no word that another pass has for itself.
-use Rattle.std.proofs.Common.{◌≡◌, ◌≢◌, ◌⊎◌, ℕ, suc, ◌<◌, List, [], ◌++◌, Bool, true, false, Option, Some, None, option_map, refl, ap, sym, ◌∙◌, subst, inl, inr, arith}
+use Rattle.std.proofs.Common.{◌≡◌, ◌≢◌, ◌⊎◌, ℕ, suc, ◌<◌, [], Bool, true, false, Option, Some, None, option_map, refl, ap, sym, ◌∙◌, subst, inl, inr, arith}
 use Rattle.std.specs.Prelude.{Contains, IfSome, IsSomeAnd, if◌then◌else◌, map, flat_map}
 use Rattle.std.proofs.lemmas.Bool.{eqb-true}
 use Rattle.std.proofs.lemmas.Option.{none-some, same_Some}
@@ -88,8 +88,7 @@ GuardsHold-mark =
     (λ core step a asked. keeps mark core step (Phase asked.index) asked.names
     (λ stored seat number view apart found own.
     let stripe = subst (λ (c : Config). Holds step.view (stripe_of c asked.index) Write) (sound mark core step a.at a.pass a.formed).config asked.stripe in
-    let out = known-now mark core step a.at a.pass (Phase asked.index) a.formed a.guards (by_lock (stripe_of core.config asked.index) Write stripe refl) ∙ asked.out in
-    (
+    let out = known-now mark core step a.at a.pass (Phase asked.index) a.formed a.guards (by_lock (stripe_of core.config asked.index) Write stripe refl) ∙ asked.out in (
       λ holder. elim holder [
         | inl l ↦ unlocked core step a (λ c. stripe_of c asked.index) asked.stripe seat number view apart found own l
         | inr t ↦ unmarked core step a asked.index out seat number view apart found own t

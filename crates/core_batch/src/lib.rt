@@ -4,8 +4,8 @@
 //! slots that are reserved and let go, bodies that are marked, placed and taken back, nodes that are taken off the pool,
 //! stored, and given back, and the attachment of a whole tree.
 //!
-//! It stands on the core's definitions, and on what is proved of views that are like one another and of changes of the
-//! scene for the steps on locks and bodies. The table of typed steps stands on it.
+//! It stands on the core's definitions, and on the laws that `core_guard` has of steps in general. The table of typed
+//! steps stands on it.
 #![tactic(auto)]
 
 pub mod laws;

@@ -1,13 +1,15 @@
 //! Locks keep the invariants.
 //!
-//! The crate has the proof that each of the first eight kinds of step leads from a core that meets all invariants to
-//! one that does: opening a pass, splitting off and joining a visitor, a look, and the steps on lock words. Most of it
-//! is one lemma for each invariant: that it holds on where the views of passes are like what they were, which is to say
-//! that they differ in locks, in a call that was not under way, and by a pass that has done nothing.
+//! The crate has the proof that each of the first kinds of step leads from a core that meets all invariants to one that
+//! does: opening a pass, splitting off and joining a visitor, a look, the steps on lock words, and the steps on bodies
+//! and on the list of free indexes.
 //!
-//! It stands on the core's definitions. The table of typed steps stands on it: its rule is the invariants, and for these
-//! kinds of step it is kept by what is proved here. The lists of free indexes and of free nodes come to this crate with
-//! their kinds of step.
+//! Most of it serves every kind. For each invariant there is one law of a step: what has to be said of the stored word,
+//! of the entry and of the view that the step leaves, so that the invariant holds on. A kind of step shows just that,
+//! and nothing of the callers beside it. docs/core.md tells how a further kind is proved.
+//!
+//! It stands on the core's definitions. The crates for batches, queries and moves stand on it, and above them the table
+//! of typed steps.
 #![tactic(auto)]
 
 pub mod laws;

@@ -147,8 +147,7 @@ module _ (index : ℕ) (core : Core) (step : Step) (a : Acts core step) (asked :
   new-on_way : (m value : ℕ) → new_load ≡ record { name = Parent m; value = value } → (Is.word (Parent m) ≡ value) × OnWay m
   new-on_way m value e =
       let node : asked.node ≡ m = ap node_of_parent (sym asked.names ∙ ap (λ (l : Load). l.name) e) in
-      let read : word_of core step.name ≡ value = ap (λ (l : Load). l.value) e in
-      (
+      let read : word_of core step.name ≡ value = ap (λ (l : Load). l.value) e in (
         same_word (Parent m) ∙ (ap (λ (name : Name). word_of core name) (sym (ap (λ (l : Load). l.name) e)) ∙ read),
         subst OnWay node (come-on_way asked.node asked.child asked.come),
       )

@@ -16,7 +16,7 @@ use Rattle.core_state.specs.declared.view.Marked.{Marked}
 use Rattle.core_state.specs.declared.view.View.{View}
 use Rattle.core_state.specs.Log.{opening_link}
 use Rattle.core_state.specs.Core.{opening}
-use Rattle.core_state.specs.Encoding.{place, NamesRoot}
+use Rattle.core_state.specs.Encoding.{NamesRoot}
 use Rattle.core_state.specs.Nodes.{Home, Nodes, free, spare, IsOwnedBy, Stands, IsInTree, IsLive, IsPublished}
 use Rattle.core_state.specs.Scope.{Sight, sight, word_in, bare_view, HasPass, EachPass, IsOnce}
 use Rattle.core_state.specs.Bodies.{IsChain, free_indexes, AreOtherSlots}

@@ -2,7 +2,7 @@
 -- counts as none, and any other field is as in an update that has done nothing.
 use Rattle.std.specs.Prelude.{[], false, None}
 use Rattle.core_state.specs.declared.view.Task.{Task}
-use Rattle.core_state.specs.declared.view.Task.TheVariants.{Nothing, Creating, Destroying, Pooling, Moving, Removing, Placing}
+use Rattle.core_state.specs.declared.view.Task.TheVariants.{Nothing, Pooling, Moving, Removing, Placing}
 use Rattle.core_state.specs.declared.view.Call.{Call}
 use Rattle.core_state.specs.declared.view.Rebuild.{Rebuild}
 use Rattle.core_state.specs.View.{no_call}

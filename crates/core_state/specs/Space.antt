@@ -18,7 +18,7 @@ HadSince s from index box =
 abbrev pub HadAs : Sight → ℕ → Noted → Sides → Type 0
 HadAs s from noted box =
     (n : ℕ) × (from ≤ n) × (n ≤ length s.history) × HasBody (point s.config.bodies s.history n) noted.index
-        (λ r. (r.generation ≡ noted.generation) × (r.layer ≡ noted.layer) × (box ≡ sides_of (words_of r.bounds)))
+    (λ r. (r.generation ≡ noted.generation) × (r.layer ≡ noted.layer) × (box ≡ sides_of (words_of r.bounds)))
 
 -- some body of a layer had the box at some point
 abbrev pub HadInLayer : Sight → ℕ → Sides → Type 0

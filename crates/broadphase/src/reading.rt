@@ -26,10 +26,13 @@ pub enum ParseEnd {
 /// The script that the bytes of a source spell. It reads the source to its end.
 ///
 /// `BadScript` comes exactly where the bytes are no script. `TooLong` comes exactly where there are more than
-/// 8,388,608 of them, and `ReadFault` only where the source counted a fault.
+/// 8,388,608 of them, and `ReadFault` only where a read failed, which is then the last one. No status reads more than
+/// one byte past the limit.
+#[tactic(auto, using(crate::proofs::ReadingLemmas::all_at_most))]
 pub fn run_parse<S: Source>(alloc: Global, source: &mut S, trace: bool) -> Result<Script, ParseEnd>
     ensures ok { IfOk result (ScriptRead (S.left source.old) (S.left source.new)) }
     ensures err { IfErr result (EndsRead (S.left source.old) (S.left source.new) (S.faults source.old) (S.faults source.new)) }
+    ensures none { IfOk result (λ _. S.faults source.new ≡ S.faults source.old) }
     ensures counted { S.faults source.old ≤ S.faults source.new }
 {
     let bytes = match read_all(alloc, source, MAX_BYTES) {

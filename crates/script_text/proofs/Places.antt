@@ -213,12 +213,12 @@ index_more old new key name place index absent is at_end e updates =
     let names = names_with old new key index missing inserted in
     let ordered = more old new key index missing inserted in
     let long : length new.entries ≡ suc (length old.entries) =
-        sym (length_by_place new.entries) ∙ (ap length ordered ∙ omega (arith, length-append (by_place old.entries) ((key, length old.entries) ∷ []), length_by_place old.entries)) in
+    sym (length_by_place new.entries) ∙ (ap length ordered ∙ omega (arith, length-append (by_place old.entries) ((key, length old.entries) ∷ []), length_by_place old.entries)) in
     let known : length (names_of old) ≡ length old.entries = length-map (by_place old.entries) (λ e. e.0.items) ∙ length_by_place old.entries in
     let old_below : are_below (suc (length old.entries)) (by_place old.entries) ≡ true = all_by_place _ old.entries ∙ below_next (length old.entries) old.entries index.below in
     let last_below : ltb (length old.entries) (suc (length old.entries)) ≡ true = grind (arith, nat_tests) in
     let all_below : are_below (suc (length old.entries)) (by_place old.entries ++ (key, length old.entries) ∷ []) ≡ true =
-        list_all-append (λ f. ltb f.1 (suc (length old.entries))) (by_place old.entries) ((key, length old.entries) ∷ []) ∙ rw (old_below, last_below) refl in
+    list_all-append (λ f. ltb f.1 (suc (length old.entries))) (by_place old.entries) ((key, length old.entries) ∷ []) ∙ rw (old_below, last_below) refl in
     record {
       at = λ word. noted old new key (length old.entries) (rw at_end at updates) word ∙ sym (ap (λ (ns : List (List ℕ)). place_of ns word) names ∙ at_each old key index missing known word);
       below = rw long (sym (all_by_place _ new.entries) ∙ (ap (are_below (suc (length old.entries))) ordered ∙ all_below));

@@ -5,21 +5,26 @@ ghost use Rattle.broadphase.specs.Reading.{ScriptRead, EndsRead};
 use crate::streams::{ReadEnd, read_all};
 use script_text::{Code, Script, ScriptFault, parse};
 use std::alloc::Global;
+use thiserror::Error;
 use world_io::Source;
 
 /// The most bytes of a script.
 pub const MAX_BYTES: usize = 8_388_608;
 
 /// Why no script was read.
-#[derive(Clone, Copy, Debug, PartialEq, Eq)]
+#[derive(Clone, Copy, Debug, PartialEq, Eq, Error)]
 pub enum ParseEnd {
     /// The bytes are no script: the first bad line, and what is wrong with it.
+    #[error("line {line} is none of a script: {code:?}")]
     BadScript { line: u32, code: Code },
     /// A read failed.
+    #[error("a read failed")]
     ReadFault,
     /// The source gave more than 8,388,608 bytes; reading stopped at the byte behind them.
+    #[error("more than {MAX_BYTES} bytes")]
     TooLong,
     /// Want of memory.
+    #[error("want of memory")]
     Memory,
 }
 

@@ -3,7 +3,8 @@ use Rattle.std.proofs.Common.{◌≡◌, ◌≢◌, ◌≤◌, ◌<◌, ◌+◌,
 use Rattle.std.specs.Global.{Global}
 use Rattle.world_io.specs.Bytes.{Gave, GaveAll}
 use Rattle.world_io.specs.Faults.{Rose}
-use Rattle.world_io.proofs.BytesLemmas.{GaveAll-told}
+use Rattle.world_io.proofs.BytesLemmas.{GaveAll-told, Gave-nothing}
+use Rattle.broadphase.specs.Reading.{GaveAtMost}
 use Rattle.script_text.specs.Line.{script_fault}
 use Rattle.broadphase.specs.declared.status.Status.{Status}
 use Rattle.broadphase.specs.declared.status.Status.TheVariants as statuses
@@ -80,3 +81,25 @@ nothing_of_it Check left rest before after e = e
 pub part_of_it : (form : Form) (left rest before after : Option (List ℕ)) → (form ≡ Check → ⊥) → AnsweredPart form left rest before after → WantedMemory form left rest before after
 part_of_it Play left rest before after other part = inr part
 part_of_it Check left rest before after other part = absurd (other refl)
+
+-- what was read where all bytes were, and what was read at most
+all_of_it : (left rest : Option (List ℕ)) (bytes : List ℕ) → GaveAll left rest bytes → length bytes ≤ MAX_BYTES → GaveAtMost left rest (MAX_BYTES + 1)
+all_of_it left rest bytes all within = record { bytes = bytes; gave = all.gave; bound = omega (arith, within) }
+
+at_most : (left rest : Option (List ℕ)) → GaveAtMost left rest MAX_BYTES → GaveAtMost left rest (MAX_BYTES + 1)
+at_most left rest gave = record { bytes = gave.bytes; gave = gave.gave; bound = omega (arith, gave.bound) }
+
+-- a source that was not read gave nothing
+pub not_read : (left rest : Option (List ℕ)) (most : ℕ) → rest ≡ left → GaveAtMost left rest most
+not_read left rest most e = record { bytes = []; gave = subst (λ (o : Option (List ℕ)). Gave left o []) (sym e) (Gave-nothing left); bound = omega arith }
+
+-- however a run ends, no more was read than one byte past the limit
+pub stops : (form : Form) (r : Status) (left rest before after : Option (List ℕ)) (f f' k k' : ℕ) → Ends form r left rest before after f f' k k' → GaveAtMost left rest (MAX_BYTES + 1)
+stops form statuses.Done left rest before after f f' k k' ends = all_of_it left rest ends.read.bytes ends.read.all ends.read.within
+stops form statuses.Usage left rest before after f f' k k' ends = absurd ends
+stops form statuses.BadScript left rest before after f f' k k' ends = all_of_it left rest ends.read.bytes ends.read.all ends.read.within
+stops form statuses.ReadFault left rest before after f f' k k' ends = at_most left rest ends.1
+stops form statuses.WriteFault left rest before after f f' k k' (rose, inl part) = all_of_it left rest part.read.bytes part.read.all part.read.within
+stops form statuses.WriteFault left rest before after f f' k k' (rose, inr part) = all_of_it left rest part.read.bytes part.read.all part.read.within
+stops form statuses.Memory left rest before after f f' k k' ends = at_most left rest ends.0
+stops form statuses.TooLong left rest before after f f' k k' ends = record { bytes = ends.0.bytes; gave = ends.0.gave; bound = omega (arith, ends.0.exact) }

@@ -1,7 +1,8 @@
 -- What the player keeps of names and batches.
-use Rattle.std.specs.Prelude.{ℕ, ◌+◌, ◌==◌, Bool, List, [], ◌∷◌, ◌++◌, Option, Some, slice_get, option_map, option_and_then, bytes_eq, position, sum_by, count_by}
+use Rattle.std.specs.Prelude.{ℕ, ◌+◌, ◌==◌, if◌then◌else◌, Bool, List, [], ◌∷◌, ◌++◌, Option, Some, slice_get, option_map, option_and_then, bytes_eq, position, sum_by, count_by}
 use Rattle.std.specs.List.{remove, list_any}
 use Rattle.std.specs.Option.{option_map_or}
+use Rattle.script_text.specs.Name.{is_among, add_name}
 use Rattle.script_text.specs.Place.{place_of}
 use Rattle.broadphase.specs.declared.books.Known.{Known}
 use Rattle.broadphase.specs.declared.books.Batch.{Batch}
@@ -18,9 +19,12 @@ pub record Books : Type 0 where
 abbrev pub no_books : Books
 no_books = record { names = []; known = []; prepared = []; attached = [] }
 
--- one name more; it stands for nothing where its creation was refused
+-- one name more; it stands for nothing where its creation was refused, and a name that is there stands for what it did
 abbrev pub with_name : Books → List ℕ → Option Known → Books
-with_name books name known = record books { names = books.names ++ name ∷ []; known = books.known ++ known ∷ [] }
+with_name books name known = record books {
+  names = add_name books.names name;
+  known = if is_among books.names name then books.known else books.known ++ known ∷ [];
+}
 
 -- what a name stands for
 abbrev pub known_at : Books → List ℕ → Option Known

@@ -1,7 +1,7 @@
 -- How a run may end, and what holds then.
 use Rattle.std.specs.Prelude.{◌≡◌, ◌⊎◌, ℕ, ◌+◌, List, ◌++◌, Option, codes, decimal}
 use Rattle.world_io.specs.Bytes.{Appended, AppendedPart}
-use Rattle.world_io.specs.Faults.{Rose}
+use Rattle.world_io.specs.Faults.{Rose, next_count}
 use Rattle.script_text.specs.declared.code.Code.{Code}
 use Rattle.script_text.specs.declared.code.Code.TheVariants as code
 use Rattle.script_text.specs.declared.script.Script.{Script}
@@ -10,7 +10,7 @@ use Rattle.broadphase.specs.declared.form.Form.TheVariants.{Play, Check}
 use Rattle.broadphase.specs.declared.status.Status.{Status}
 use Rattle.broadphase.specs.declared.status.Status.TheVariants as statuses
 use Rattle.broadphase.specs.declared.reading.TheConstants.{MAX_BYTES}
-use Rattle.broadphase.specs.Reading.{GaveCount, ScriptRead, FaultRead}
+use Rattle.broadphase.specs.Reading.{GaveCount, GaveAtMost, ScriptRead, FaultRead}
 use Rattle.broadphase.specs.Report.{serial_report}
 
 abbrev pub code_text : Code → List ℕ
@@ -67,12 +67,17 @@ abbrev pub WantedMemory : Form → (left rest before after : Option (List ℕ)) 
 WantedMemory Play left rest before after = (after ≡ before) ⊎ AnsweredPart Play left rest before after
 WantedMemory Check left rest before after = after ≡ before
 
+-- the source's count of faults by how a run ended: a read that fails is the last one, and ends it so
+abbrev pub CountsReads : Status → ℕ → ℕ → Type 0
+CountsReads statuses.ReadFault s s' = s' ≡ next_count s
+CountsReads _ s s' = s' ≡ s
+
 -- what a command has read and written, by how it ended; s is the source's count of faults, k the sink's
 abbrev pub Ends : Form → Status → (left rest before after : Option (List ℕ)) → (s s' k k' : ℕ) → Type 0
 Ends form statuses.Done left rest before after s s' k k' = Answered form left rest before after
 Ends form statuses.Usage left rest before after s s' k k' = ⊥
 Ends form statuses.BadScript left rest before after s s' k k' = Refused left rest before after
-Ends form statuses.ReadFault left rest before after s s' k k' = Rose s s' × (after ≡ before)
+Ends form statuses.ReadFault left rest before after s s' k k' = Rose s s' × GaveAtMost left rest MAX_BYTES × (after ≡ before)
 Ends form statuses.WriteFault left rest before after s s' k k' = Rose k k' × (AnsweredPart form left rest before after ⊎ RefusedPart left rest before after)
-Ends form statuses.Memory left rest before after s s' k k' = WantedMemory form left rest before after
+Ends form statuses.Memory left rest before after s s' k k' = GaveAtMost left rest MAX_BYTES × WantedMemory form left rest before after
 Ends form statuses.TooLong left rest before after s s' k k' = GaveCount left rest (MAX_BYTES + 1) × (after ≡ before)

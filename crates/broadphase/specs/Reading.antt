@@ -1,7 +1,7 @@
 -- How much a source gave, where not all that it gave is kept.
 use Rattle.std.specs.Prelude.{◌≡◌, ◌++◌, ℕ, ◌+◌, ◌≤◌, List, Option, Some, None, length}
 use Rattle.world_io.specs.Bytes.{Gave, GaveAll}
-use Rattle.world_io.specs.Faults.{Rose}
+use Rattle.world_io.specs.Faults.{next_count}
 use Rattle.script_text.specs.declared.code.Code.{Code}
 use Rattle.script_text.specs.declared.script.Script.{Script}
 use Rattle.script_text.specs.Line.{script_fault}
@@ -44,9 +44,9 @@ pub record FaultRead (left rest : Option (List ℕ)) (line : ℕ) (c : Code) : T
   pub within : length bytes ≤ MAX_BYTES
   pub bad : script_fault bytes ≡ Some (line, c)
 
--- what holds where no script was read
+-- what holds where no script was read; a read that fails is the last one
 abbrev pub EndsRead : Option (List ℕ) → Option (List ℕ) → ℕ → ℕ → ParseEnd → Type 0
-EndsRead left rest before after (ends.BadScript line c) = FaultRead left rest line c
-EndsRead left rest before after ends.ReadFault = Rose before after
-EndsRead left rest before after ends.TooLong = GaveCount left rest (MAX_BYTES + 1)
-EndsRead left rest before after ends.Memory = Unit {0}
+EndsRead left rest before after (ends.BadScript line c) = FaultRead left rest line c × (after ≡ before)
+EndsRead left rest before after ends.ReadFault = GaveAtMost left rest MAX_BYTES × (after ≡ next_count before)
+EndsRead left rest before after ends.TooLong = GaveCount left rest (MAX_BYTES + 1) × (after ≡ before)
+EndsRead left rest before after ends.Memory = GaveAtMost left rest MAX_BYTES × (after ≡ before)

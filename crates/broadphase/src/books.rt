@@ -34,8 +34,8 @@ pub struct Attached {
 
 /// What a player keeps beside the scene.
 ///
-/// A name is found in a time that does not grow with the number of names. Batches are looked through: there are no
-/// more of them than the layers have slots.
+/// A name is found in a few steps for each doubling of the number of names, whatever they are. Batches are looked
+/// through: there are no more of them than the layers have slots.
 #[derive(Debug, Drop)]
 pub struct Books {
     names: Names,
@@ -69,7 +69,7 @@ impl Books {
         }
     }
 
-    /// Keeps a name, and what it stands for.
+    /// Keeps a name that is not kept yet, and what it stands for.
     pub fn keep_name(
         &mut self,
         alloc: Global,
@@ -78,8 +78,9 @@ impl Books {
     ) -> Result<(), AllocError>
         ensures { OnOk result (self.new ≡ with_name self.old name.now known) }
     {
-        self.names.push(alloc, name.items())?;
-        self.known.push(known)?;
+        if self.names.push(alloc, name.items())? {
+            self.known.push(known)?;
+        }
         Ok(())
     }
 

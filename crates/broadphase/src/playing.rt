@@ -16,14 +16,17 @@ use itoa::Buffer;
 use reply_text::reply_line;
 use script_text::{Command, Script};
 use std::alloc::{AllocError, Global};
+use thiserror::Error;
 use world_io::{Failed, Sink};
 
 /// Why a script was not played to its end.
-#[derive(Clone, Copy, Debug, PartialEq, Eq)]
+#[derive(Clone, Copy, Debug, PartialEq, Eq, Error)]
 pub enum PlayFault {
     /// A write failed.
+    #[error("a write failed")]
     Write,
     /// Want of memory.
+    #[error("want of memory")]
     Memory,
 }
 

@@ -2,7 +2,7 @@
 ghost use Rattle.std.specs.Prelude.{◌≡◌, ℕ, ◌+◌, ◌-◌, ◌<◌, ◌≤◌, List, Option, length, vec_len, IfOk, IsErrOf};
 ghost use Rattle.std.specs.Io.KnownBytes.{IsAtEnd};
 ghost use Rattle.world_io.specs.Bytes.{GaveAll};
-ghost use Rattle.world_io.specs.Faults.{Rose};
+ghost use Rattle.world_io.specs.Faults.{next_count};
 ghost use Rattle.broadphase.specs.Reading.{GaveCount, GaveAtMost, AddsGiven};
 ghost use Rattle.broadphase.specs.declared.streams.TheConstants.{BLOCK};
 
@@ -48,7 +48,10 @@ fn read_piece<S: Source>(
     ensures too_long { IsErrOf result ReadEnd.TooLong → GaveCount (S.left source.old) (S.left source.new) (limit + 1 - vec_len bytes.old) }
     ensures memory { IsErrOf result ReadEnd.Memory → GaveAtMost (S.left source.old) (S.left source.new) (limit - vec_len bytes.old) }
     ensures unchanged { IsErrOf result ReadEnd.Fault → S.left source.new ≡ S.left source.old }
-    ensures fault { IsErrOf result ReadEnd.Fault → Rose (S.faults source.old) (S.faults source.new) }
+    ensures one { IsErrOf result ReadEnd.Fault → S.faults source.new ≡ next_count (S.faults source.old) }
+    ensures none { IfOk result (λ _. S.faults source.new ≡ S.faults source.old) }
+    ensures none_too_long { IsErrOf result ReadEnd.TooLong → S.faults source.new ≡ S.faults source.old }
+    ensures none_memory { IsErrOf result ReadEnd.Memory → S.faults source.new ≡ S.faults source.old }
     ensures counted { S.faults source.old ≤ S.faults source.new }
 {
     let room = limit - bytes.len();
@@ -71,7 +74,7 @@ fn read_piece<S: Source>(
 
 /// All bytes that the source has left, of which there are `limit` or fewer.
 ///
-/// It stops at the first read that gives nothing, and at the byte past the limit, so it asks for no more.
+/// It stops at the first read that gives nothing or fails, and at the byte past the limit, so it asks for no more.
 #[tactic(auto, using(crate::proofs::ReadingLemmas::after_pieces))]
 pub fn read_all<S: Source>(alloc: Global, source: &mut S, limit: usize) -> Result<Vec<u8>, ReadEnd>
     ensures all { IfOk result (λ bytes. GaveAll (S.left source.old) (S.left source.new) bytes.items) }
@@ -82,7 +85,11 @@ pub fn read_all<S: Source>(alloc: Global, source: &mut S, limit: usize) -> Resul
     ensures memory { IsErrOf result ReadEnd.Memory → GaveAtMost (S.left source.old) (S.left source.new) limit }
     ensures fault { IsErrOf result ReadEnd.Fault → GaveAtMost (S.left source.old) (S.left source.new) limit }
 
-    ensures rose { IsErrOf result ReadEnd.Fault → Rose (S.faults source.old) (S.faults source.new) }
+    // No read follows one that failed, so at most one failed.
+    ensures one { IsErrOf result ReadEnd.Fault → S.faults source.new ≡ next_count (S.faults source.old) }
+    ensures none { IfOk result (λ _. S.faults source.new ≡ S.faults source.old) }
+    ensures none_too_long { IsErrOf result ReadEnd.TooLong → S.faults source.new ≡ S.faults source.old }
+    ensures none_memory { IsErrOf result ReadEnd.Memory → S.faults source.new ≡ S.faults source.old }
     ensures counted { S.faults source.old ≤ S.faults source.new }
 {
     let Ok(mut block) = new_block(alloc) else {

@@ -3,9 +3,9 @@ ghost use Rattle.std.specs.Prelude.{◌≡◌, ◌≤◌, ◌↔◌, ◌+◌, �
 ghost use Rattle.world_io.specs.Bytes.{Appended, AppendedPart};
 ghost use Rattle.world_io.specs.Faults.{Rose};
 ghost use Rattle.script_text.specs.Line.{script_fault};
-ghost use Rattle.broadphase.specs.Reading.{GaveCount};
+ghost use Rattle.broadphase.specs.Reading.{GaveCount, GaveAtMost};
 ghost use Rattle.broadphase.specs.Form.{Asks, AskNothing};
-ghost use Rattle.broadphase.specs.Ended.{Answered, AnsweredPart, Refused, RefusedPart, WantedMemory, Ends, answer_text, fault_text, code_text};
+ghost use Rattle.broadphase.specs.Ended.{Answered, AnsweredPart, Refused, RefusedPart, WantedMemory, CountsReads, Ends, answer_text, fault_text, code_text};
 ghost use Rattle.broadphase.specs.declared.reading.TheConstants.{MAX_BYTES};
 
 use crate::form::{Form, form_of};
@@ -59,6 +59,7 @@ fn refuse<K: Sink>(alloc: Global, line: u32, code: Code, sink: &mut K) -> Result
     ensures part { OnErr result (AppendedPart (K.contents sink.old) (K.contents sink.new) (fault_text line code)) }
     ensures fault { IsErrOf result PlayFault.Write → Rose (K.faults sink.old) (K.faults sink.new) }
     ensures memory { IsErrOf result PlayFault.Memory → K.contents sink.new ≡ K.contents sink.old }
+    ensures counted { K.faults sink.old ≤ K.faults sink.new }
 {
     let text = fault_line(alloc, line, code)?;
     write_all(sink, text.as_slice())?;
@@ -72,6 +73,7 @@ fn tell_ok<K: Sink>(sink: &mut K) -> Result<(), PlayFault>
     ensures part { OnErr result (AppendedPart (K.contents sink.old) (K.contents sink.new) (codes "ok\n")) }
     ensures fault { IsErrOf result PlayFault.Write → Rose (K.faults sink.old) (K.faults sink.new) }
     ensures memory { ¬ IsErrOf result PlayFault.Memory }
+    ensures counted { K.faults sink.old ≤ K.faults sink.new }
 {
     write_all(sink, b"ok\n")?;
     Ok(())
@@ -88,6 +90,7 @@ fn answer<K: Sink>(
     ensures part { OnErr result (AppendedPart (K.contents sink.old) (K.contents sink.new) (answer_text form script.now)) }
     ensures fault { IsErrOf result PlayFault.Write → Rose (K.faults sink.old) (K.faults sink.new) }
     ensures memory { form ≡ Form.Check → ¬ IsErrOf result PlayFault.Memory }
+    ensures counted { K.faults sink.old ≤ K.faults sink.new }
 {
     match form {
         Form::Play => play(alloc, script, sink),
@@ -97,8 +100,10 @@ fn answer<K: Sink>(
 
 /// Reads a script, and writes what the command has to say of it.
 fn carry_out<S: Source, K: Sink>(alloc: Global, form: Form, source: &mut S, sink: &mut K) -> Status
-    ensures { Ends form result (S.left source.old) (S.left source.new) (K.contents sink.old) (K.contents sink.new)
+    ensures ends { Ends form result (S.left source.old) (S.left source.new) (K.contents sink.old) (K.contents sink.new)
         (S.faults source.old) (S.faults source.new) (K.faults sink.old) (K.faults sink.new) }
+    ensures reads { CountsReads result (S.faults source.old) (S.faults source.new) }
+    ensures counted { (S.faults source.old ≤ S.faults source.new) × (K.faults sink.old ≤ K.faults sink.new) }
 {
     match run_parse(alloc, source, false) {
         Ok(script) => match answer(alloc, form, &script, sink) {
@@ -126,6 +131,11 @@ pub fn run_check<S: Source, K: Sink>(alloc: Global, source: &mut S, sink: &mut K
     ensures ends { Ends Form.Check result (S.left source.old) (S.left source.new) (K.contents sink.old) (K.contents sink.new)
         (S.faults source.old) (S.faults source.new) (K.faults sink.old) (K.faults sink.new) }
 
+    // However it ends, reading stops at byte 8,388,609 at the latest, and at the first read that fails; no count falls.
+    ensures stops { GaveAtMost (S.left source.old) (S.left source.new) (MAX_BYTES + 1) }
+    ensures reads { CountsReads result (S.faults source.old) (S.faults source.new) }
+    ensures counted { (S.faults source.old ≤ S.faults source.new) × (K.faults sink.old ≤ K.faults sink.new) }
+
     // Told bytes that are not too many are accepted or refused, unless a fault is counted or memory is wanting.
     ensures accepts { (bytes : List ℕ) → S.left source.old ≡ Some bytes → length bytes ≤ MAX_BYTES
         → ¬ Rose (S.faults source.old) (S.faults source.new) → ¬ Rose (K.faults sink.old) (K.faults sink.new)
@@ -139,16 +149,20 @@ pub fn run_check<S: Source, K: Sink>(alloc: Global, source: &mut S, sink: &mut K
 
 /// Reads a script, plays it on the plain scene and writes its report.
 fn run_play<S: Source, K: Sink>(alloc: Global, source: &mut S, sink: &mut K) -> Status
-    ensures { Ends Form.Play result (S.left source.old) (S.left source.new) (K.contents sink.old) (K.contents sink.new)
+    ensures ends { Ends Form.Play result (S.left source.old) (S.left source.new) (K.contents sink.old) (K.contents sink.new)
         (S.faults source.old) (S.faults source.new) (K.faults sink.old) (K.faults sink.new) }
+    ensures reads { CountsReads result (S.faults source.old) (S.faults source.new) }
+    ensures counted { (S.faults source.old ≤ S.faults source.new) × (K.faults sink.old ≤ K.faults sink.new) }
 {
     carry_out(alloc, Form::Play, source, sink)
 }
 
 /// Carries out a command of the program.
 fn run_form<S: Source, K: Sink>(alloc: Global, form: Form, source: &mut S, sink: &mut K) -> Status
-    ensures { Ends form result (S.left source.old) (S.left source.new) (K.contents sink.old) (K.contents sink.new)
+    ensures ends { Ends form result (S.left source.old) (S.left source.new) (K.contents sink.old) (K.contents sink.new)
         (S.faults source.old) (S.faults source.new) (K.faults sink.old) (K.faults sink.new) }
+    ensures reads { CountsReads result (S.faults source.old) (S.faults source.new) }
+    ensures counted { (S.faults source.old ≤ S.faults source.new) × (K.faults sink.old ≤ K.faults sink.new) }
 {
     match form {
         Form::Play => run_play(alloc, source, sink),
@@ -174,17 +188,23 @@ pub fn run<S: Source, K: Sink, G: Gate>(
     ensures usage { (result ≡ Status.Usage) ↔ AskNothing words.now }
     ensures untouched { result ≡ Status.Usage → (S.left source.new ≡ S.left source.old) × (K.contents sink.new ≡ K.contents sink.old) }
 
+    // However it ends, reading stops at byte 8,388,609 at the latest, and at the first read that fails; no count falls.
+    ensures stops { GaveAtMost (S.left source.old) (S.left source.new) (MAX_BYTES + 1) }
+    ensures reads { CountsReads result (S.faults source.old) (S.faults source.new) }
+    ensures counted { (S.faults source.old ≤ S.faults source.new) × (K.faults sink.old ≤ K.faults sink.new) }
+
     // What each other status tells of the bytes that were read and written.
     ensures done { (form : Form) → Asks words.now form → result ≡ Status.Done
         → Answered form (S.left source.old) (S.left source.new) (K.contents sink.old) (K.contents sink.new) }
     ensures bad_script { result ≡ Status.BadScript → Refused (S.left source.old) (S.left source.new) (K.contents sink.old) (K.contents sink.new) }
     ensures too_long { result ≡ Status.TooLong → GaveCount (S.left source.old) (S.left source.new) (MAX_BYTES + 1) × (K.contents sink.new ≡ K.contents sink.old) }
-    ensures read_fault { result ≡ Status.ReadFault → Rose (S.faults source.old) (S.faults source.new) × (K.contents sink.new ≡ K.contents sink.old) }
+    ensures read_fault { result ≡ Status.ReadFault → Rose (S.faults source.old) (S.faults source.new)
+        × GaveAtMost (S.left source.old) (S.left source.new) MAX_BYTES × (K.contents sink.new ≡ K.contents sink.old) }
     ensures write_fault { (form : Form) → Asks words.now form → result ≡ Status.WriteFault → Rose (K.faults sink.old) (K.faults sink.new)
         × (AnsweredPart form (S.left source.old) (S.left source.new) (K.contents sink.old) (K.contents sink.new)
         ⊎ RefusedPart (S.left source.old) (S.left source.new) (K.contents sink.old) (K.contents sink.new)) }
-    ensures memory { (form : Form) → Asks words.now form → result ≡ Status.Memory
-        → WantedMemory form (S.left source.old) (S.left source.new) (K.contents sink.old) (K.contents sink.new) }
+    ensures memory { (form : Form) → Asks words.now form → result ≡ Status.Memory → GaveAtMost (S.left source.old) (S.left source.new) MAX_BYTES
+        × WantedMemory form (S.left source.old) (S.left source.new) (K.contents sink.old) (K.contents sink.new) }
 
     // Told bytes that are not too many are answered or refused, unless a fault is counted or memory is wanting.
     ensures answers { (form : Form) (bytes : List ℕ) → Asks words.now form → S.left source.old ≡ Some bytes → length bytes ≤ MAX_BYTES

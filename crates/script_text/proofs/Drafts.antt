@@ -6,11 +6,12 @@ use Rattle.std.proofs.lemmas.List.{map_push}
 use Rattle.script_text.specs.declared.command.Command.{Command}
 use Rattle.script_text.specs.declared.command.Command.TheVariants.{Create, Destroy, Add, Prepare, Finalize, Abort, Remove, Move, User, Read, Multi, QueryBox, QueryPoint, QueryRay}
 use Rattle.script_text.specs.Command.{command_words}
+use Rattle.script_text.specs.Name.{add_name}
 use Rattle.script_text.specs.Above.{Above, after_command}
 
 -- what stands above the next line, told by the command
 abbrev pub above_after : Above → Command → Above
-above_after above (Create name layer bounds user) = record above { names = above.names ++ name ∷ [] }
+above_after above (Create name layer bounds user) = record above { names = add_name above.names name }
 above_after above c = above
 
 of_command : (above : Above) (c : Command) → after_command above (command_words c) ≡ above_after above c

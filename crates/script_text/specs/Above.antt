@@ -1,6 +1,7 @@
 -- What stands above a line.
-use Rattle.std.specs.Prelude.{ℕ, Bool, true, false, if◌then◌else◌, List, [], ◌∷◌, ◌++◌, nat_abs, bytes_eq, codes}
+use Rattle.std.specs.Prelude.{ℕ, Bool, true, false, if◌then◌else◌, List, [], ◌∷◌, nat_abs, bytes_eq, codes}
 use Rattle.script_text.specs.Number.{number_of}
+use Rattle.script_text.specs.Name.{add_name}
 
 -- whether there is the world line, how many bodies and layers it states, and the names that were created
 pub record Above : Type 0 where
@@ -21,7 +22,7 @@ after_world above _ = above
 
 -- `create NAME ..`, below its first word
 abbrev pub after_create : Above → List (List ℕ) → Above
-after_create above (name ∷ args) = record above { names = above.names ++ name ∷ [] }
+after_create above (name ∷ args) = record above { names = add_name above.names name }
 after_create above [] = above
 
 -- what stands above the line below a command

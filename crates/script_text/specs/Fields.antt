@@ -2,17 +2,19 @@
 use Rattle.std.specs.Prelude.{ℕ, ◌&&◌, if◌then◌else◌, List, [], ◌∷◌, ◌≡◌, map, length, Option, Some, None, ℤ, pos, negsuc, int_le, nat_le, nat_lt, nat_abs, zip}
 use Rattle.std.specs.List.{list_all}
 use Rattle.std.specs.Option.{option_map}
-use Rattle.std.specs.Fmt.{signed_decimal}
+use Rattle.std.specs.Fmt.{decimal, signed_decimal}
 use Rattle.script_text.specs.declared.code.Code.{Code}
 use Rattle.script_text.specs.declared.code.Code.TheVariants as code
 use Rattle.fixed_box.specs.declared.coord.Coord.{Coord}
 use Rattle.fixed_box.specs.Corner.{OnEachAxis, along}
 use Rattle.fixed_box.specs.Range.{IsStep}
 use Rattle.word_map.specs.declared.config.Config.{Config}
-use Rattle.word_map.specs.Limits.{fault_of}
+use Rattle.word_map.specs.declared.config.Field.{Field}
+use Rattle.word_map.specs.declared.config.Field.TheVariants as fields
+use Rattle.word_map.specs.Limits.{fault_of, IsConfig}
 use Rattle.script_text.specs.Command.{corner_words}
 use Rattle.script_text.specs.Fault.{first_of}
-use Rattle.script_text.specs.Number.{number_of, is_number, number_fault}
+use Rattle.script_text.specs.Number.{number_of, number_fault}
 
 -- there have to be from lo to hi words
 abbrev pub count_fault : ℕ → ℕ → List (List ℕ) → Option Code
@@ -50,28 +52,29 @@ pub record SpellsSteps (x y z : List ℕ) (steps : List ℤ) : Type 0 where
   pub words : map signed_decimal steps ≡ x ∷ y ∷ z ∷ []
   pub in_reach : OnEachAxis (λ axis. IsStep (along steps axis))
 
--- words that all have to be numbers
-abbrev pub numbers_fault : List (List ℕ) → Option Code
-numbers_fault words = if list_all is_number words then None else Some code.Number
+-- the sizes of the least world
+abbrev pub least_sizes : Config
+least_sizes = record { bodies = 1; stripes = 1; layers = 1; slots = 1; nodes = 1; passes = 1 }
 
--- a size of a world is a number of 32 bits
-abbrev pub size_fault : List ℕ → Option Code
-size_fault word = number_fault (pos 0) (pos 4294967295) word
+-- the same but for one field
+abbrev pub sizes_with : Field → ℕ → Config
+sizes_with fields.Bodies n = record least_sizes { bodies = n }
+sizes_with fields.Stripes n = record least_sizes { stripes = n }
+sizes_with fields.Layers n = record least_sizes { layers = n }
+sizes_with fields.Slots n = record least_sizes { slots = n }
+sizes_with fields.Nodes n = record least_sizes { nodes = n }
+sizes_with fields.Passes n = record least_sizes { passes = n }
 
--- the sizes, for one caller, that five words spell
-abbrev pub config_of : List ℕ → List ℕ → List ℕ → List ℕ → List ℕ → Config
-config_of bodies stripes layers slots nodes = record {
-  bodies = nat_abs (number_of bodies);
-  stripes = nat_abs (number_of stripes);
-  layers = nat_abs (number_of layers);
-  slots = nat_abs (number_of slots);
-  nodes = nat_abs (number_of nodes);
-  passes = 1;
-}
+-- a size of a world is a number of 32 bits, and within the limit of its field
+abbrev pub size_fault : Field → List ℕ → Option Code
+size_fault field word =
+    first_of (number_fault (pos 0) (pos 4294967295) word ∷ option_map (λ _. code.Range) (fault_of (sizes_with field (nat_abs (number_of word)))) ∷ [])
 
--- a size may not be out of its limit
-abbrev pub limit_fault : Config → Option Code
-limit_fault c = option_map (λ _. code.Range) (fault_of c)
+-- the word spells this size, which the field may have
+pub record SpellsSize (field : Field) (word : List ℕ) (n : ℕ) : Type 0 where
+  pub text : word ≡ decimal n
+  pub value : pos n ≡ number_of word
+  pub within : IsConfig (sizes_with field n)
 
 -- a layer is 0 to 7, and below the number of layers of the world
 abbrev pub layer_fault : ℕ → List ℕ → Option Code

@@ -8,17 +8,16 @@ use Rattle.script_text.specs.declared.keyword.Keyword.TheVariants.{World, Create
 use Rattle.script_text.specs.Keyword.{keyword_of, unknown_word}
 use Rattle.script_text.specs.Fault.{first_of}
 use Rattle.script_text.specs.Name.{name_fault, new_name_fault, known_name_fault, known_names_fault}
-use Rattle.script_text.specs.Fields.{count_fault, numbers_fault, corner_fault, order_fault, bounds_fault, steps_fault, size_fault, config_of, limit_fault, layer_fault, user_fault, mask_fault}
+use Rattle.script_text.specs.Fields.{count_fault, corner_fault, order_fault, bounds_fault, steps_fault, size_fault, layer_fault, user_fault, mask_fault}
 use Rattle.script_text.specs.Above.{Above}
+use Rattle.word_map.specs.declared.config.Field.TheVariants.{Bodies, Stripes, Layers, Slots, Nodes}
 
 -- Each of these is told the words below the first word of a line.
 
--- `world BODIES STRIPES LAYERS SLOTS NODES`: all five have to be numbers before one is looked at
+-- `world BODIES STRIPES LAYERS SLOTS NODES`: each word is looked at whole before the next one
 abbrev pub world_fault : List (List ℕ) → Option Code
 world_fault (bodies ∷ stripes ∷ layers ∷ slots ∷ nodes ∷ []) =
-    first_of (numbers_fault (bodies ∷ stripes ∷ layers ∷ slots ∷ nodes ∷ [])
-    ∷ size_fault bodies ∷ size_fault stripes ∷ size_fault layers ∷ size_fault slots ∷ size_fault nodes
-    ∷ limit_fault (config_of bodies stripes layers slots nodes) ∷ [])
+    first_of (size_fault Bodies bodies ∷ size_fault Stripes stripes ∷ size_fault Layers layers ∷ size_fault Slots slots ∷ size_fault Nodes nodes ∷ [])
 world_fault _ = Some code.Count
 
 -- `create NAME LAYER BOX USER`

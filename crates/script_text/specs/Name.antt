@@ -1,5 +1,5 @@
 -- Names in a script.
-use Rattle.std.specs.Prelude.{ℕ, Bool, not, ◌&&◌, ◌||◌, ◌==◌, if◌then◌else◌, List, length, nat_le, bytes_eq, Option, Some, None}
+use Rattle.std.specs.Prelude.{ℕ, Bool, not, ◌&&◌, ◌||◌, ◌==◌, if◌then◌else◌, List, [], ◌∷◌, ◌++◌, length, nat_le, bytes_eq, Option, Some, None}
 use Rattle.std.specs.List.{list_all, list_any}
 use Rattle.script_text.specs.declared.code.Code.{Code}
 use Rattle.script_text.specs.declared.code.Code.TheVariants as code
@@ -15,6 +15,10 @@ is_name word = nat_le 1 (length word) && nat_le (length word) 32 && list_all is_
 -- a word is among names
 abbrev pub is_among : List (List ℕ) → List ℕ → Bool
 is_among names word = list_any (bytes_eq word) names
+
+-- names and one more, where it is not among them
+abbrev pub add_name : List (List ℕ) → List ℕ → List (List ℕ)
+add_name names name = if is_among names name then names else names ++ name ∷ []
 
 -- a word that has to be a name
 abbrev pub name_fault : List ℕ → Option Code

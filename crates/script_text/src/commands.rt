@@ -8,36 +8,33 @@ ghost use Rattle.script_text.specs.Grammar.{world_fault, create_fault, body_faul
 use crate::code::{Code, LineError};
 use crate::command::Command;
 use crate::fields::{
-    box_between, check_count, check_limits, check_numbers, read_bounds, read_corner, read_layer,
-    read_mask, read_segment, read_size, read_user,
+    box_between, check_count, read_bounds, read_corner, read_layer, read_mask, read_segment,
+    read_size, read_user,
 };
 use crate::name_fields::{check_known_name, check_name, check_new_name, read_known_names};
 use crate::names::Names;
 use crate::text::{Text, TextList};
 use std::alloc::Global;
-use word_map::Config;
+use word_map::{Config, Field};
 
 // Each of these reads the words below the first word of a line.
 
 /// `world BODIES STRIPES LAYERS SLOTS NODES`, for one caller.
-#[tactic(auto, using(crate::proofs::Words::words_5, crate::proofs::Counts::world_count, crate::proofs::Sizes::spelled))]
+#[tactic(auto, using(crate::proofs::Words::words_5, crate::proofs::Counts::world_count, crate::proofs::Sizes::all_within))]
 pub fn read_world(args: &[&[u8]]) -> Result<Config, LineError>
     ensures { ReadsInMemory result (world_fault (texts args.now)) (SpellsWorld (texts args.now)) }
 {
     let [bodies, stripes, layers, slots, nodes] = args else {
         return Err(LineError::Fault(Code::Count));
     };
-    check_numbers(args)?;
-    let config = Config {
-        bodies: read_size(bodies)?,
-        stripes: read_size(stripes)?,
-        layers: read_size(layers)?,
-        slots: read_size(slots)?,
-        nodes: read_size(nodes)?,
+    Ok(Config {
+        bodies: read_size(Field::Bodies, bodies)?,
+        stripes: read_size(Field::Stripes, stripes)?,
+        layers: read_size(Field::Layers, layers)?,
+        slots: read_size(Field::Slots, slots)?,
+        nodes: read_size(Field::Nodes, nodes)?,
         passes: 1,
-    };
-    check_limits(config)?;
-    Ok(config)
+    })
 }
 
 /// `create NAME LAYER BOX USER`, in a world with so many layers.

@@ -1,16 +1,15 @@
 ghost use Rattle.std.specs.Prelude.{◌≡◌, ◌<◌, ◌∷◌, [], pos, negsuc, false, IsTrue, MatchResult, ⊤, decimal};
-ghost use Rattle.word_map.specs.Limits.{IsConfig};
 ghost use Rattle.fixed_box.specs.Corner.{is_at_most};
 ghost use Rattle.script_text.specs.Lines.{texts};
 ghost use Rattle.script_text.specs.Fault.{Reads, first_of};
 ghost use Rattle.script_text.specs.Number.{Spells, SpellsNatural, number_of};
 ghost use Rattle.script_text.specs.Command.{corner_words, box_words, segment_words};
-ghost use Rattle.script_text.specs.Fields.{SpellsCorner, SpellsSteps, count_fault, numbers_fault, coordinate_fault, corner_fault, bounds_fault, step_fault, steps_fault, size_fault, limit_fault, layer_fault, user_fault, mask_fault};
+ghost use Rattle.script_text.specs.Fields.{SpellsCorner, SpellsSteps, SpellsSize, count_fault, coordinate_fault, corner_fault, bounds_fault, step_fault, steps_fault, sizes_with, size_fault, layer_fault, user_fault, mask_fault};
 
 use crate::code::Code;
-use crate::number::{are_numbers, read_natural, read_number};
+use crate::number::{read_natural, read_number};
 use fixed_box::{Coord, FixBox, Segment};
-use word_map::{Config, check};
+use word_map::{Config, Field, check};
 
 /// There have to be from `lo` to `hi` words.
 pub fn check_count(words: &[&[u8]], lo: u32, hi: u32) -> Result<(), Code>
@@ -102,31 +101,37 @@ pub fn read_segment(
     Segment::new(o, d).ok_or(Code::Range)
 }
 
-/// Words that all have to be numbers.
-pub fn check_numbers(words: &[&[u8]]) -> Result<(), Code>
-    ensures { Reads result (numbers_fault (texts words.now)) (λ _. ⊤) }
+/// The sizes of the least world, but for one field.
+fn sizes_with(field: Field, size: u32) -> Config
+    ensures { result ≡ sizes_with field size }
 {
-    if are_numbers(words) {
-        Ok(())
-    } else {
-        Err(Code::Number)
+    let mut sizes = Config {
+        bodies: 1,
+        stripes: 1,
+        layers: 1,
+        slots: 1,
+        nodes: 1,
+        passes: 1,
+    };
+    match field {
+        Field::Bodies => sizes.bodies = size,
+        Field::Stripes => sizes.stripes = size,
+        Field::Layers => sizes.layers = size,
+        Field::Slots => sizes.slots = size,
+        Field::Nodes => sizes.nodes = size,
+        Field::Passes => sizes.passes = size,
     }
+    sizes
 }
 
-/// The size of a world that a word spells; whether it is within its limit is not looked at.
-pub fn read_size(word: &[u8]) -> Result<u32, Code>
-    ensures { Reads result (size_fault word.now) (SpellsNatural word.now 0 4294967295) }
+/// The size of a world that a word spells, within the limit of its field.
+#[tactic(auto, using(crate::proofs::Sizes::none_broken, crate::proofs::Sizes::value_is))]
+pub fn read_size(field: Field, word: &[u8]) -> Result<u32, Code>
+    ensures { Reads result (size_fault field word.now) (SpellsSize field word.now) }
 {
-    read_natural(word, 0, u32::MAX)
-}
-
-/// Sizes that have to be within the limits of a world.
-#[tactic(auto, using(crate::proofs::Sizes::none_broken))]
-pub fn check_limits(config: Config) -> Result<(), Code>
-    ensures { Reads result (limit_fault config) (λ _. IsConfig config) }
-{
-    match check(config) {
-        Ok(_) => Ok(()),
+    let size = read_natural(word, 0, u32::MAX)?;
+    match check(sizes_with(field, size)) {
+        Ok(_) => Ok(size),
         Err(_) => Err(Code::Range),
     }
 }

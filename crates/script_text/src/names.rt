@@ -1,21 +1,17 @@
-ghost use Rattle.std.specs.Prelude.{◌≡◌, ◌∷◌, [], ◌++◌, OnOk, OnErr};
-ghost use Rattle.script_text.specs.Name.{is_among};
-ghost use Rattle.script_text.specs.Place.{place_of, Notes};
-ghost use Rattle.std.specs.HashMap.{IsUnchanged};
+ghost use Rattle.std.specs.Prelude.{◌≡◌, not, [], IfOk, OnOk, OnErr};
+ghost use Rattle.script_text.specs.Name.{is_among, add_name};
+ghost use Rattle.script_text.specs.Place.{place_of};
 
-use crate::text::Text;
 use std::alloc::{AllocError, Global};
-use std::collections::HashMap;
+use std::collections::BTreeMap;
 use std::marker::Model;
 
-/// Names, each at a place of its own. Contracts see it as their list.
+/// Names, each at a place of its own. Contracts see it as their list, in the order in which they came.
 ///
-/// A name is found in a time that does not grow with their number.
+/// To find a name takes no more than a few steps for each doubling of their number, whatever the names are.
 #[derive(Debug, Drop)]
 pub struct Names {
-    list: Vec<Text>,
-    /// The place of each name; of equal names the first counts.
-    places: HashMap<Vec<u8>, usize>,
+    places: BTreeMap<Vec<u8>, usize>,
 }
 
 impl Model for Names {
@@ -23,26 +19,11 @@ impl Model for Names {
 
     ghost Value = { List (List ℕ) };
 
-    ghost use Rattle.script_text.specs.Place.{IsIndex};
+    ghost use Rattle.script_text.specs.Place.{names_of, IsIndex};
 
-    ghost view = { λ n. n.list.items };
+    ghost view = { λ n. names_of n.places };
 
-    ghost invariant = { λ n. IsIndex n.places n.list.items };
-}
-
-/// Notes the place of a name.
-fn note(
-    places: &mut HashMap<Vec<u8>, usize>,
-    alloc: Global,
-    word: &[u8],
-    place: usize,
-) -> Result<(), AllocError>
-    ensures ok { OnOk result (Notes places.old places.new word.now place) }
-    ensures err { OnErr result (IsUnchanged places.old places.new) }
-{
-    let name = Vec::from_slice(alloc, word)?;
-    places.insert(name, place)?;
-    Ok(())
+    ghost invariant = { λ n. IsIndex n.places };
 }
 
 impl Names {
@@ -52,12 +33,11 @@ impl Names {
         ensures { result ≡ [] }
     {
         Names {
-            list: Vec::new(alloc),
-            places: HashMap::new(alloc),
+            places: BTreeMap::new(alloc),
         }
     }
 
-    /// The place of the first name that equals a word, and `None` where there is none.
+    /// The place of the name that equals a word, and `None` where there is none.
     pub fn place(&self, word: &[u8]) -> Option<usize>
         ensures { result ≡ place_of self.now word.now }
     {
@@ -72,21 +52,20 @@ impl Names {
         self.place(word).is_some()
     }
 
-    /// Adds a name at the end. After an error the names are as before.
-    #[tactic(auto, using(crate::proofs::Places::index_more, crate::proofs::Places::index_again, crate::proofs::Places::index_same))]
-    pub fn push(&mut self, alloc: Global, word: &[u8]) -> Result<(), AllocError>
-        ensures ok { OnOk result (self.new ≡ self.old ++ word.now ∷ []) }
+    /// Adds a name at the end, where it is not among them, and answers whether it was added. After an error the names
+    /// are as before.
+    #[tactic(auto, using(crate::proofs::Places::index_same, crate::proofs::Places::names_same))]
+    pub fn push(&mut self, alloc: Global, word: &[u8]) -> Result<bool, AllocError>
+        ensures ok { OnOk result (self.new ≡ add_name self.old word.now) }
+        ensures added { IfOk result (λ added. added ≡ not (is_among self.old word.now)) }
         ensures err { OnErr result (self.new ≡ self.old) }
     {
-        let is_new = !self.contains(word);
-        let place = self.list.len();
-        self.list.push(Text::from_slice(alloc, word)?)?;
-        if is_new {
-            if let Err(error) = note(&mut self.places, alloc, word, place) {
-                self.list.truncate(place);
-                return Err(error);
-            }
+        if self.contains(word) {
+            return Ok(false);
         }
-        Ok(())
+        let place = self.places.len();
+        let name = Vec::from_slice(alloc, word)?;
+        self.places.insert(name, place)?;
+        Ok(true)
     }
 }

@@ -3,7 +3,6 @@ ghost use Rattle.std.specs.Fmt.{signed_decimal};
 ghost use Rattle.std.specs.List.{list_all};
 ghost use Rattle.std.specs.Str.Parse.{digits_value};
 ghost use Rattle.script_text.specs.Fault.{Reads};
-ghost use Rattle.script_text.specs.Lines.{texts};
 ghost use Rattle.script_text.specs.Number.{Spells, SpellsNatural, cut_off, is_digit, is_natural, is_number, number_of, number_fault};
 
 use crate::code::Code;
@@ -49,19 +48,6 @@ fn is_number(word: &[u8]) -> bool
         [b'-', digits @ ..] => is_natural(digits) && digits != b"0".as_slice(),
         _ => is_natural(word),
     }
-}
-
-/// Whether all words are numbers.
-#[tactic(auto, using(crate::proofs::Texts::all_more, crate::proofs::Texts::all_fails))]
-pub fn are_numbers(words: &[&[u8]]) -> bool
-    ensures { result ≡ list_all is_number (texts words.now) }
-{
-    for word in words {
-        if !is_number(word) {
-            return false;
-        }
-    }
-    true
 }
 
 /// The number that a word stands for, cut off at `FAR` on both sides.

@@ -4,6 +4,7 @@ use crate::code::Code;
 use crate::command::Command;
 use std::alloc::{AllocError, AllocFailed};
 use std::marker::Model;
+use thiserror::Error;
 use word_map::Config;
 
 /// The command lines of a script, in order.
@@ -54,10 +55,12 @@ pub struct Script {
 }
 
 /// Why bytes gave no script.
-#[derive(Clone, Copy, Debug, PartialEq, Eq)]
+#[derive(Clone, Copy, Debug, PartialEq, Eq, Error)]
 pub enum ScriptFault {
     /// The bytes are no script: the first line that is none of one, and what is wrong with it.
+    #[error("line {line} is none of a script: {code:?}")]
     At { line: u32, code: Code },
     /// There was not enough memory.
+    #[error("want of memory")]
     Memory,
 }

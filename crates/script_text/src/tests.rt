@@ -33,10 +33,12 @@ fn faults_of_first_lines(rt: HostRuntime) -> Result<(), Fail> {
         ("world 0 1 1 1\n", 1, Code::Count),
         ("world a 1 1 1 1\n", 1, Code::Number),
         ("world 1 1 1 1 01\n", 1, Code::Number),
-        // All five have to be numbers before one is looked at.
-        ("world 0 x 1 1 1\n", 1, Code::Number),
+        // Each word is looked at whole before the next one.
+        ("world 0 x 1 1 1\n", 1, Code::Range),
         ("world x 0 1 1 1\n", 1, Code::Number),
-        ("world 99999999999 x 1 1 1\n", 1, Code::Number),
+        ("world 1 3 1 x 1\n", 1, Code::Range),
+        ("world 1 1 x 65 1\n", 1, Code::Number),
+        ("world 99999999999 x 1 1 1\n", 1, Code::Range),
         ("world -1 1 1 1 1\n", 1, Code::Range),
         ("world 0 1 1 1 1\n", 1, Code::Range),
         ("world 65537 1 1 1 1\n", 1, Code::Range),

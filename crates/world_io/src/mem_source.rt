@@ -1,4 +1,4 @@
-ghost use Rattle.std.specs.Prelude.{◌≡◌, ℕ, ◌+◌, ◌^◌, ◌<◌, ◌≤◌, ◌↔◌, ◌++◌, List, Option, Some, length, take, drop, min, IsErr, IfOk, OnErr};
+ghost use Rattle.std.specs.Prelude.{◌≡◌, ℕ, ◌+◌, ◌^◌, ◌<◌, ◌≤◌, ◌↔◌, ◌++◌, List, Option, Some, length, take, drop, min, IsErr, IfOk, OnOk, OnErr};
 ghost use Rattle.world_io.specs.Bytes.{Gave, StopsOnlyAtEnd};
 ghost use Rattle.world_io.specs.Faults.{Rose, next_count};
 ghost use Rattle.world_io.specs.Feed.{Feed, FailsNext};
@@ -67,6 +67,8 @@ impl Source for MemSource {
         ensures unchanged { OnErr result (Some self.new.left ≡ Some self.old.left) }
         ensures fault { OnErr result (Rose self.old.faults self.new.faults) }
         ensures counted { self.old.faults ≤ self.new.faults }
+        ensures none { OnOk result (self.new.faults ≡ self.old.faults) }
+        ensures one { OnErr result (self.new.faults ≡ next_count self.old.faults) }
         ensures bounded { self.new.faults < 2 ^ 64 }
 
         // Which calls fail, how much the others move, and what each leaves.

@@ -1,6 +1,6 @@
-ghost use Rattle.std.specs.Prelude.{◌≡◌, ℕ, ◌^◌, ◌<◌, ◌≤◌, List, Option, length, take, IfOk, OnErr};
+ghost use Rattle.std.specs.Prelude.{◌≡◌, ℕ, ◌^◌, ◌<◌, ◌≤◌, List, Option, length, take, IfOk, OnOk, OnErr};
 ghost use Rattle.world_io.specs.Bytes.{Gave, StopsOnlyAtEnd};
-ghost use Rattle.world_io.specs.Faults.{Rose};
+ghost use Rattle.world_io.specs.Faults.{Rose, next_count};
 
 /// A read or a write failed. The count of faults of its source or sink tells that it did.
 #[derive(Clone, Copy, Debug, PartialEq, Eq)]
@@ -11,7 +11,7 @@ pub trait Source {
     // The bytes that are left, where they are told.
     ghost left: { Self → Option (List ℕ) };
 
-    // How many reads failed; the count begins at 0 and ends at 2^64 - 1.
+    // How many reads failed: it rises by one exactly where a read fails, from 0 to 2^64 - 1, where it stays.
     ghost faults: { Self → ℕ };
 
     /// Moves the first bytes that are left to the front of `buf`, and answers how many these are.
@@ -26,5 +26,7 @@ pub trait Source {
         ensures unchanged { OnErr result (left self.new ≡ left self.old) }
         ensures fault { OnErr result (Rose (faults self.old) (faults self.new)) }
         ensures counted { faults self.old ≤ faults self.new }
+        ensures none { OnOk result (faults self.new ≡ faults self.old) }
+        ensures one { OnErr result (faults self.new ≡ next_count (faults self.old)) }
         ensures bounded { faults self.new < 2 ^ 64 };
 }

@@ -9,7 +9,7 @@ invariant-loop-bytes g l = record {
   block : vec_len l.block ≡ BLOCK;
   within : vec_len l.bytes ≤ l.limit;
   gave : Gave (g.S.Source.left l.initial.source) (g.S.Source.left l.source) l.bytes.items;
-  counted : g.S.Source.faults l.initial.source ≤ g.S.Source.faults l.source;
+  none : g.S.Source.faults l.source ≡ g.S.Source.faults l.initial.source;
 }
 
 abbrev pub decreases-loop-bytes : goal.decreases-loop-bytes

@@ -9,7 +9,7 @@ use Rattle.core_state.specs.Guards.{GuardsHold}
 use Rattle.core_state.specs.Walks.{MayBegin, begin_walk, MayEnd, end_walk}
 use Rattle.core_state.specs.Invariants.{Invariants}
 use Rattle.core_guard.proofs.Leaving.{acts-of}
-use Rattle.core_guard.proofs.WalkReaders.{ReadersCounted-begins, ReadersCounted-ends}
+use Rattle.core_query.proofs.WalkReaders.{ReadersCounted-begins, ReadersCounted-ends}
 use Rattle.core_query.proofs.ReaderSteps.{GuardsHold-reader, Invariants-reader}
 use Rattle.core_query.proofs.WalksBegin.{WalksLead-begins, WalksLead-ends}
 

@@ -14,7 +14,7 @@ use Rattle.core_state.specs.declared.view.Call.{Call}
 use Rattle.core_state.specs.declared.view.Rebuild.{Rebuild}
 use Rattle.core_state.specs.Log.{history}
 use Rattle.core_state.specs.Core.{Core, word_of}
-use Rattle.core_state.specs.Encoding.{NamesRoot, place}
+use Rattle.core_state.specs.Encoding.{NamesRoot, IsBox, place}
 use Rattle.core_state.specs.Kind.{Kind, Step, gained_by}
 use Rattle.core_state.specs.LocationsHold.{LocationsHold, location_scope, Removes, ClimbsFrom, IsOnItsWay}
 use Rattle.core_state.specs.Moving.{HasComeTo, at_start, by_parent}
@@ -29,6 +29,7 @@ use Rattle.core_guard.proofs.Leaving.{Acts, After, Last, Stays, Leaves, step-goe
 use Rattle.core_guard.proofs.PlacesStay.{PassIsPlaced, acting, taken-out, pass-placed, pass-forth}
 use Rattle.core_guard.proofs.PlacesLeft.{SeenUpdate, body_stays, pass_anew, LocationsHold-leaves}
 use Rattle.core_guard.proofs.ReadersLeft.{some-all, Counts, GoesOn, KeepsTargets, layers-kept, gives-kept, climbs-own, ReadersCounted-goes_on}
+use Rattle.core_guard.proofs.TreesLeft.{KeepsBoxes}
 
 pub record IsStill (kind : Kind) (core : Core) (step : Step) : Type 0 where
   pub words : (name : Name) → ((p : ℕ) → name ≢ Reader p) → word_of (After kind core step) name ≡ word_of core name
@@ -160,6 +161,11 @@ module _ (kind : Kind) (core : Core) (step : Step) (s : IsStill kind core step) 
     LocationsHold-loaded new before after way =
         let old = subst Placed before still-placed in
         LocationsHold-still (subst Placed (sym after) (loaded-placed a.laws.nodes (sight location_scope (After kind core step)) (SeenUpdate kind core step) step.view.call old new (way old)))
+
+    -- ---- walks
+
+    pub still-boxes : KeepsBoxes kind core step a.laws.nodes a.laws.nodes
+    still-boxes n k stands box = subst IsBox (λ i q. sym (s.words (Bound n k q) (λ p e. absurd cc)) i) box
 
     -- ---- readers
 

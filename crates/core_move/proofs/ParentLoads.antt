@@ -9,9 +9,7 @@ use Rattle.core_state.specs.declared.item.Load.{Load}
 use Rattle.core_state.specs.declared.view.Task.{Task}
 use Rattle.core_state.specs.Log.{word}
 use Rattle.core_state.specs.Core.{Core, word_of}
-use Rattle.core_state.specs.Formed.{IsFormed}
-use Rattle.core_state.specs.Guards.{GuardsHold}
-use Rattle.core_state.specs.Kind.{Kind, Step, Steps, found_by, view_after, after_step}
+use Rattle.core_state.specs.Kind.{Kind, Step, found_by, view_after, after_step}
 use Rattle.core_state.specs.Moving.{IsKnownLocation, MayLoadParentMoving, load_parent_moving}
 use Rattle.core_state.specs.Nodes.{Nodes, Above}
 use Rattle.core_state.specs.Parts.{call_by_task}
@@ -28,11 +26,13 @@ use Rattle.core_state.specs.Invariants.{Invariants}
 use Rattle.core_state.proofs.Frames.{frame, step-same}
 use Rattle.core_state.proofs.Guarding.{GuardsHold-load}
 use Rattle.core_state.proofs.Opening.{only}
-use Rattle.core_guard.proofs.Leaving.{Acts, acts-of, After, Last}
+use Rattle.core_guard.proofs.Leaving.{Acts, After, Last}
 use Rattle.core_guard.proofs.PlacesStay.{acting}
 use Rattle.core_guard.proofs.PlacesLeft.{SeenUpdate}
 use Rattle.core_guard.proofs.Settled.{settled-still}
 use Rattle.core_guard.proofs.Still.{IsStill, Placed, come-on_way, LocationsHold-loaded}
+use Rattle.core_guard.proofs.Holders.{IsGuarded}
+use Rattle.core_guard.proofs.Touched.{IsKept, kept}
 
 -- the node of a load of a parent
 abbrev node_of_parent : Name → ℕ
@@ -100,11 +100,9 @@ module _ (index : ℕ) (core : Core) (step : Step) (a : Acts core step) (asked :
 
 -- ---- kind 36
 
-pub Invariants-load_parent_moving : (index : ℕ) (before after : Core) → Steps (MayLoadParentMoving index) (load_parent_moving index) before after → IsFormed before → GuardsHold before → Invariants before → Invariants after
-Invariants-load_parent_moving index before after steps formed guards laws =
-    subst Invariants (sym steps.result)
-    (Invariants-loads index before steps.step (acts-of (MayLoadParentMoving index) (load_parent_moving index) before after steps formed guards laws) steps.allowed.asked)
+pub Invariants-load_parent_moving : (index : ℕ) → IsKept (MayLoadParentMoving index) (load_parent_moving index)
+Invariants-load_parent_moving index = kept (MayLoadParentMoving index) (load_parent_moving index) (λ core step a asked. Invariants-loads index core step a asked)
 
-pub GuardsHold-load_parent_moving : (index : ℕ) (before after : Core) → Steps (MayLoadParentMoving index) (load_parent_moving index) before after → IsFormed before → Invariants before → GuardsHold before → GuardsHold after
+pub GuardsHold-load_parent_moving : (index : ℕ) → IsGuarded (MayLoadParentMoving index) (load_parent_moving index)
 GuardsHold-load_parent_moving index before after steps formed laws guards =
     GuardsHold-load (MayLoadParentMoving index) (load_parent_moving index) before after (λ found first. refl) steps guards

@@ -39,7 +39,7 @@ module _ (config : Config) (query : Query) (word : Name → ℕ) where
   known-none x (inl reaches) = reaches-none x reaches
   known-none x (inr walked) = walked-none x walked
 
-  start-stays : (nodes : Nodes) → WalkStays nodes word [] (start config query)
+  pub start-stays : (nodes : Nodes) → WalkStays nodes word [] (start config query)
   start-stays nodes = record {
     live = λ x reaches. absurd (reaches-none x reaches);
     apart = λ i j d below inside. absurd (omega arith);
@@ -74,7 +74,7 @@ module _ (kind : Kind) (core : Core) (step : Step) (a : Acts core step) (names :
   number_of_reader _ = 0
 
   -- other words are as before
-  own-words : (name : Name) → ((p : ℕ) → name ≢ Reader p) → word_of (After kind core step) name ≡ word_of core name
+  pub own-words : (name : Name) → ((p : ℕ) → name ≢ Reader p) → word_of (After kind core step) name ≡ word_of core name
   own-words name other = word-step-other kind core step name (λ e. other step.number (e ∙ names))
 
   other-reader : (number : ℕ) → number ≢ step.number → word_of (After kind core step) (Reader number) ≡ word_of core (Reader number)
@@ -120,11 +120,15 @@ then_odd w none = elim (cases_lt 0 (w % 2)) [ inl odd ↦ absurd (none (omega ar
 then_even : (w : ℕ) → w % 2 ≡ 1 → ¬ ((w + 1) % 2 ^ 64 % 2 ≡ 1)
 then_even w odd h = omega arith
 
-module _ (core : Core) (step : Step) (a : Acts core step) (names : step.name ≡ Reader step.number) (one : step.first ≡ 1) where
-  -- kind 28
-  begin-still : IsStill begin_walk core step
+module _ (core : Core) (step : Step) (a : Acts core step) (names : step.name ≡ Reader step.number) where
+  pub begin-still : IsStill begin_walk core step
   begin-still = record { words = own-words begin_walk core step a names; entry = λ value. refl; task = refl; batches = refl; rebuild = refl }
 
+  pub end-still : IsStill end_walk core step
+  end-still = record { words = own-words end_walk core step a names; entry = λ value. refl; task = refl; batches = refl; rebuild = refl }
+
+module _ (core : Core) (step : Step) (a : Acts core step) (names : step.name ≡ Reader step.number) (one : step.first ≡ 1) where
+  -- kind 28
   begin-word : word_of (After begin_walk core step) (Reader step.number) ≡ (word_of core (Reader step.number) + 1) % 2 ^ 64
   begin-word =
       subst (λ (name : Name). word_of (After begin_walk core step) name ≡ (word_of core name + 1) % 2 ^ 64) names
@@ -134,7 +138,7 @@ module _ (core : Core) (step : Step) (a : Acts core step) (names : step.name ≡
   ReadersCounted-begins rests =
       let was : ¬ (word_of core (Reader step.number) % 2 ≡ 1) = λ e. false≢true (sym rests ∙ was-odd begin_walk core step a names e) in
       let odd : word_of (After begin_walk core step) (Reader step.number) % 2 ≡ 1 = subst (λ (w : ℕ). w % 2 ≡ 1) (sym begin-word) (then_odd (word_of core (Reader step.number)) was) in
-      ReadersCounted-still begin_walk core step begin-still a refl
+      ReadersCounted-still begin_walk core step (begin-still core step a names) a refl
       (record {
         odd = odd-after begin_walk core step a names (λ e. refl, λ on. odd);
         seen = other-reader begin_walk core step a names;
@@ -146,9 +150,6 @@ module _ (core : Core) (step : Step) (a : Acts core step) (names : step.name ≡
       })
 
   -- kind 29
-  end-still : IsStill end_walk core step
-  end-still = record { words = own-words end_walk core step a names; entry = λ value. refl; task = refl; batches = refl; rebuild = refl }
-
   end-word : word_of (After end_walk core step) (Reader step.number) ≡ (word_of core (Reader step.number) + 1) % 2 ^ 64
   end-word =
       subst (λ (name : Name). word_of (After end_walk core step) name ≡ (word_of core name + 1) % 2 ^ 64) names
@@ -158,7 +159,7 @@ module _ (core : Core) (step : Step) (a : Acts core step) (names : step.name ≡
   ReadersCounted-ends walks =
       let was : word_of core (Reader step.number) % 2 ≡ 1 = was-on end_walk core step a names walks in
       let even : ¬ (word_of (After end_walk core step) (Reader step.number) % 2 ≡ 1) = λ h. then_even (word_of core (Reader step.number)) was (subst (λ (w : ℕ). w % 2 ≡ 1) end-word h) in
-      ReadersCounted-still end_walk core step end-still a refl
+      ReadersCounted-still end_walk core step (end-still core step a names) a refl
       (record {
         odd = odd-after end_walk core step a names (λ e. absurd (even e), λ on. absurd (false≢true on));
         seen = other-reader end_walk core step a names;

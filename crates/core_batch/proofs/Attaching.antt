@@ -134,9 +134,6 @@ module _ (core : Core) (a : Attaching core) (formed : IsFormed core) where
     batch_node n inside =
         h.places.batches a.batch n (contains_flat (λ v. v.batches) (sight node_scope core).passes _ a.batch (seat_seen node_scope core a.seat a.number a.view a.at a.pass) a.among) inside
 
-    pub node_owned : (n : ℕ) → Contains a.batch.nodes n → Contains (nodes_of a.view) n
-    node_owned n inside = Contains-append_left (flat_map (λ b. b.nodes) a.view.batches) _ n (contains_flat (λ b. b.nodes) a.view.batches a.batch n a.among inside)
-
     pub was_home : (n : ℕ) → Contains a.batch.nodes n → h.nodes.home n ≡ owned a.number
     was_home n inside = batch-home core h.nodes h.places a.seat a.number a.view a.at a.pass n (Contains-append_left (flat_map (λ b. b.nodes) a.view.batches) a.view.loose n (contains_flat (λ b. b.nodes) a.view.batches a.batch n a.among inside))
 

@@ -1,5 +1,5 @@
 -- What a pass knows of its batches: their slots, their nodes, and the bodies that they hold, which stand in no tree.
-use Rattle.std.proofs.Common.{◌≡◌, ◌≢◌, ℕ, suc, ◌<◌, ◌∷◌, List, Option, Some, None, refl, ap, sym, ◌∙◌, subst, inl, inr, arith}
+use Rattle.std.proofs.Common.{◌≡◌, ◌≢◌, ℕ, suc, ◌<◌, ◌∷◌, List, Option, Some, None, refl, ap, sym, ◌∙◌, subst, inl, inr, arith, false}
 use Rattle.std.specs.Prelude.{Contains, IsSomeAnd, flat_map}
 use Rattle.std.proofs.lemmas.Option.{same_Some}
 use Rattle.std.proofs.lemmas.List.Elements.{Contains-append_left, Contains-append_right}
@@ -22,15 +22,16 @@ use Rattle.core_state.specs.Encoding.{place, phase_join, slot_tree}
 use Rattle.core_state.specs.Nodes.{Home, owned, IsInTree}
 use Rattle.core_state.specs.Scope.{Sight, sight}
 use Rattle.core_state.specs.BodiesAgree.{body_scope, IsHeldFor}
-use Rattle.core_state.specs.LocationsHold.{location_scope, IsPlannedIn}
+use Rattle.core_state.specs.LocationsHold.{location_scope, IsPlannedIn, is_location_store}
 use Rattle.core_state.specs.Invariants.{Invariants}
 use Rattle.core_state.proofs.Beginning.{contains_flat, body_record}
 use Rattle.core_state.proofs.Reading.{word-last}
 use Rattle.core_guard.proofs.PlacesStay as places
-use Rattle.core_guard.proofs.Leaving.{IsHandled, some_and_map}
+use Rattle.core_guard.proofs.Leaving.{IsHandled, some_and_map, After}
 use Rattle.core_guard.proofs.Seats.{seat_seen}
 use Rattle.core_batch.proofs.Mapped.{held-by}
 use Rattle.core_batch.proofs.Owning.{number-low, slot-reserved, batch-home}
+use Rattle.core_guard.proofs.BodyTouch.{location-words}
 
 -- ---- what was stored
 
@@ -63,6 +64,13 @@ pub planned-kept : (s t : Sight) (b d : Batch) (u : Marked) → d.nodes ≡ b.no
 planned-kept s t b d u nodes same (inl none) = inl (none.0, same ∙ none.1)
 planned-kept s t b d u nodes same (inr placed) =
     inr (placed.0, same ∙ placed.1, (placed.2.0, placed.2.1, placed.2.2, placed.2.3, subst (λ (l : List ℕ). Contains l placed.2.0) (sym nodes) placed.2.4))
+
+-- and by a step that stores no location
+pub planned-still : (kind : Kind) (core : Core) (step : Step) → is_location_store step.name ≡ false → (b d : Batch) (u : Marked) → d.nodes ≡ b.nodes → IsPlannedIn (sight location_scope core) b u × (word_of core (LocB u.index) ≡ 0)
+    → IsPlannedIn (sight location_scope (After kind core step)) d u × (word_of (After kind core step) (LocB u.index) ≡ 0)
+planned-still kind core step unstored b d u nodes was =
+    let words = location-words kind core step unstored u.index in
+    (planned-kept (sight location_scope core) (sight location_scope (After kind core step)) b d u nodes words.0 was.0, words.1 ∙ was.1)
 
 -- nobody handles a body that is held
 pub held-alone : (core : Core) (i : ℕ) → Invariants core → HasBody (scene_of core) i (λ r. r.phase ≡ Held)

@@ -176,6 +176,16 @@ module _ (kind : Kind) (core : Core) (step : Step) (at : IsViewAt core step.seat
           from_own u.0 u.1 u.2
       go t (stayed apart old) = from_other t.seat t.number t.view apart old t.pass t.among
 
+  -- so what holds of the marks of each of those holds of all
+  module _ (P : Batch → Marked → Type 0) (own : (old : Batch) (u : Marked) → Contains step.view.batches old → Contains (f old).marked u → P (f old) u)
+      (others : (seat number : ℕ) (view : View) (b : Batch) (u : Marked) → seat ≢ step.seat → IsViewAt core seat view → IsPass view number → Contains view.batches b → Contains b.marked u → P b u) where
+    marks-from : (b : Batch) (u : Marked) → Contains b.marked u → IsFromBatch b → P b u
+    marks-from b u marked (from_own old has e) = subst (λ (d : Batch). P d u) e (own old u has (subst (λ (d : Batch). Contains d.marked u) (sym e) marked))
+    marks-from b u marked (from_other seat number view apart found is has) = others seat number view b u apart found is has marked
+
+    pub marks-after : (b : Batch) (u : Marked) → Contains (all_batches (sight location_scope (after_step kind core step))) b → Contains b.marked u → P b u
+    marks-after b u among marked = marks-from b u marked (batch-from b (subst (λ (l : List Batch). Contains l b) (location-batches (after_step kind core step)) among))
+
   -- ---- slots
 
   slot-forth : (l t : ℕ) → HoldsSlot l t step.view → HoldsSlot l t (view_after kind core step)
@@ -257,11 +267,7 @@ module _ (kind : Kind) (core : Core) (step : Step) (at : IsViewAt core step.seat
             (λ seat view apart found is one. one) (λ same one. slot-back l t one)),
       );
       slots = slots-kept;
-      marked = λ batch m among inside. go batch m inside (batch-from batch among);
+      marked = λ batch m among inside. marks-from (λ b u. IsHeldFor New b u) marked others batch m inside (batch-from batch among);
       held = held;
       once = once-kept;
     }
-      where
-        go : (batch : Batch) (m : Marked) → Contains batch.marked m → IsFromBatch batch → IsHeldFor New batch m
-        go batch m inside (from_own old has e) = subst (λ (b : Batch). IsHeldFor New b m) e (marked old m has (subst (λ (b : Batch). Contains b.marked m) (sym e) inside))
-        go batch m inside (from_other seat number view apart found is has) = others seat number view batch m apart found is has inside

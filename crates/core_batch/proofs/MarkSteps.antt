@@ -43,10 +43,10 @@ use Rattle.core_guard.proofs.Leaving.{Acts, IsHandled, After, Touches}
 use Rattle.core_guard.proofs.BodyTouch.{body_of, touches-body, location-words, record-made, stripe-alone, IsBare, bare-apart}
 use Rattle.core_guard.proofs.LivesTouch.{out_unseen, out-places}
 use Rattle.core_batch.proofs.Lists.{contains_at, pairs-cons, pairs-none, pairs-at, pairs-append, flat-own, flat-across, flat-pairs}
-use Rattle.core_batch.proofs.Mapped.{AreOtherBodies, location-batches, own-marks, own-slots, StemsFrom, mapped-part, own-kept, batch-kept, own_batch, other_batch, batch-from, IsFromBatch, from_own, from_other, held-by}
+use Rattle.core_batch.proofs.Mapped.{AreOtherBodies, own-marks, own-slots, StemsFrom, mapped-part, own-kept, batch-kept, own_batch, other_batch, held-by, marks-after}
 use Rattle.core_batch.proofs.PhaseAgree.{phase_past, phase_sight, other_word, record_other, record_here, held-other, held-was, phase_here, phase-agree}
 use Rattle.core_batch.proofs.Owning.{number-low, slot-reserved}
-use Rattle.core_batch.proofs.HeldFacts.{out_or_held, planned-kept, Rebatches, rebatches, slot-named, batch-no_tree, mark-planned}
+use Rattle.core_batch.proofs.HeldFacts.{out_or_held, Rebatches, rebatches, slot-named, batch-no_tree, mark-planned, planned-still}
 
 -- a test fails or passes
 tells : (b : Bool) → (b ≡ true) ⊎ (b ≡ false)
@@ -394,25 +394,16 @@ module _ (core : Core) (step : Step) (a : Acts core step) (asked : MayMark step.
   IsSettled b u = IsPlannedIn (sight location_scope (After mark core step)) b u × (word_of (After mark core step) (LocB u.index) ≡ 0)
 
   settled : (b : Batch) (u : Marked) → Contains (all_batches (sight location_scope (After mark core step))) b → Contains b.marked u → IsSettled b u
-  settled b u among marked =
-      go b u marked
-      (batch-from mark core step a.at a.pass past a.laws.bodies f changes same_slot b (subst (λ (l : List Batch). Contains l b) (location-batches (After mark core step)) among))
-    where
-      same : (b d : Batch) (u : Marked) → d.nodes ≡ b.nodes → IsPlannedIn (sight location_scope core) b u × (word_of core (LocB u.index) ≡ 0) → IsSettled d u
-      same b d u nodes was =
-          let words = location-words mark core step unstored u.index in
-          (planned-kept (sight location_scope core) (sight location_scope (After mark core step)) b d u nodes words.0 was.0, words.1 ∙ was.1)
-
-      go : (b : Batch) (u : Marked) → Contains b.marked u → IsFromBatch mark core step a.at a.pass past a.laws.bodies f changes same_slot b → IsSettled b u
-      go b u marked (from_own old inside e) =
-          subst (λ (d : Batch). IsSettled d u) e
-          (elim (mark-in old u (subst (λ (d : Batch). Contains d.marked u) (sym e) marked)) [
-            | old_mark was ↦ same old (f old) u (same_nodes old) (mark-planned core a.formed a.laws step.seat step.number step.view a.at a.pass old inside u was)
-            | new_mark gets is ↦
-                let words = location-words mark core step unstored asked.index in
-                subst (IsSettled (f old)) is (inl (refl, words.0 ∙ places.0), words.1 ∙ places.1)
-          ])
-      go b u marked (from_other seat number view apart found is inside) = same b b u refl (mark-planned core a.formed a.laws seat number view found is b inside u marked)
+  settled =
+      marks-after mark core step a.at a.pass past a.laws.bodies f changes same_slot IsSettled
+      (λ old u inside marked.
+      elim (mark-in old u marked) [
+        | old_mark was ↦ planned-still mark core step unstored old (f old) u (same_nodes old) (mark-planned core a.formed a.laws step.seat step.number step.view a.at a.pass old inside u was)
+        | new_mark gets is ↦
+            let words = location-words mark core step unstored asked.index in
+            subst (IsSettled (f old)) is (inl (refl, words.0 ∙ places.0), words.1 ∙ places.1)
+      ])
+      (λ seat number view b u apart found is inside marked. planned-still mark core step unstored b b u refl (mark-planned core a.formed a.laws seat number view found is b inside u marked))
 
   pub touches-mark : Touches mark core step a.laws.nodes a.laws.nodes
   touches-mark =

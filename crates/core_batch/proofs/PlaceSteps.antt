@@ -1,6 +1,6 @@
 -- Storing the first location of a body of a batch, and taking it back: bodies agree, and the body is in no tree before and
 -- afterwards.
-use Rattle.std.proofs.Common.{◌≡◌, ◌≢◌, ℕ, ◌<◌, List, Bool, true, false, cond, eqb, Option, None, IsNone, refl, ap, sym, ◌∙◌, subst, inl, inr, arith}
+use Rattle.std.proofs.Common.{◌≡◌, ◌≢◌, ℕ, ◌<◌, Bool, true, false, cond, eqb, Option, None, IsNone, refl, ap, sym, ◌∙◌, subst, inl, inr, arith}
 use Rattle.std.specs.Prelude.{Contains, IsSomeAnd, map}
 use Rattle.std.proofs.lemmas.Bool.{false≢true, eqb-true, eq-eqb}
 use Rattle.std.proofs.lemmas.List.Folds.{flat_map-map}
@@ -30,7 +30,7 @@ use Rattle.core_guard.proofs.Leaving.{Acts, IsHandled, IsApart, After, Touches, 
 use Rattle.core_guard.proofs.BodyTouch.{body_of, touches-body}
 use Rattle.core_guard.proofs.Scenes.{none_here}
 use Rattle.core_batch.proofs.Lists.{map_from}
-use Rattle.core_batch.proofs.Mapped.{location-batches, marks-apart, marked-once, batch-from, IsFromBatch, from_own, from_other}
+use Rattle.core_batch.proofs.Mapped.{marks-apart, marked-once, marks-after}
 use Rattle.core_batch.proofs.PlacedAgree.{placed-agree}
 use Rattle.core_batch.proofs.HeldFacts.{out_or_held, held_or_in, planned-kept, held-alone, Rebatches, rebatches, off-node, mark-off, mark-unjoined, marked-held, mark-planned}
 
@@ -142,9 +142,12 @@ module _ (kind : Kind) (core : Core) (step : Step) (a : Acts core step) (l : Rel
         (planned-kept (sight location_scope core) (sight location_scope (After kind core step)) b d u nodes (stands-other u.index other) was.0, stands (LocB u.index) refl ∙ was.1)
 
     settled : (b : Batch) (u : Marked) → Contains (all_batches (sight location_scope (After kind core step))) b → Contains b.marked u → IsSettled b u
-    settled b u among marked =
-        go b u marked
-        (batch-from kind core step a.at a.pass (history core.log) a.laws.bodies f changes (λ x. (refl, refl)) b (subst (λ (bs : List Batch). Contains bs b) (location-batches (After kind core step)) among))
+    settled =
+        marks-after kind core step a.at a.pass (history core.log) a.laws.bodies f changes (λ x. (refl, refl)) IsSettled
+        (λ old u inside marked. let x = map_from g old.marked u marked in subst (IsSettled (f old)) x.2 (of_own old x.0 inside x.1 (eqb x.0.index l.m.index) refl))
+        (λ seat number view b u other found is inside marked.
+        let apart = marks-apart core a.laws.bodies step.seat step.number step.view a.at a.pass seat number view l.batch b l.m u other found is l.has.among l.has.marked inside marked in
+        settled-other b b u refl (λ same. apart (sym same)) (mark-planned core a.formed a.laws seat number view found is b inside u marked))
       where
         of_own : (old : Batch) (x : Marked) → Contains step.view.batches old → Contains old.marked x → (test : Bool) → eqb x.index l.m.index ≡ test → IsSettled (f old) (g x)
         of_own old x inside was true e =
@@ -159,14 +162,6 @@ module _ (kind : Kind) (core : Core) (step : Step) (a : Acts core step) (l : Rel
             subst (IsSettled (f old)) (sym (changed-other l.m.index l.change x e))
             (settled-other old (f old) x refl (λ same. false≢true (sym e ∙ eq-eqb x.index l.m.index same))
             (mark-planned core a.formed a.laws step.seat step.number step.view a.at a.pass old inside x was))
-
-        go : (b : Batch) (u : Marked) → Contains b.marked u → IsFromBatch kind core step a.at a.pass (history core.log) a.laws.bodies f changes (λ x. (refl, refl)) b → IsSettled b u
-        go b u marked (from_own old inside e) =
-            let x = map_from g old.marked u (subst (λ (d : Batch). Contains d.marked u) (sym e) marked) in
-            subst (λ (d : Batch). IsSettled d u) e (subst (IsSettled (f old)) x.2 (of_own old x.0 inside x.1 (eqb x.0.index l.m.index) refl))
-        go b u marked (from_other seat number view other found is inside) =
-            let apart = marks-apart core a.laws.bodies step.seat step.number step.view a.at a.pass seat number view l.batch b l.m u other found is l.has.among l.has.marked inside marked in
-            settled-other b b u refl (λ same. apart (sym same)) (mark-planned core a.formed a.laws seat number view found is b inside u marked)
 
     touches : Touches kind core step a.laws.nodes a.laws.nodes
     touches =

@@ -29,11 +29,11 @@ use Rattle.core_state.proofs.Beginning.{contains_filter, body_record}
 use Rattle.core_guard.proofs.BodiesStep.{BatchPart}
 use Rattle.core_guard.proofs.LockSteps.{LocksAgree-other}
 use Rattle.core_guard.proofs.Leaving.{Acts, IsHandled, After, Touches}
-use Rattle.core_guard.proofs.BodyTouch.{body_of, touches-body, location-words, record-made, IsBare, bare-apart}
+use Rattle.core_guard.proofs.BodyTouch.{body_of, touches-body, record-made, IsBare, bare-apart}
 use Rattle.core_batch.proofs.Lists.{filter_from, flat-own, flat-across, flat-pairs}
-use Rattle.core_batch.proofs.Mapped.{AreOtherBodies, location-batches, own-marks, marks-apart, StemsFrom, mapped-part, batch-kept, own_batch, other_batch, batch-from, IsFromBatch, from_own, from_other, held-by}
+use Rattle.core_batch.proofs.Mapped.{AreOtherBodies, own-marks, marks-apart, StemsFrom, mapped-part, batch-kept, own_batch, other_batch, held-by, marks-after}
 use Rattle.core_batch.proofs.PhaseAgree.{phase_past, phase_sight, other_word, record_other, record_here, held-other, held-was, phase_here, phase-agree}
-use Rattle.core_batch.proofs.HeldFacts.{held_or_in, planned-kept, held-alone, Rebatches, rebatches, mark-held, marked-held, mark-planned}
+use Rattle.core_batch.proofs.HeldFacts.{held_or_in, held-alone, Rebatches, rebatches, mark-held, marked-held, mark-planned, planned-still}
 
 module _ (core : Core) (step : Step) (a : Acts core step) (asked : MayUnmark step.view step.name step.first step.second) where
   abbrev left_over : Marked → Bool
@@ -184,20 +184,12 @@ module _ (core : Core) (step : Step) (a : Acts core step) (asked : MayUnmark ste
   IsSettled b u = IsPlannedIn (sight location_scope (After unmark core step)) b u × (word_of (After unmark core step) (LocB u.index) ≡ 0)
 
   settled : (b : Batch) (u : Marked) → Contains (all_batches (sight location_scope (After unmark core step))) b → Contains b.marked u → IsSettled b u
-  settled b u among marked =
-      go b u marked
-      (batch-from unmark core step a.at a.pass past a.laws.bodies f changes (λ x. (refl, refl)) b (subst (λ (l : List Batch). Contains l b) (location-batches (After unmark core step)) among))
-    where
-      same : (b d : Batch) (u : Marked) → d.nodes ≡ b.nodes → IsPlannedIn (sight location_scope core) b u × (word_of core (LocB u.index) ≡ 0) → IsSettled d u
-      same b d u nodes was =
-          let words = location-words unmark core step unstored u.index in
-          (planned-kept (sight location_scope core) (sight location_scope (After unmark core step)) b d u nodes words.0 was.0, words.1 ∙ was.1)
-
-      go : (b : Batch) (u : Marked) → Contains b.marked u → IsFromBatch unmark core step a.at a.pass past a.laws.bodies f changes (λ x. (refl, refl)) b → IsSettled b u
-      go b u marked (from_own old inside e) =
-          let t = filter_from left_over old.marked u (subst (λ (d : Batch). Contains d.marked u) (sym e) marked) in
-          subst (λ (d : Batch). IsSettled d u) e (same old (f old) u refl (mark-planned core a.formed a.laws step.seat step.number step.view a.at a.pass old inside u t.0))
-      go b u marked (from_other seat number view apart found is inside) = same b b u refl (mark-planned core a.formed a.laws seat number view found is b inside u marked)
+  settled =
+      marks-after unmark core step a.at a.pass past a.laws.bodies f changes (λ x. (refl, refl)) IsSettled
+      (λ old u inside marked.
+      let t = filter_from left_over old.marked u marked in
+      planned-still unmark core step unstored old (f old) u refl (mark-planned core a.formed a.laws step.seat step.number step.view a.at a.pass old inside u t.0))
+      (λ seat number view b u apart found is inside marked. planned-still unmark core step unstored b b u refl (mark-planned core a.formed a.laws seat number view found is b inside u marked))
 
   pub touches-unmark : Touches unmark core step a.laws.nodes a.laws.nodes
   touches-unmark =

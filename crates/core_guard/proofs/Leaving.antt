@@ -16,7 +16,7 @@ use Rattle.core_state.specs.declared.item.Store.{Store}
 use Rattle.core_state.specs.declared.view.Marked.{Marked}
 use Rattle.core_state.specs.declared.view.Batch.{Batch}
 use Rattle.core_state.specs.declared.view.Task.{Task}
-use Rattle.core_state.specs.declared.view.Task.TheVariants.{Nothing, Creating, Destroying, Pooling, Moving, Removing, Placing}
+use Rattle.core_state.specs.declared.view.Task.TheVariants.{Nothing, Moving, Removing, Placing}
 use Rattle.core_state.specs.declared.view.Call.{Call}
 use Rattle.core_state.specs.declared.view.Rebuild.{Rebuild}
 use Rattle.core_state.specs.declared.view.View.{View}
@@ -93,44 +93,32 @@ IsIdle (Placing index) = ⊥
 IsIdle _ = Unit {0}
 
 pub idle-unhandled : (task : Task) (i : ℕ) → IsIdle task → ¬ IsHandled task i
-idle-unhandled Nothing i calm h = h
-idle-unhandled (Creating index) i calm h = h
-idle-unhandled (Destroying index) i calm h = h
-idle-unhandled (Pooling taken given) i calm h = h
 idle-unhandled (Moving index target) i calm h = calm
 idle-unhandled (Removing index) i calm h = calm
 idle-unhandled (Placing index) i calm h = calm
+idle-unhandled _ i calm h = h
 
 -- so the laws of places read none
 pub idle-places : (call : Call) → IsIdle call.task → call_on_places call ≡ no_call
 idle-places call calm = go call.task calm
   where
     go : (task : Task) → IsIdle task → call_by_task task call ≡ no_call
-    go Nothing c = refl
-    go (Creating index) c = refl
-    go (Destroying index) c = refl
-    go (Pooling taken given) c = refl
     go (Moving index target) c = absurd c
     go (Removing index) c = absurd c
     go (Placing index) c = absurd c
+    go _ c = refl
 
 pub idle-cover : (task : Task) → IsIdle task → task_on_cover task ≡ Nothing
-idle-cover Nothing c = refl
-idle-cover (Creating index) c = refl
-idle-cover (Destroying index) c = refl
-idle-cover (Pooling taken given) c = refl
 idle-cover (Moving index target) c = absurd c
 idle-cover (Removing index) c = absurd c
 idle-cover (Placing index) c = absurd c
+idle-cover _ c = refl
 
 pub idle-at_place : (task : Task) → IsIdle task → task_at_place task ≡ Nothing
-idle-at_place Nothing c = refl
-idle-at_place (Creating index) c = refl
-idle-at_place (Destroying index) c = refl
-idle-at_place (Pooling taken given) c = refl
 idle-at_place (Moving index target) c = absurd c
 idle-at_place (Removing index) c = absurd c
 idle-at_place (Placing index) c = absurd c
+idle-at_place _ c = refl
 
 -- ---- words lead from a node in a tree to nodes of the same tree
 

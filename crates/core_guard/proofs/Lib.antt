@@ -27,8 +27,8 @@ pub mod HandledLive
 pub mod Touched
 pub mod LockKeep
 pub mod LivesKeep
-pub mod WalkReaders
 pub mod Opened
 pub mod Keeping
 pub mod Settled
 pub mod BodiesAside
+pub mod Still

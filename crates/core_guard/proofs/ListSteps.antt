@@ -5,7 +5,7 @@ use Rattle.std.proofs.lemmas.Bool.{false≢true}
 use Rattle.word_map.specs.declared.name.Name.{Name}
 use Rattle.word_map.specs.declared.name.Name.TheVariants.{Lock, SlotHead, SlotNext, State, PoolHead, PoolNext, PoolFree}
 use Rattle.core_state.specs.declared.view.Task.{Task}
-use Rattle.core_state.specs.declared.view.Task.TheVariants.{Nothing, Creating, Destroying, Pooling, Moving, Removing, Placing}
+use Rattle.core_state.specs.declared.view.Task.TheVariants.{Nothing, Creating, Destroying, Pooling}
 use Rattle.core_state.specs.declared.view.Call.{Call}
 use Rattle.core_state.specs.declared.view.View.{View}
 use Rattle.core_state.specs.View.{known_word}
@@ -129,13 +129,8 @@ IsOffPool (Pooling taken given) = ⊥
 IsOffPool _ = ⊤
 
 off-pool : (task : Task) → IsOffPool task → task_on_pool task ≡ Nothing
-off-pool Nothing h = refl
-off-pool (Creating index) h = refl
-off-pool (Destroying index) h = refl
 off-pool (Pooling taken given) h = absurd h
-off-pool (Moving index target) h = refl
-off-pool (Removing index) h = refl
-off-pool (Placing index) h = refl
+off-pool _ h = refl
 
 -- a head leaves a task on the list
 head-task : (P : Task → Type 0) → ((index : ℕ) → P (Creating index)) → ((index : ℕ) → P (Destroying index)) → (view : View) (found value : ℕ) → P (task_by_head view found value)

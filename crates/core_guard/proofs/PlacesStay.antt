@@ -98,13 +98,11 @@ module _ (P : Task → Type 0) (busy : (task : Task) → IsIdle task → ¬ P ta
   task-seen own = go call.task own
     where
       go : (task : Task) → P task → P (call_by_task task call).task
-      go (Moving index target) h = own
-      go (Removing index) h = own
-      go (Placing index) h = own
       go Nothing h = absurd (busy Nothing tt h)
       go (Creating index) h = absurd (busy (Creating index) tt h)
       go (Destroying index) h = absurd (busy (Destroying index) tt h)
       go (Pooling taken given) h = absurd (busy (Pooling taken given) tt h)
+      go _ h = own
 
 pub removes-handles : (task : Task) (i : ℕ) → Removes task i → IsHandled task i
 removes-handles (Removing index) i h = h

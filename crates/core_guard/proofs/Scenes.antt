@@ -4,7 +4,7 @@ use Rattle.std.proofs.lemmas.Bool.{false≢true}
 use Rattle.fixed_box.specs.declared.fix_box.FixBox.{FixBox}
 use Rattle.scene_model.specs.declared.body_view.Phase.{Phase}
 use Rattle.scene_model.specs.declared.entry.Entry.{Entry}
-use Rattle.scene_model.specs.declared.entry.Entry.TheVariants.{Create, Destroy, Mark, Unmark, Join, Remove, Move, SetUser}
+use Rattle.scene_model.specs.declared.entry.Entry.TheVariants.{Create, Destroy, Join, SetUser}
 use Rattle.scene_model.specs.declared.entry.Made.{Made}
 use Rattle.scene_model.specs.Scene.{Scene, Place, Record, empty_scene, place_at, record_at, next_index}
 use Rattle.scene_model.specs.Step.{created_in, with_new_body, with_phase, after_entry}
@@ -56,13 +56,8 @@ bodies-join phase (index ∷ rest) scene = bodies-join phase rest (with_phase ph
 -- no entry changes it
 pub bodies-entry : (scene : Scene) (entry : Entry) → (after_entry scene entry).bodies ≡ scene.bodies
 bodies-entry scene (Create index layer bounds user) = bodies-new scene.freed scene index (created_in (place_at scene index) layer bounds user)
-bodies-entry scene (Destroy index) = refl
-bodies-entry scene (Mark index) = refl
-bodies-entry scene (Unmark index) = refl
 bodies-entry scene (Join layer indexes) = bodies-join _ indexes scene
-bodies-entry scene (Remove index) = refl
-bodies-entry scene (Move index bounds) = refl
-bodies-entry scene (SetUser index user) = refl
+bodies-entry scene _ = refl
 
 bodies-from : (scene : Scene) (history : List Made) → (scene_from scene history).bodies ≡ scene.bodies
 bodies-from scene [] = refl

@@ -75,14 +75,12 @@ entry-same layers scene i (SetUser j user) lawful other unheld = body_of_place s
 
 -- an entry that is made on no word of the body is such
 else-made : (i : ℕ) (name : Name) (entry : Entry) → ¬ IsBodyWord i name → name ≢ Phase i → IsMadeOn entry name → IsElse i entry
-else-made i name (Create j layer bounds user) none phase made = λ same. none (subst (IsBodyWord i) (sym made) (sym same))
-else-made i name (Destroy j) none phase made = λ same. none (subst (IsBodyWord i) (sym made) (sym same))
 else-made i name (Mark j) none phase made = λ same. phase (made ∙ ap Phase (sym same))
 else-made i name (Unmark j) none phase made = λ same. phase (made ∙ ap Phase (sym same))
 else-made i name (Join layer indexes) none phase made = tt
 else-made i name (Remove j) none phase made = λ same. phase (made ∙ ap Phase (sym same))
 else-made i name (Move j bounds) none phase made = λ same. none (subst (IsBodyWord i) (sym made.1) (sym same))
-else-made i name (SetUser j user) none phase made = λ same. none (subst (IsBodyWord i) (sym made) (sym same))
+else-made i name _ none phase made = λ same. none (subst (IsBodyWord i) (sym made) (sym same))
 
 else-some : (i : ℕ) (name : Name) (entry : Option Entry) → ¬ IsBodyWord i name → name ≢ Phase i → IfSome entry (λ e. IsMadeOn e name) → IfSome entry (IsElse i)
 else-some i name None none phase made = tt

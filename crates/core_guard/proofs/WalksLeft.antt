@@ -218,13 +218,13 @@ module _ (kind : Kind) (core : Core) (step : Step) (a : Acts core step) (later :
 
   -- ---- the law
 
-  longer : (n : ℕ) → n ≤ length Old.history → n ≤ length Now.history
+  pub longer : (n : ℕ) → n ≤ length Old.history → n ≤ length Now.history
   longer n low =
       let more = length-grown (history core.log) m.more in
       subst (λ (h : List Made). n ≤ length h) (sym m.goes_on) (omega arith)
 
   -- what is said of the walk of a view
-  abbrev LeadsOn : Sight → Walk → Type 0
+  abbrev pub LeadsOn : Sight → Walk → Type 0
   LeadsOn s walk = walk.is_on ≡ true → (query : Query) → Follows core.config query walk.loads → WalkLeads s walk query (position_of core.config query walk.loads)
 
   abbrev StaysOn : Walk → Type 0
@@ -236,17 +236,26 @@ module _ (kind : Kind) (core : Core) (step : Step) (a : Acts core step) (later :
   on-left : KeepsBoxes kind core step nodes later → (walk : Walk) → StaysOn walk → LeadsOn Old walk → LeadsOn Now walk
   on-left boxes walk stays old on query follows = walk-left walk (position_of core.config query walk.loads) (stays on query follows) boxes query (old on query follows)
 
-  pub WalksLead-leaves : KeepsBoxes kind core step nodes later → (Last kind core step).walk ≡ step.view.walk → WalksLead (After kind core step)
-  WalksLead-leaves boxes same = record {
+  -- where the own walk goes on, and leads to what it has to find
+  pub WalksLead-goes_on : KeepsBoxes kind core step nodes later → LeadsOn Now (Last kind core step).walk → (Last kind core step).walk.from ≤ length Now.history → WalksLead (After kind core step)
+  WalksLead-goes_on boxes own from = record {
     leads =
         each-step walk_scope (λ k v. refl) kind core step a.at a.pass (λ number view. LeadsOn Old view.walk) (λ number view. LeadsOn Now view.walk) a.laws.walks.leads
-        (λ seat number view apart at pass old. on-left boxes view.walk (stays-at seat number view at pass) old)
-        (λ old. subst (LeadsOn Now) (sym same) (on-left boxes step.view.walk (stays-at step.seat step.number step.view a.at a.pass) old));
+        (λ seat number view apart at pass old. on-left boxes view.walk (stays-at seat number view at pass) old) (λ old. own);
     begun =
         each-step walk_scope (λ k v. refl) kind core step a.at a.pass (λ number view. view.walk.from ≤ length Old.history) (λ number view. view.walk.from ≤ length Now.history) a.laws.walks.begun
-        (λ seat number view apart at pass old. longer view.walk.from old)
-        (λ old. subst (λ (w : Walk). w.from ≤ length Now.history) (sym same) (longer step.view.walk.from old));
+        (λ seat number view apart at pass old. longer view.walk.from old) (λ old. from);
   }
+
+  -- it began before
+  pub begun-left : step.view.walk.from ≤ length Now.history
+  begun-left = longer step.view.walk.from (each-seat walk_scope (λ k v. refl) core (λ number view. view.walk.from ≤ length Old.history) a.laws.walks.begun step.seat step.number step.view a.at a.pass)
+
+  pub WalksLead-leaves : KeepsBoxes kind core step nodes later → (Last kind core step).walk ≡ step.view.walk → WalksLead (After kind core step)
+  WalksLead-leaves boxes same =
+      let old = each-seat walk_scope (λ k v. refl) core (λ number view. LeadsOn Old view.walk) a.laws.walks.leads step.seat step.number step.view a.at a.pass in
+      WalksLead-goes_on boxes (subst (LeadsOn Now) (sym same) (on-left boxes step.view.walk (stays-at step.seat step.number step.view a.at a.pass) old))
+      (subst (λ (w : Walk). w.from ≤ length Now.history) (sym same) begun-left)
 
 -- a step beside the trees
 pub WalksLead-touches : (kind : Kind) (core : Core) (step : Step) (a : Acts core step) (later : Nodes) → Touches kind core step a.laws.nodes later → WalksLead (After kind core step)

@@ -1,3 +1,4 @@
+pub mod WalkReaders
 pub mod ReaderSteps
 pub mod WalksBegin
 pub mod WalkSteps

@@ -1,29 +1,27 @@
 -- A walk that begins has every body ahead of it that it has to find; of one that has ended nothing is said.
-use Rattle.std.proofs.Common.{◌≡◌, ℕ, ◌≤◌, List, [], ◌∷◌, true, None, length, refl, ap, sym, ◌∙◌, subst, inl, inr, arith}
-use Rattle.std.specs.Prelude.{IsTrue, Contains, flat_map, map}
+use Rattle.std.proofs.Common.{◌≡◌, ℕ, List, [], ◌∷◌, length, ap, subst, inl, inr, arith}
+use Rattle.std.specs.Prelude.{Contains, flat_map, map}
 use Rattle.std.specs.List.{range_with_len}
 use Rattle.std.proofs.lemmas.Bool.{false≢true}
 use Rattle.std.proofs.lemmas.Option.{same_Some}
 use Rattle.std.proofs.lemmas.List.Elements.{Contains-append_left, Contains-append_right, Contains-append_cases, Contains-push}
-use Rattle.scene_model.specs.declared.entry.Made.{Made}
 use Rattle.word_map.specs.declared.config.Config.{Config}
-use Rattle.word_map.specs.declared.name.Name.{Name}
 use Rattle.word_map.specs.declared.name.Name.TheVariants.{Main, Slot, Reader}
-use Rattle.core_state.specs.declared.view.Walk.{Walk}
 use Rattle.core_state.specs.Log.{history}
-use Rattle.core_state.specs.Core.{Core, word_of}
+use Rattle.core_state.specs.Core.{Core}
 use Rattle.core_state.specs.Encoding.{layer_of}
-use Rattle.core_state.specs.Kind.{Kind, Step, view_after, after_step, learned, log_after}
-use Rattle.core_state.specs.Scope.{Sight, sight}
-use Rattle.core_state.specs.Walking.{Query, Position, words_of_layer, start, Follows, position_of}
+use Rattle.core_state.specs.Kind.{Step, after_step, learned}
+use Rattle.core_state.specs.Scope.{word_in}
+use Rattle.core_state.specs.Walking.{Query, words_of_layer, start}
 use Rattle.core_state.specs.Walks.{begin_walk, end_walk, new_walk}
-use Rattle.core_state.specs.WalksLead.{WalksLead, WalkLeads, ReadsMainLast, is_walk_word, walk_scope}
+use Rattle.core_state.specs.WalksLead.{WalksLead, ReadsMainLast}
 use Rattle.core_state.proofs.Beginning.{cases_cons, due_ahead}
-use Rattle.core_state.proofs.Frames.{same_cond, step-history}
 use Rattle.core_state.proofs.Opening.{none_in, only}
-use Rattle.core_state.proofs.Steps.{word-step-other}
 use Rattle.core_guard.proofs.Leaving.{Acts}
-use Rattle.core_guard.proofs.Seats.{each-step, each-seat}
+use Rattle.core_guard.proofs.Still.{still-leaves, still-boxes}
+use Rattle.core_guard.proofs.WalksLeft.{longer, begun-left, walk-left, WalksLead-goes_on}
+use Rattle.core_query.proofs.WalkReaders.{start-stays, begin-still, end-still}
+use Rattle.core_state.specs.ReadersCounted.{reader_scope}
 
 -- ---- where a slot of a layer is to be read, so is its main word
 
@@ -55,69 +53,29 @@ main_among c l t (layer ∷ rest) h =
 pub main_last : (c : Config) (query : Query) → ReadsMainLast (start c query)
 main_last c query l t h = main_among c l t _ h
 
--- ---- a step on a reader word, which makes no entry
-
-module _ (kind : Kind) (core : Core) (step : Step) (a : Acts core step) (p : ℕ) (is : step.name ≡ Reader p) (plain : (value : ℕ) → kind.entry step.view step.name value ≡ None) where
-  abbrev Old : Sight
-  Old = sight walk_scope core
-
-  abbrev Now : Sight
-  Now = sight walk_scope (after_step kind core step)
-
-  -- walks see the same words and the same history
-  word_kept : (name : Name) → IsTrue (is_walk_word name) → word_of core name ≡ word_of (after_step kind core step) name
-  word_kept name walks =
-      sym (word-step-other kind core step name (λ same. false≢true (sym (ap is_walk_word (same ∙ is)) ∙ walks)))
-
-  words_kept : Old.word ≡ Now.word
-  words_kept = λ i name. same_cond (is_walk_word name) (word_of core name) (word_of (after_step kind core step) name) 0 (word_kept name) i
-
-  history_kept : Old.history ≡ Now.history
-  history_kept = sym (step-history kind core step plain)
-
-  -- so what is said of a walk stays
-  leads_kept : (walk : Walk) (query : Query) (at : Position) → WalkLeads Old walk query at → WalkLeads Now walk query at
-  leads_kept walk query at h =
-      let moved = subst (λ (s : Sight). WalkLeads s walk query at) (λ i. record { config = core.config; word = words_kept i; history = history_kept i; passes = Old.passes }) h in
-      record { ahead = moved.ahead; widens = moved.widens; order = moved.order }
-
-  -- what the law says of one view
-  abbrev LeadsBy : Sight → Walk → Type 0
-  LeadsBy s walk = walk.is_on ≡ true → (query : Query) → Follows s.config query walk.loads → WalkLeads s walk query (position_of s.config query walk.loads)
-
-  -- and the law holds, where it does of the walk that the step leaves
-  pub WalksLead-reader : LeadsBy Now (view_after kind core step).walk → (view_after kind core step).walk.from ≤ length Now.history → WalksLead (after_step kind core step)
-  WalksLead-reader own from = record {
-    leads =
-        each-step walk_scope (λ k v. refl) kind core step a.at a.pass (λ number view. LeadsBy Old view.walk) (λ number view. LeadsBy Now view.walk) a.laws.walks.leads
-        (λ seat number view apart found pass h on query follows. leads_kept view.walk query (position_of core.config query view.walk.loads) (h on query follows))
-        (λ h. own);
-    begun =
-        each-step walk_scope (λ k v. refl) kind core step a.at a.pass (λ number view. view.walk.from ≤ length Old.history) (λ number view. view.walk.from ≤ length Now.history) a.laws.walks.begun
-        (λ seat number view apart found pass h. subst (λ (l : List Made). view.walk.from ≤ length l) history_kept h)
-        (λ h. from);
-  }
-
 -- ---- kinds 28 and 29
 
-pub WalksLead-begins : (core : Core) (step : Step) (a : Acts core step) (p : ℕ) → step.name ≡ Reader p → WalksLead (after_step begin_walk core step)
-WalksLead-begins core step a p is =
-    WalksLead-reader begin_walk core step a p is plain
-    (λ on query follows. leads_kept begin_walk core step a p is plain walk query (start core.config query) (record {
-      ahead = λ index generation due. due_ahead core a.formed a.laws query walk (omega arith) index generation due;
-      widens = tt;
-      order = main_last core.config query;
-    }))
-    (let same : length (history core.log) ≡ length (history (log_after begin_walk core step)) = ap length (history_kept begin_walk core step a p is plain) in omega arith)
-  where
-    walk : Walk
-    walk = new_walk (learned core step)
+module _ (core : Core) (step : Step) (a : Acts core step) (is : step.name ≡ Reader step.number) where
+  abbrev none : ℕ → Type 0
+  none n = ⊥
 
-    plain : (value : ℕ) → begin_walk.entry step.view step.name value ≡ None
-    plain value = refl
+  pub WalksLead-begins : WalksLead (after_step begin_walk core step)
+  WalksLead-begins =
+      let s = begin-still core step a is in
+      let left = still-leaves begin_walk core step s a.laws.nodes in
+      let boxes = still-boxes begin_walk core step s a in
+      let walk = new_walk (learned core step) in
+      WalksLead-goes_on begin_walk core step a a.laws.nodes none left boxes
+      (λ on query follows.
+      walk-left begin_walk core step a a.laws.nodes none left walk (start core.config query) (start-stays core.config query (word_in reader_scope core) a.laws.nodes) boxes query (record {
+        ahead = λ index generation due. due_ahead core a.formed a.laws query walk (omega arith) index generation due;
+        widens = tt;
+        order = main_last core.config query;
+      }))
+      (longer begin_walk core step a a.laws.nodes none left (length (history core.log)) (omega arith))
 
-pub WalksLead-ends : (core : Core) (step : Step) (a : Acts core step) (p : ℕ) → step.name ≡ Reader p → WalksLead (after_step end_walk core step)
-WalksLead-ends core step a p is =
-    WalksLead-reader end_walk core step a p is (λ value. refl) (λ on query follows. absurd (false≢true on))
-    (subst (λ (l : List Made). step.view.walk.from ≤ length l) (history_kept end_walk core step a p is (λ value. refl))
-    (each-seat walk_scope (λ k v. refl) core (λ number view. view.walk.from ≤ length (history core.log)) a.laws.walks.begun step.seat step.number step.view a.at a.pass))
+  pub WalksLead-ends : WalksLead (after_step end_walk core step)
+  WalksLead-ends =
+      let s = end-still core step a is in
+      let left = still-leaves end_walk core step s a.laws.nodes in
+      WalksLead-goes_on end_walk core step a a.laws.nodes none left (still-boxes end_walk core step s a) (λ on query follows. absurd (false≢true on)) (begun-left end_walk core step a a.laws.nodes none left)

@@ -1,95 +1,22 @@
 -- The readers are counted where a walk begins or ends: the reader word of a pass is odd while it walks.
-use Rattle.std.proofs.Common.{◌≡◌, ◌≢◌, ◌⊎◌, ◌↔◌, ℕ, ◌+◌, ◌%◌, ◌^◌, List, [], ◌∷◌, ◌++◌, true, false, None, refl, ap, sym, ◌∙◌, subst, inl, inr, arith}
-use Rattle.std.specs.Prelude.{Option, IsSomeAnd}
+use Rattle.std.proofs.Common.{◌≡◌, ◌≢◌, ◌⊎◌, ◌↔◌, ℕ, ◌+◌, ◌%◌, ◌^◌, List, [], ◌∷◌, ◌++◌, true, false, refl, ap, sym, ◌∙◌, subst, inl, inr, arith}
 use Rattle.std.proofs.lemmas.Bool.{cases_eq, cases_lt, false≢true}
-use Rattle.scene_model.specs.Scene.{Record}
 use Rattle.word_map.specs.declared.config.Config.{Config}
 use Rattle.word_map.specs.declared.name.Name.{Name}
-use Rattle.word_map.specs.declared.name.Name.TheVariants.{Child, Bound, Parent, LocA, LocB, Main, Slot, Reader}
-use Rattle.core_state.specs.declared.view.Call.{Call}
-use Rattle.core_state.specs.Log.{history}
+use Rattle.word_map.specs.declared.name.Name.TheVariants.{Child, Bound, Reader}
 use Rattle.core_state.specs.Core.{Core, word_of}
-use Rattle.core_state.specs.Encoding.{NamesRoot}
-use Rattle.core_state.specs.Kind.{Kind, Step, gained_by, found_by}
+use Rattle.core_state.specs.Kind.{Kind, Step, found_by}
 use Rattle.core_state.specs.Nodes.{Nodes}
 use Rattle.core_state.specs.Scope.{Sight, sight, HasPass}
-use Rattle.core_state.specs.Space.{IsTarget}
 use Rattle.core_state.specs.Walking.{Query, Spot, resting, start}
 use Rattle.core_state.specs.Walks.{begin_walk, end_walk}
 use Rattle.core_state.specs.ReadersCounted.{ReadersCounted, reader_scope, ReachesBySpot, the_node, the_node_of_bound, by_child, by_next_child, by_part, Reaches, by_stack, by_spot, IsWalkedAt, WalkStays, ReadsInSpace}
 use Rattle.core_state.proofs.Opening.{none_in}
 use Rattle.core_state.proofs.Steps.{word-step, word-step-other, view-step}
 use Rattle.core_guard.proofs.Seats.{seat-has, has-step, has-unstep}
-use Rattle.core_guard.proofs.Leaving.{Acts, After, Last, Leaves, step-goes_on, scene-plain, other-number}
-use Rattle.core_guard.proofs.ReadersLeft.{some-all, Counts, GoesOn, KeepsTargets, layers-kept, gives-kept, climbs-own, ReadersCounted-goes_on}
-
--- ---- a step that stores no word but those of readers, and makes no entry
-
-pub record IsStill (kind : Kind) (core : Core) (step : Step) : Type 0 where
-  pub words : (name : Name) → ((p : ℕ) → name ≢ Reader p) → word_of (After kind core step) name ≡ word_of core name
-  pub entry : (value : ℕ) → kind.entry step.view step.name value ≡ None
-  pub call : (Last kind core step).call ≡ step.view.call
-  pub rebuild : (Last kind core step).rebuild ≡ step.view.rebuild
-
-module _ (kind : Kind) (core : Core) (step : Step) (s : IsStill kind core step) where
-  names-forth : (name : Name) (root : ℕ) → NamesRoot name (word_of core name) root → NamesRoot name (word_of (After kind core step) name) root
-  names-forth (Main l) root h = s.words (Main l) (λ p e. absurd cc) ∙ h
-  names-forth (Slot l t) root h = s.words (Slot l t) (λ p e. absurd cc) ∙ h
-  names-forth _ root h = h
-
-  names-back : (name : Name) (root : ℕ) → NamesRoot name (word_of (After kind core step) name) root → NamesRoot name (word_of core name) root
-  names-back (Main l) root h = sym (s.words (Main l) (λ p e. absurd cc)) ∙ h
-  names-back (Slot l t) root h = sym (s.words (Slot l t) (λ p e. absurd cc)) ∙ h
-  names-back _ root h = h
-
-  pub still-leaves : (nodes : Nodes) → Leaves kind core step nodes nodes (λ n. ⊥)
-  still-leaves nodes = record {
-    stays = λ n inside. refl;
-    depth = λ n inside. refl;
-    stood = λ n inside. inl refl;
-    child = λ n k inside. s.words (Child n k) (λ p e. absurd cc);
-    parent = λ n inside. s.words (Parent n) (λ p e. absurd cc);
-    wide = λ n k q stands. let same = s.words (Bound n k q) (λ p e. absurd cc) in (λ low. omega arith, λ high. omega arith);
-    names = names-forth;
-    named = λ name root h. inl (names-back name root h);
-    more = history (gained_by kind core step);
-    goes_on = step-goes_on kind core step;
-    rebuild = s.rebuild;
-  }
-
-  module _ (a : Acts core step) where
-    abbrev None_new : ℕ → Type 0
-    None_new n = ⊥
-
-    abbrev left : Leaves kind core step a.laws.nodes a.laws.nodes None_new
-    left = still-leaves a.laws.nodes
-
-    loc_same : (i : ℕ) → (word_of (After kind core step) (LocA i) ≡ word_of core (LocA i)) × (word_of (After kind core step) (LocB i) ≡ word_of core (LocB i))
-    loc_same i = (s.words (LocA i) (λ p e. absurd cc), s.words (LocB i) (λ p e. absurd cc))
-
-    bound_same : (n k q : ℕ) → word_of (After kind core step) (Bound n k q) ≡ word_of core (Bound n k q)
-    bound_same n k q = s.words (Bound n k q) (λ p e. absurd cc)
-
-    keeps : KeepsTargets kind core step a a.laws.nodes None_new left
-    keeps = record {
-      targets = λ index q side target. subst (λ (c : Call). IsTarget c.task index q side) (sym s.call) target;
-      bodies = λ seat number view at pass i handled g l body. subst (λ (o : Option Record). IsSomeAnd o (λ r. (r.generation ≡ g) × (r.layer ≡ l))) (sym (scene-plain kind core step s.entry i)) body;
-    }
-
-    pub still-counts : Counts kind core step a a.laws.nodes None_new left
-    still-counts = record {
-      places = λ seat number view apart at pass i handled. loc_same i;
-      climbs = climbs-own kind core step a a.laws.nodes None_new left s.call (λ i handled. loc_same i);
-      layers = layers-kept kind core step a a.laws.nodes None_new left keeps;
-      gives = gives-kept kind core step a a.laws.nodes None_new left keeps;
-      live = λ n k q l live layer. inl (bound_same n k q);
-      fresh = λ number view among pass. some-all view.rebuild _ (λ r n k q l home. inl (bound_same n k q));
-      new = λ n k l none. absurd none;
-      unmade = λ n number l none. absurd none;
-    }
-
-    pub ReadersCounted-still : GoesOn kind core step a a.laws.nodes None_new left → ReadersCounted a.laws.nodes (After kind core step)
-    ReadersCounted-still g = ReadersCounted-goes_on kind core step a a.laws.nodes None_new left still-counts g
+use Rattle.core_guard.proofs.Leaving.{Acts, After, Last, other-number}
+use Rattle.core_guard.proofs.ReadersLeft.{some-all}
+use Rattle.core_guard.proofs.Still.{IsStill, ReadersCounted-still}
 
 -- ---- a walk that has read nothing reaches nothing
 
@@ -112,7 +39,7 @@ module _ (config : Config) (query : Query) (word : Name → ℕ) where
   known-none x (inl reaches) = reaches-none x reaches
   known-none x (inr walked) = walked-none x walked
 
-  start-stays : (nodes : Nodes) → WalkStays nodes word [] (start config query)
+  pub start-stays : (nodes : Nodes) → WalkStays nodes word [] (start config query)
   start-stays nodes = record {
     live = λ x reaches. absurd (reaches-none x reaches);
     apart = λ i j d below inside. absurd (omega arith);
@@ -147,7 +74,7 @@ module _ (kind : Kind) (core : Core) (step : Step) (a : Acts core step) (names :
   number_of_reader _ = 0
 
   -- other words are as before
-  own-words : (name : Name) → ((p : ℕ) → name ≢ Reader p) → word_of (After kind core step) name ≡ word_of core name
+  pub own-words : (name : Name) → ((p : ℕ) → name ≢ Reader p) → word_of (After kind core step) name ≡ word_of core name
   own-words name other = word-step-other kind core step name (λ e. other step.number (e ∙ names))
 
   other-reader : (number : ℕ) → number ≢ step.number → word_of (After kind core step) (Reader number) ≡ word_of core (Reader number)
@@ -193,11 +120,15 @@ then_odd w none = elim (cases_lt 0 (w % 2)) [ inl odd ↦ absurd (none (omega ar
 then_even : (w : ℕ) → w % 2 ≡ 1 → ¬ ((w + 1) % 2 ^ 64 % 2 ≡ 1)
 then_even w odd h = omega arith
 
+module _ (core : Core) (step : Step) (a : Acts core step) (names : step.name ≡ Reader step.number) where
+  pub begin-still : IsStill begin_walk core step
+  begin-still = record { words = own-words begin_walk core step a names; entry = λ value. refl; task = refl; batches = refl; rebuild = refl }
+
+  pub end-still : IsStill end_walk core step
+  end-still = record { words = own-words end_walk core step a names; entry = λ value. refl; task = refl; batches = refl; rebuild = refl }
+
 module _ (core : Core) (step : Step) (a : Acts core step) (names : step.name ≡ Reader step.number) (one : step.first ≡ 1) where
   -- kind 28
-  begin-still : IsStill begin_walk core step
-  begin-still = record { words = own-words begin_walk core step a names; entry = λ value. refl; call = refl; rebuild = refl }
-
   begin-word : word_of (After begin_walk core step) (Reader step.number) ≡ (word_of core (Reader step.number) + 1) % 2 ^ 64
   begin-word =
       subst (λ (name : Name). word_of (After begin_walk core step) name ≡ (word_of core name + 1) % 2 ^ 64) names
@@ -207,7 +138,7 @@ module _ (core : Core) (step : Step) (a : Acts core step) (names : step.name ≡
   ReadersCounted-begins rests =
       let was : ¬ (word_of core (Reader step.number) % 2 ≡ 1) = λ e. false≢true (sym rests ∙ was-odd begin_walk core step a names e) in
       let odd : word_of (After begin_walk core step) (Reader step.number) % 2 ≡ 1 = subst (λ (w : ℕ). w % 2 ≡ 1) (sym begin-word) (then_odd (word_of core (Reader step.number)) was) in
-      ReadersCounted-still begin_walk core step begin-still a
+      ReadersCounted-still begin_walk core step (begin-still core step a names) a refl
       (record {
         odd = odd-after begin_walk core step a names (λ e. refl, λ on. odd);
         seen = other-reader begin_walk core step a names;
@@ -219,9 +150,6 @@ module _ (core : Core) (step : Step) (a : Acts core step) (names : step.name ≡
       })
 
   -- kind 29
-  end-still : IsStill end_walk core step
-  end-still = record { words = own-words end_walk core step a names; entry = λ value. refl; call = refl; rebuild = refl }
-
   end-word : word_of (After end_walk core step) (Reader step.number) ≡ (word_of core (Reader step.number) + 1) % 2 ^ 64
   end-word =
       subst (λ (name : Name). word_of (After end_walk core step) name ≡ (word_of core name + 1) % 2 ^ 64) names
@@ -231,7 +159,7 @@ module _ (core : Core) (step : Step) (a : Acts core step) (names : step.name ≡
   ReadersCounted-ends walks =
       let was : word_of core (Reader step.number) % 2 ≡ 1 = was-on end_walk core step a names walks in
       let even : ¬ (word_of (After end_walk core step) (Reader step.number) % 2 ≡ 1) = λ h. then_even (word_of core (Reader step.number)) was (subst (λ (w : ℕ). w % 2 ≡ 1) end-word h) in
-      ReadersCounted-still end_walk core step end-still a
+      ReadersCounted-still end_walk core step (end-still core step a names) a refl
       (record {
         odd = odd-after end_walk core step a names (λ e. absurd (even e), λ on. absurd (false≢true on));
         seen = other-reader end_walk core step a names;

@@ -65,8 +65,7 @@ module _ (core : Core) (a : Attaching core) (acts : Acts core (step_of core a)) 
           covered = λ r e inside.
               let same : in_phase In j.body ≡ r = same_Some (in_phase In j.body) r (sym (scene_now i ∙ now) ∙ e) in
               let home = under_slot j.entered.node j.entered.in_batch in
-              subst (λ (b : Record). IsCovered Later (Now attach core (step_of core a)) i b.layer) same
-              (
+              subst (λ (b : Record). IsCovered Later (Now attach core (step_of core a)) i b.layer) same (
                 j.entered.node,
                 j.entered.child,
                 (j.entered.below, inl (word-other core a (LocA i) (λ e. absurd cc) ∙ (j.first ∙ j.entered.at))),

@@ -154,9 +154,10 @@ module _ (kind : Kind) (core : Core) (step : Step) (a : Acts core step) (l : Rel
             let same = eqb-true x.index l.m.index e in
             let one : old ≡ l.batch = marked-once core a.laws.bodies step.seat step.number step.view a.at a.pass old l.batch x l.m inside was l.has.among l.has.marked same in
             let second = (mark-planned core a.formed a.laws step.seat step.number step.view a.at a.pass l.batch l.has.among l.m l.has.marked).1 in
-            subst (IsSettled (f old)) (sym (changed-here l.m.index l.change x same))
-            (subst (λ (d : Batch). IsPlannedIn (sight location_scope (After kind core step)) d (l.change x)) (sym one) (t.planned x same),
-            ap (λ (j : ℕ). word_of (After kind core step) (LocB j)) ((l.keeps x).0 ∙ same) ∙ (stands (LocB l.m.index) refl ∙ second))
+            subst (IsSettled (f old)) (sym (changed-here l.m.index l.change x same)) (
+              subst (λ (d : Batch). IsPlannedIn (sight location_scope (After kind core step)) d (l.change x)) (sym one) (t.planned x same),
+              ap (λ (j : ℕ). word_of (After kind core step) (LocB j)) ((l.keeps x).0 ∙ same) ∙ (stands (LocB l.m.index) refl ∙ second),
+            )
         of_own old x inside was false e =
             subst (IsSettled (f old)) (sym (changed-other l.m.index l.change x e))
             (settled-other old (f old) x refl (λ same. false≢true (sym e ∙ eq-eqb x.index l.m.index same))

@@ -256,7 +256,7 @@ module _ (core : Core) (step : Step) (a : Acts core step) where
       (λ root e. let new = freed-new core step a asked in absurd (omega arith)))
       (freed-changes core step a asked)
 
--- ---- own nodes
+  -- ---- own nodes
 
   pub touches-store_node : MayStoreNode step.view step.name step.first step.second → Touches store_node core step a.laws.nodes a.laws.nodes
   touches-store_node asked =

@@ -169,8 +169,8 @@ module _ (kind : Kind) (core : Core) (step : Step) where
         others = λ n number apart owned. (refl, λ e. none-some n (sym none.0 ∙ e));
         written = λ item among.
             let stored = each-seat tree_scope (λ n v. refl) core
-                (λ n v. (item : Store) → Contains v.written item → IfSome (node_in item.name) (λ m. IsOwnedBy n (nodes.home m) × IsAsStored (sight tree_scope core).word (nodes.home m) item.name item.value))
-                a.laws.trees.stored step.seat step.number step.view a.at a.pass
+            (λ n v. (item : Store) → Contains v.written item → IfSome (node_in item.name) (λ m. IsOwnedBy n (nodes.home m) × IsAsStored (sight tree_scope core).word (nodes.home m) item.name item.value))
+            a.laws.trees.stored step.seat step.number step.view a.at a.pass
             in
             store-stands a nodes index c step.number item (stored item (subst (λ (l : List Store). Contains l item) c.written among));
         held = c.held;
@@ -194,10 +194,12 @@ module _ (kind : Kind) (core : Core) (step : Step) where
       flat-step location_scope (λ n v. refl) kind core step a.at a.pass (λ v. v.batches) batches
       in
       let old = a.laws.locations.held batch m (subst (λ (l : List Batch). Contains l batch) same among) marked in
-      let words = location-words unstored m.index in
-      (subst
-      (λ (x : ℕ). ((m.is_placed ≡ false) × (x ≡ 0)) ⊎ ((m.is_placed ≡ true) × (x ≡ m.place) × ((n k : ℕ) × (k < 4) × (m.place ≡ place n k) × Contains batch.nodes n)))
-      (sym words.0) old.0, words.1 ∙ old.1)
+      let words = location-words unstored m.index in (
+        subst
+            (λ (x : ℕ). ((m.is_placed ≡ false) × (x ≡ 0)) ⊎ ((m.is_placed ≡ true) × (x ≡ m.place) × ((n k : ℕ) × (k < 4) × (m.place ≡ place n k) × Contains batch.nodes n)))
+            (sym words.0) old.0,
+        words.1 ∙ old.1,
+      )
 
   -- ---- the scene after an entry
 

@@ -104,8 +104,7 @@ still_done v w r i calm (inr given) = inr given
 
 pub had_as-grown : (s : Sight) (more : List Made) (from : ℕ) (n : Noted) (box : Sides) → HadAs s from n box → HadAs (record s { history = s.history ++ more }) from n box
 had_as-grown s more from n box h =
-    let longer = length-grown s.history more in
-    (
+    let longer = length-grown s.history more in (
       h.0,
       h.1,
       omega (arith, h.2),
@@ -177,7 +176,7 @@ module _ (kind : Kind) (core : Core) (step : Step) (a : Acts core step) (nodes l
     removed-forth h = (
       h.0,
       has-step cover_scope (λ k v. refl) kind core step a.at a.pass h.0 (λ v. Removes v.call.task i) (λ v. Removes v.call.task i) h.1 (λ seat view apart found own removes. removes)
-      (λ same removes. (task-seen (Last kind core step).call.task i).0.0 (b.removes.0 ((task-seen step.view.call.task i).0.1 removes))),
+          (λ same removes. (task-seen (Last kind core step).call.task i).0.0 (b.removes.0 ((task-seen step.view.call.task i).0.1 removes))),
     )
 
     same_body-forth : (n : Noted) → n.index ≡ i → IsSameBody Old n → IsSameBody Seen n
@@ -325,13 +324,13 @@ module _ (kind : Kind) (core : Core) (step : Step) (a : Acts core step) (nodes l
     rights-forth v w r same calm was = (
       rest-forth r was.rest,
       λ i.
-      let off : IsOff kind core step nodes later i → IsNotedRight later Seen w r i = λ b. off-right r was.fresh v w i (still_done v w r i (calm i b)) b was.rest.merged (was.right i) in
-      elim (bodies i) [
-        | as_it_was b ↦ inr (stays-right r was.fresh v w i (still_done v w r i (same i b).1) b (still_done w v r i (same i b).0) (was.right i))
-        | apart b ↦ inr (off (apart-off fresh i b))
-        | off_trees b ↦ inr (off b)
-        | anew b ↦ inl b
-      ],
+          let off : IsOff kind core step nodes later i → IsNotedRight later Seen w r i = λ b. off-right r was.fresh v w i (still_done v w r i (calm i b)) b was.rest.merged (was.right i) in
+          elim (bodies i) [
+            | as_it_was b ↦ inr (stays-right r was.fresh v w i (still_done v w r i (same i b).1) b (still_done w v r i (same i b).0) (was.right i))
+            | apart b ↦ inr (off (apart-off fresh i b))
+            | off_trees b ↦ inr (off b)
+            | anew b ↦ inl b
+          ],
     )
 
     right-seen : EachUpdate Seen (λ number view r. IsRight view r)
@@ -340,8 +339,7 @@ module _ (kind : Kind) (core : Core) (step : Step) (a : Acts core step) (nodes l
         (λ number view r was. rights-forth (seen_of cover_scope number view) (seen_of cover_scope number view) r (λ i b. (λ x. x, λ x. x)) (λ i b x. x) was)
         (λ r some was.
         rights-forth (seen_of cover_scope step.number step.view) (seen_of cover_scope step.number (Last kind core step)) r
-        (λ i b.
-        (
+        (λ i b. (
           λ x. (task-seen (Last kind core step).call.task i).1.0 (b.places.0 ((task-seen step.view.call.task i).1.1 x)),
           λ x. (task-seen step.view.call.task i).1.0 (b.places.1 ((task-seen (Last kind core step).call.task i).1.1 x)),
         ))

@@ -125,8 +125,7 @@ GuardsHold-set_user =
     guarded MaySetUser set_user
     (λ core step a asked. keeps set_user core step (User asked.index) asked.names
     (λ stored seat number view apart found own.
-    let live = user_live core step a.at a.pass a.formed a.guards a.laws.bodies asked (subst (IsName core.config) asked.names a.named) in
-    (
+    let live = user_live core step a.at a.pass a.formed a.guards a.laws.bodies asked (subst (IsName core.config) asked.names a.named) in (
       unmade core step a asked.index (λ none. false≢true (sym none ∙ live)) seat number view apart found own,
       λ mode holds. absurd (unlocked core step a (λ c. stripe_of c asked.index) asked.stripe seat number view apart found own (mode, holds)),
     )))

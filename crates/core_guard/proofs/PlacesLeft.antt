@@ -93,8 +93,7 @@ module _ (kind : Kind) (core : Core) (step : Step) (a : Acts core step) (later :
     entry = λ n k published below entry location. (location.0, elim (location.1) [ inl e ↦ inl (loc_a ∙ e) | inr e ↦ inr (loc_b ∙ e) ]);
     second = λ n k stands below entry e. loc_b ∙ e;
     planned = λ r noted some among same h.
-        planned-forth kind core step a later New m step.number (seen_of location_scope step.number step.view) (seen_of location_scope step.number (Last kind core step)) r noted
-        (
+        planned-forth kind core step a later New m step.number (seen_of location_scope step.number step.view) (seen_of location_scope step.number (Last kind core step)) r noted (
           λ places. places-seen step.view.call (Last kind core step).call noted.index (subst (λ (j : ℕ). IsPlacing step.view.call.task j → IsPlacing (Last kind core step).call.task j) (sym same) placing.0) places,
           λ places. places-seen (Last kind core step).call step.view.call noted.index (subst (λ (j : ℕ). IsPlacing (Last kind core step).call.task j → IsPlacing step.view.call.task j) (sym same) placing.1) places,
         )
@@ -167,17 +166,19 @@ module _ (kind : Kind) (core : Core) (step : Step) (a : Acts core step) (later :
       where
         one : Call
         one = step.view.call
+
         other : Call
         other = (Last kind core step).call
+
         forth : IsPlacing one.task noted.index ↔ IsPlacing other.task noted.index → IsPlannedAt later Is step.number (seen_of location_scope step.number (Last kind core step)) r noted
         forth t =
             planned-forth kind core step a later New m step.number (seen_of location_scope step.number step.view) (seen_of location_scope step.number (Last kind core step)) r noted
             (places-seen one other noted.index t.0, places-seen other one noted.index t.1) (second-kept noted.index) h
+
         go : BodyLeft kind core step nodes later noted.index → IsPlannedAt later Is step.number (seen_of location_scope step.number (Last kind core step)) r noted
         go (body_stays b) = forth b.places
         go (body_apart b) =
-            forth
-            (
+            forth (
               λ places. absurd (b.alone step.seat step.number step.view a.at a.pass (places-handles one.task noted.index places)),
               λ places. absurd (b.alone_after (places-handles other.task noted.index places)),
             )

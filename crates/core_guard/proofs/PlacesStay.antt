@@ -54,8 +54,7 @@ pub taken-out : (nodes : Nodes) (s : Sight) (v w : View) (i : ℕ) → w.call.st
 taken-out nodes s v w i same h = record {
   out = h.out;
   cleared = λ n k location.
-      let t = h.cleared n k location in
-      (
+      let t = h.cleared n k location in (
         t.0,
         elim (t.1) [
           | inl e ↦ inl e
@@ -147,6 +146,7 @@ held-unhandled s (Removing index) i unheld out held e = go (record_at (scene_in 
   where
     out_held : Out ≡ Held → ⊥
     out_held e = absurd cc
+
     go : (o : Option Record) → IsSomeAnd o (λ r. r.phase ≡ Out) → IsSomeAnd o (λ r. r.phase ≡ Held) → ⊥
     go None h k = h
     go (Some r) h k = out_held (sym h ∙ k)
@@ -344,8 +344,7 @@ module _ (kind : Kind) (core : Core) (step : Step) (a : Acts core step) (later :
       on_its_way = λ x value read.
           let old = p.on_its_way x value read in
           let t = old.1 in
-          let stands = p.climbs_from t.0 t.1 t.3 in
-          (
+          let stands = p.climbs_from t.0 t.1 t.3 in (
             m.parent x (stands-in_tree (nodes.home x) (up-stood t.0 t.1 x t.2 stands t.4)) ∙ old.0,
             (t.0, t.1, t.2, climbs-forth call call.task stay t.0 t.1 t.3, up-forth t.0 t.1 x t.2 stands t.4),
           );

@@ -32,3 +32,4 @@ pub mod Keeping
 pub mod Settled
 pub mod BodiesAside
 pub mod Still
+pub mod Light

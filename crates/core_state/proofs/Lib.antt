@@ -15,3 +15,4 @@ pub mod LockBits
 pub mod Beginning
 pub mod Boxes
 pub mod Quiet
+pub mod Starting

@@ -1,7 +1,7 @@
 -- The readers are counted after a step that leaves nodes where they stand and widens bounds at most, to sides that count.
 use Rattle.std.proofs.Common.{◌≡◌, ◌≢◌, ◌⊎◌, ◌↔◌, ℕ, suc, ◌+◌, ◌%◌, ◌<◌, ◌≤◌, List, [], ◌∷◌, Option, Some, None, length, true, refl, ap, sym, ◌∙◌, subst, inl, inr, arith}
 use Rattle.std.specs.Prelude.{Contains, AllPairs, map, get_or, option_map, IfSome}
-use Rattle.std.proofs.lemmas.Bool.{cases_lt}
+use Rattle.std.proofs.lemmas.Bool.{cases_lt, cases_eq}
 use Rattle.std.proofs.lemmas.List.{get_or_default}
 use Rattle.scene_model.specs.declared.entry.Made.{Made}
 use Rattle.fixed_box.specs.FixBox.{words_of}
@@ -32,7 +32,8 @@ use Rattle.core_state.specs.LocationsHold.{LocationsHold, IsLocation, IsPlannedA
 use Rattle.core_state.specs.Walking.{Query, Spot, resting, at_child, at_bound, Position, waiting, Follows, position_of}
 use Rattle.core_state.specs.ReadersCounted.{ReadersCounted, reader_scope, ReachesByChild, ReachesBySpot, the_node, the_node_of_bound, by_child, by_next_child, by_part, Reaches, by_stack, by_spot, layer_at_hand, waiting_at, AreApart, IsWalkedAt, WalkStays, ReadsInSpace, AvoidsSuperseded, HasSeenOff, ClimbsInTrees, IsPlannedBelow, IsSideOf, IsTight}
 use Rattle.core_state.proofs.Beginning.{body_record, record_body, cases_cons}
-use Rattle.core_guard.proofs.Seats.{each-seat, each-seats, has-seat, each-step, has-step, has-unstep}
+use Rattle.core_state.proofs.Steps.{view-step}
+use Rattle.core_guard.proofs.Seats.{each-seat, each-seats, has-seat, each-step, has-step, has-unstep, seat-has}
 use Rattle.core_guard.proofs.Growing.{point-grown, length-grown, had_in_layer-grown}
 use Rattle.core_guard.proofs.Leaving.{Acts, if_some_map, if_some_both, some_and_map, IsHandled, IsIdle, LeadsWithin, sound-leads, stands-in_tree, After, Last, Stays, Leaves, Touches, above-forth, above-back, each_update, body-forth, live-stands, other-number}
 
@@ -178,13 +179,47 @@ module _ (kind : Kind) (core : Core) (step : Step) (a : Acts core step) (later :
     pub new : (n k l : ℕ) → New n → IsLive (later.home n) → IsOfLayer l (later.home n) → k < 4 → Now.word (Child n k) ≢ 0 → IsInSpace Now l (bound_in Now.word n k)
     pub unmade : (n number l : ℕ) → New n → later.home n ≢ made number l
 
+  abbrev pub Walks : View → Type 0
+  Walks view = view.walk.is_on ≡ true
+
+  abbrev pub IsOdd : Sight → ℕ → Type 0
+  IsOdd s number = s.word (Reader number) % 2 ≡ 1
+
   -- what is to be shown of the own walk and of reader words
   pub record GoesOn : Type 0 where
-    pub odd : (number : ℕ) → (Now.word (Reader number) % 2 ≡ 1) ↔ HasPass Now number (λ view. view.walk.is_on ≡ true)
+    pub odd : IsOdd Old step.number ↔ Walks step.view → IsOdd Now step.number ↔ Walks (Last kind core step)
     pub seen : (number : ℕ) → number ≢ step.number → word_of (After kind core step) (Reader number) ≡ word_of core (Reader number)
     pub stays : WalkIn later Now (Last kind core step).walk
     pub in_space : SpaceIn Now (Last kind core step).walk
     pub avoids : EachUpdate Now (λ number view r. HasSeenOff Now r step.number → AvoidsSuperseded later Now number (Last kind core step).walk)
+
+  -- the own word was odd where the pass walked; so each is odd after the step where its pass walks
+  was-odd : IsOdd Old step.number ↔ Walks step.view
+  was-odd = (
+    λ e.
+        (has-step reader_scope (λ k v. refl) kind core step a.at a.pass step.number Walks (λ v. Walks step.view) ((a.laws.readers.odd step.number).0 e)
+        (λ seat view apart found pass on. absurd (other-number core step a seat step.number view apart found pass refl)) (λ same on. on)).3,
+    λ on. (a.laws.readers.odd step.number).1 (seat-has reader_scope (λ k v. refl) core step.number Walks (record { seat = step.seat; view = step.view; at = a.at; pass = a.pass; holds = on })),
+  )
+
+  odd-after : GoesOn → (number : ℕ) → IsOdd Now number ↔ HasPass Now number Walks
+  odd-after g number =
+      elim (cases_eq number step.number) [
+        | inl same ↦
+            let own = g.odd was-odd in
+            subst (λ (p : ℕ). IsOdd Now p ↔ HasPass Now p Walks) (sym same) (
+              λ e. seat-has reader_scope (λ k v. refl) (After kind core step) step.number Walks
+                  (record { seat = step.seat; view = Last kind core step; at = view-step kind core step a.at; pass = a.pass; holds = own.0 e }),
+              λ has. own.1
+                  (has-unstep reader_scope (λ k v. refl) kind core step a.at a.pass step.number (λ v. Walks (Last kind core step)) Walks has
+                  (λ seat view apart found pass on. absurd (other-number core step a seat step.number view apart found pass refl)) (λ same on. on)).3,
+            )
+        | inr other ↦
+            let word = ap (λ (x : ℕ). x % 2) (g.seen number other) in (
+              λ e. has-step reader_scope (λ k v. refl) kind core step a.at a.pass number Walks Walks ((a.laws.readers.odd number).0 (sym word ∙ e)) (λ seat view apart found pass on. on) (λ same on. absurd (other (sym same))),
+              λ has. word ∙ (a.laws.readers.odd number).1 (has-unstep reader_scope (λ k v. refl) kind core step a.at a.pass number Walks Walks has (λ seat view apart found pass on. on) (λ same on. absurd (other (sym same)))),
+            )
+      ]
 
   -- or that they are the same
   pub record SameWalk : Type 0 where
@@ -365,7 +400,7 @@ module _ (kind : Kind) (core : Core) (step : Step) (a : Acts core step) (later :
       let each = each-step reader_scope (λ k v. refl) kind core step a.at a.pass in
       let updates = each_update kind core step a Before later New m reader_scope (λ k v. refl) update_on_readers (λ bare view. refl) in
       record {
-        odd = g.odd;
+        odd = odd-after g;
         stays = each (λ number v. WalkIn Before Old v.walk) (λ number v. WalkIn later Now v.walk) h.stays (λ seat number view apart found own was. walk-forth view.walk was) (λ was. g.stays);
         in_space = each (λ number v. WalkIn Before Old v.walk × SpaceIn Old v.walk) (λ number v. SpaceIn Now v.walk)
             (λ number v among pass. (h.stays number v among pass, h.in_space number v among pass))
@@ -404,15 +439,9 @@ module _ (kind : Kind) (core : Core) (step : Step) (a : Acts core step) (later :
       let h = a.laws.readers in
       let own = each-seat reader_scope (λ k v. refl) core in
       let stays = own _ h.stays step.seat step.number step.view a.at a.pass in
-      let odd-same : (number : ℕ) → Now.word (Reader number) % 2 ≡ Old.word (Reader number) % 2 = λ number. ap (λ (x : ℕ). x % 2) (w.reader number) in
+      let odd-same : Now.word (Reader step.number) % 2 ≡ Old.word (Reader step.number) % 2 = ap (λ (x : ℕ). x % 2) (w.reader step.number) in
       record {
-        odd = λ number. (
-          λ e. has-step reader_scope (λ k v. refl) kind core step a.at a.pass number (λ v. v.walk.is_on ≡ true) (λ v. v.walk.is_on ≡ true) ((h.odd number).0 (sym (odd-same number) ∙ e))
-              (λ seat view apart found pass on. on) (λ same on. ap (λ (x : Walk). x.is_on) w.walk ∙ on),
-          λ has. odd-same number ∙ (h.odd number).1
-              (has-unstep reader_scope (λ k v. refl) kind core step a.at a.pass number (λ v. v.walk.is_on ≡ true) (λ v. v.walk.is_on ≡ true) has
-              (λ seat view apart found pass on. on) (λ same on. ap (λ (x : Walk). x.is_on) (sym w.walk) ∙ on)),
-        );
+        odd = λ was. (λ e. ap (λ (x : Walk). x.is_on) w.walk ∙ was.0 (sym odd-same ∙ e), λ on. odd-same ∙ was.1 (ap (λ (x : Walk). x.is_on) (sym w.walk) ∙ on));
         seen = λ number other. w.reader number;
         stays = subst (λ (x : Walk). WalkIn later Now x) (sym w.walk) (walk-forth step.view.walk stays);
         in_space = subst (λ (x : Walk). SpaceIn Now x) (sym w.walk) (walk_space-forth c step.view.walk stays (own _ h.in_space step.seat step.number step.view a.at a.pass));

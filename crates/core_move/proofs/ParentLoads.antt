@@ -9,23 +9,18 @@ use Rattle.core_state.specs.declared.item.Load.{Load}
 use Rattle.core_state.specs.declared.view.Task.{Task}
 use Rattle.core_state.specs.Log.{word}
 use Rattle.core_state.specs.Core.{Core, word_of}
-use Rattle.core_state.specs.Kind.{Kind, Step, found_by, view_after, after_step}
+use Rattle.core_state.specs.Kind.{Kind, Step, found_by, after_step}
 use Rattle.core_state.specs.Moving.{IsKnownLocation, MayLoadParentMoving, load_parent_moving}
 use Rattle.core_state.specs.Nodes.{Nodes, Above}
 use Rattle.core_state.specs.Parts.{call_by_task}
-use Rattle.core_state.specs.Scope.{Scope, Sight, IsSameTo, sight, bare_view}
-use Rattle.core_state.specs.LocksAgree.{LocksAgreeIn, lock_scope}
-use Rattle.core_state.specs.BodiesAgree.{BodiesAgreeIn, body_scope}
-use Rattle.core_state.specs.NodesInOnePlace.{NodesInOnePlaceIn, node_scope}
-use Rattle.core_state.specs.TreesSound.{TreesSoundIn, tree_scope}
+use Rattle.core_state.specs.Scope.{Sight, sight}
 use Rattle.core_state.specs.LocationsHold.{LocationsHold, location_scope, IsLocation, ClimbsFrom, IsOnItsWay}
-use Rattle.core_state.specs.BodiesCovered.{BodiesCoveredIn, cover_scope}
 use Rattle.core_state.specs.WalksLead.{WalksLeadIn, walk_scope}
 use Rattle.core_state.specs.ReadersCounted.{ReadersCountedIn, reader_scope}
 use Rattle.core_state.specs.Invariants.{Invariants}
-use Rattle.core_state.proofs.Frames.{frame, step-same}
 use Rattle.core_state.proofs.Guarding.{GuardsHold-load}
 use Rattle.core_state.proofs.Opening.{only}
+use Rattle.core_guard.proofs.Light.{IsLight, Invariants-light, law-kept}
 use Rattle.core_guard.proofs.Leaving.{Acts, After, Last}
 use Rattle.core_guard.proofs.PlacesStay.{acting}
 use Rattle.core_guard.proofs.PlacesLeft.{SeenUpdate}
@@ -77,26 +72,13 @@ module _ (index : ℕ) (core : Core) (step : Step) (a : Acts core step) (asked :
   LocationsHold-loads =
       LocationsHold-loaded kind core step still a new_load (ap (λ (t : Task). call_by_task t step.view.call) asked.task) (ap (λ (t : Task). call_by_task t (Last kind core step).call) asked.task) on_way
 
-  -- ---- the other laws do not see it
-
-  unseen : (scope : Scope) → scope.part (bare_view step.number) (view_after kind core step) ≡ scope.part (bare_view step.number) step.view → IsSameTo scope core (after_step kind core step)
-  unseen scope part = step-same scope kind core step a.at a.pass (record { name = λ stored. absurd (false≢true stored); entry = λ reads value. refl; part = part })
+  light : IsLight kind core step
+  light = record { reader = λ stored. absurd (false≢true stored); entry = λ value. refl; locks = refl; bodies = refl; nodes = refl; trees = refl; cover = refl }
 
   Invariants-loads : Invariants (after_step kind core step)
   Invariants-loads =
-      let h = a.laws in
-      let after = after_step kind core step in
-      record {
-        nodes = nodes;
-        locks = frame lock_scope LocksAgreeIn core after (unseen lock_scope refl) h.locks;
-        bodies = frame body_scope BodiesAgreeIn core after (unseen body_scope refl) h.bodies;
-        places = frame node_scope (NodesInOnePlaceIn nodes) core after (unseen node_scope refl) h.places;
-        trees = frame tree_scope (TreesSoundIn nodes) core after (unseen tree_scope refl) h.trees;
-        locations = LocationsHold-loads;
-        cover = frame cover_scope (BodiesCoveredIn nodes) core after (unseen cover_scope refl) h.cover;
-        walks = frame walk_scope WalksLeadIn core after (unseen walk_scope refl) h.walks;
-        readers = frame reader_scope (ReadersCountedIn nodes) core after (unseen reader_scope refl) h.readers;
-      }
+      Invariants-light kind core step a light LocationsHold-loads (law-kept kind core step a light walk_scope WalksLeadIn (λ stored. absurd (false≢true stored)) refl a.laws.walks)
+      (law-kept kind core step a light reader_scope (ReadersCountedIn nodes) (λ stored. absurd (false≢true stored)) refl a.laws.readers)
 
 -- ---- kind 36
 

@@ -1,7 +1,7 @@
 -- The beginning and the end of a walk: the own reader word turns odd or even. A walk that begins has read nothing and has all
 -- that it has to find ahead of it; of one that has ended nothing is said.
-use Rattle.std.proofs.Common.{◌≡◌, ◌≢◌, ◌⊎◌, ◌↔◌, ℕ, ◌+◌, ◌%◌, ◌^◌, ◌≤◌, List, [], true, false, None, length, refl, ap, sym, ◌∙◌, subst, inl, inr, arith}
-use Rattle.std.proofs.lemmas.Bool.{cases_eq, cases_lt, cases_Bool, false≢true}
+use Rattle.std.proofs.Common.{◌≡◌, ◌≢◌, ◌⊎◌, ◌↔◌, ℕ, ◌+◌, ◌%◌, ◌^◌, List, [], true, false, None, length, refl, ap, sym, ◌∙◌, subst, inl, inr, arith}
+use Rattle.std.proofs.lemmas.Bool.{cases_lt, false≢true}
 use Rattle.std.proofs.lemmas.Option.{same_Some}
 use Rattle.word_map.specs.declared.name.Name.{Name}
 use Rattle.word_map.specs.declared.name.Name.TheVariants.{Reader}
@@ -11,9 +11,8 @@ use Rattle.core_state.specs.declared.view.Walk.{Walk}
 use Rattle.core_state.specs.Log.{history}
 use Rattle.core_state.specs.Core.{Core, word_of}
 use Rattle.core_state.specs.View.{IsPass}
-use Rattle.core_state.specs.Operation.{fetch_add}
-use Rattle.core_state.specs.Kind.{Kind, Step, learned, found_by}
-use Rattle.core_state.specs.Scope.{Sight, sight, word_in, HasPass}
+use Rattle.core_state.specs.Kind.{Kind, Step, learned, found_by, left_by}
+use Rattle.core_state.specs.Scope.{Sight, sight, word_in}
 use Rattle.core_state.specs.Walking.{Query, start, position_of}
 use Rattle.core_state.specs.Guards.{KeepsGuards}
 use Rattle.core_state.specs.Walks.{MayBegin, begin_walk, MayEnd, end_walk, new_walk}
@@ -23,11 +22,10 @@ use Rattle.core_state.specs.ReadersCounted.{ReadersCounted, reader_scope, Reache
 use Rattle.core_state.specs.Invariants.{Invariants}
 use Rattle.core_state.proofs.Beginning.{due_ahead}
 use Rattle.core_state.proofs.Starting.{start-stays, start-space, known-none, main_last}
-use Rattle.core_state.proofs.Steps.{word-step, word-step-other, view-step}
-use Rattle.core_guard.proofs.Seats.{seat-has, has-step, has-unstep}
-use Rattle.core_guard.proofs.Leaving.{Acts, After, Last, other-number}
+use Rattle.core_state.proofs.Steps.{word-step, word-step-other}
+use Rattle.core_guard.proofs.Leaving.{Acts, After, Last}
 use Rattle.core_guard.proofs.ReadersLeft.{some-all}
-use Rattle.core_guard.proofs.WalksLeft.{WalksLead-goes_on, walk-left, longer, begun-left, LeadsOn}
+use Rattle.core_guard.proofs.WalksLeft.{WalksLead-goes_on, walk-left, longer, begun-left}
 use Rattle.core_guard.proofs.Still.{IsStill, still-leaves, still-boxes, ReadersCounted-still}
 use Rattle.core_guard.proofs.Light.{KeepsPart, IsLight, Invariants-light, law-kept, unread}
 use Rattle.core_guard.proofs.Holders.{IsGuarded, guarded, keeps}
@@ -57,7 +55,7 @@ record Turns (kind : Kind) (core : Core) (step : Step) : Type 0 where
   call : (Last kind core step).call ≡ step.view.call
   batches : (Last kind core step).batches ≡ step.view.batches
   rebuild : (Last kind core step).rebuild ≡ step.view.rebuild
-  adds : word_of (After kind core step) step.name ≡ (word_of core step.name + 1) % 2 ^ 64
+  adds : left_by kind core step ≡ (found_by core step + 1) % 2 ^ 64
   turned : ((step.view.walk.is_on ≡ false) × ((Last kind core step).walk.is_on ≡ true)) ⊎ ((step.view.walk.is_on ≡ true) × ((Last kind core step).walk.is_on ≡ false))
   fresh : (Last kind core step).walk.is_on ≡ true → (Last kind core step).walk.loads ≡ []
 
@@ -83,38 +81,14 @@ module _ (kind : Kind) (core : Core) (step : Step) (a : Acts core step) (t : Tur
   other-reader : (number : ℕ) → number ≢ step.number → word_of (After kind core step) (Reader number) ≡ word_of core (Reader number)
   other-reader number other = word-step-other kind core step (Reader number) (λ e. other (ap number_of_reader (e ∙ t.names)))
 
-  -- the own word is odd where the pass walks: before
-  was : (word_of core step.name % 2 ≡ 1) ↔ Walks step.view
-  was = subst (λ (name : Name). (word_of core name % 2 ≡ 1) ↔ Walks step.view) (sym t.names) (
-    λ e.
-        (has-step reader_scope (λ k v. refl) kind core step a.at a.pass step.number Walks (λ v. Walks step.view) ((a.laws.readers.odd step.number).0 e)
-        (λ seat view apart found pass on. absurd (other-number core step a seat step.number view apart found pass refl)) (λ same on. on)).3,
-    λ on. (a.laws.readers.odd step.number).1 (seat-has reader_scope (λ k v. refl) core step.number Walks (record { seat = step.seat; view = step.view; at = a.at; pass = a.pass; holds = on })),
-  )
+  adds : word_of (After kind core step) (Reader step.number) ≡ (word_of core (Reader step.number) + 1) % 2 ^ 64
+  adds = subst (λ (name : Name). word_of (After kind core step) name ≡ (word_of core name + 1) % 2 ^ 64) t.names (word-step kind core step ∙ t.adds)
 
-  -- and after
-  own : (word_of (After kind core step) step.name % 2 ≡ 1) ↔ (walk.is_on ≡ true)
-  own =
+  odd : (word_of core (Reader step.number) % 2 ≡ 1) ↔ Walks step.view → (word_of (After kind core step) (Reader step.number) % 2 ≡ 1) ↔ Walks (Last kind core step)
+  odd was =
       elim (t.turned) [
-        | inl on ↦ (λ e. on.1, λ h. subst (λ (w : ℕ). w % 2 ≡ 1) (sym t.adds) (then_odd (word_of core step.name) (λ e. false≢true (sym on.0 ∙ was.0 e))))
-        | inr off ↦ (λ e. absurd (then_even (word_of core step.name) (was.1 off.0) (subst (λ (w : ℕ). w % 2 ≡ 1) t.adds e)), λ h. absurd (false≢true (sym off.1 ∙ h)))
-      ]
-
-  odd : (number : ℕ) → (Now.word (Reader number) % 2 ≡ 1) ↔ HasPass Now number Walks
-  odd number =
-      elim (cases_eq number step.number) [
-        | inl same ↦ subst (λ (p : ℕ). (Now.word (Reader p) % 2 ≡ 1) ↔ HasPass Now p Walks) (sym same) (
-          λ e. seat-has reader_scope (λ k v. refl) (After kind core step) step.number Walks
-              (record { seat = step.seat; view = Last kind core step; at = view-step kind core step a.at; pass = a.pass; holds = own.0 (subst (λ (name : Name). word_of (After kind core step) name % 2 ≡ 1) (sym t.names) e) }),
-          λ has. subst (λ (name : Name). word_of (After kind core step) name % 2 ≡ 1) t.names
-              (own.1 (has-unstep reader_scope (λ k v. refl) kind core step a.at a.pass step.number (λ v. walk.is_on ≡ true) Walks has
-              (λ seat view apart found pass on. absurd (other-number core step a seat step.number view apart found pass refl)) (λ same on. on)).3),
-        )
-        | inr other ↦
-            let word = ap (λ (x : ℕ). x % 2) (other-reader number other) in (
-              λ e. has-step reader_scope (λ k v. refl) kind core step a.at a.pass number Walks Walks ((a.laws.readers.odd number).0 (sym word ∙ e)) (λ seat view apart found pass on. on) (λ same on. absurd (other (sym same))),
-              λ has. word ∙ (a.laws.readers.odd number).1 (has-unstep reader_scope (λ k v. refl) kind core step a.at a.pass number Walks Walks has (λ seat view apart found pass on. on) (λ same on. absurd (other (sym same)))),
-            )
+        | inl on ↦ (λ e. on.1, λ h. subst (λ (w : ℕ). w % 2 ≡ 1) (sym adds) (then_odd (word_of core (Reader step.number)) (λ e. false≢true (sym on.0 ∙ was.0 e))))
+        | inr off ↦ (λ e. absurd (then_even (word_of core (Reader step.number)) (was.1 off.0) (subst (λ (w : ℕ). w % 2 ≡ 1) adds e)), λ h. absurd (false≢true (sym off.1 ∙ h)))
       ]
 
   -- what is said of a walk is so of one that has read nothing
@@ -151,7 +125,7 @@ module _ (core : Core) (step : Step) (a : Acts core step) (asked : MayBegin step
     call = refl;
     batches = refl;
     rebuild = refl;
-    adds = word-step begin_walk core step ∙ ap (λ (n : ℕ). (found_by core step + n) % 2 ^ 64) asked.one;
+    adds = ap (λ (n : ℕ). (found_by core step + n) % 2 ^ 64) asked.one;
     turned = inl (asked.rests, refl);
     fresh = λ on. refl;
   }
@@ -190,7 +164,7 @@ module _ (core : Core) (step : Step) (a : Acts core step) (asked : MayEnd step.v
     call = refl;
     batches = refl;
     rebuild = refl;
-    adds = word-step end_walk core step ∙ ap (λ (n : ℕ). (found_by core step + n) % 2 ^ 64) asked.one;
+    adds = ap (λ (n : ℕ). (found_by core step + n) % 2 ^ 64) asked.one;
     turned = inr (asked.walks, refl);
     fresh = λ on. absurd (false≢true on);
   }

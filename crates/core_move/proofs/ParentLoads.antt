@@ -11,10 +11,10 @@ use Rattle.core_state.specs.Log.{word}
 use Rattle.core_state.specs.Core.{Core, word_of}
 use Rattle.core_state.specs.Kind.{Kind, Step, found_by, after_step}
 use Rattle.core_state.specs.Moving.{IsKnownLocation, MayLoadParentMoving, load_parent_moving}
-use Rattle.core_state.specs.Nodes.{Nodes, Above}
+use Rattle.core_state.specs.Nodes.{Above}
 use Rattle.core_state.specs.Parts.{call_by_task}
 use Rattle.core_state.specs.Scope.{Sight, sight}
-use Rattle.core_state.specs.LocationsHold.{LocationsHold, location_scope, IsLocation, ClimbsFrom, IsOnItsWay}
+use Rattle.core_state.specs.LocationsHold.{location_scope, IsLocation, ClimbsFrom, IsOnItsWay}
 use Rattle.core_state.specs.WalksLead.{WalksLeadIn, walk_scope}
 use Rattle.core_state.specs.ReadersCounted.{ReadersCountedIn, reader_scope}
 use Rattle.core_state.specs.Invariants.{Invariants}
@@ -37,9 +37,6 @@ node_of_parent _ = 0
 module _ (index : ℕ) (core : Core) (step : Step) (a : Acts core step) (asked : MayLoadParentMoving index step.view step.name step.first step.second) where
   abbrev kind : Kind
   kind = load_parent_moving index
-
-  abbrev nodes : Nodes
-  nodes = a.laws.nodes
 
   abbrev Is : Sight
   Is = sight location_scope (After kind core step)
@@ -65,20 +62,17 @@ module _ (index : ℕ) (core : Core) (step : Step) (a : Acts core step) (asked :
       let e = only new_load (record { name = Parent m; value = value }) h in
       let name = ap (λ (l : Load). l.name) e in
       let node : asked.node ≡ m = ap node_of_parent (sym asked.names ∙ name) in
-      let t = come-on_way nodes Is (SeenUpdate kind core step) step.view.call p (IsKnownLocation step.view index) begins (record step.view.call { loads = new_load ∷ [] }) asked.node asked.child asked.come in
+      let t = come-on_way a.laws.nodes Is (SeenUpdate kind core step) step.view.call p (IsKnownLocation step.view index) begins (record step.view.call { loads = new_load ∷ [] }) asked.node asked.child asked.come in
       (same_word (Parent m) ∙ (ap (λ (x : Name). word_of core x) (sym name) ∙ ap (λ (l : Load). l.value) e), (t.0, t.1, t.2, t.3, subst (λ (x : ℕ). Above Is.word t.0 t.1 x t.2) node t.4))
-
-  LocationsHold-loads : LocationsHold nodes (After kind core step)
-  LocationsHold-loads =
-      LocationsHold-loaded kind core step still a new_load (ap (λ (t : Task). call_by_task t step.view.call) asked.task) (ap (λ (t : Task). call_by_task t (Last kind core step).call) asked.task) on_way
 
   light : IsLight kind core step
   light = record { reader = λ stored. absurd (false≢true stored); entry = λ value. refl; locks = refl; bodies = refl; nodes = refl; trees = refl; cover = refl }
 
   Invariants-loads : Invariants (after_step kind core step)
   Invariants-loads =
-      Invariants-light kind core step a light LocationsHold-loads (law-kept kind core step a light walk_scope WalksLeadIn (λ stored. absurd (false≢true stored)) refl a.laws.walks)
-      (law-kept kind core step a light reader_scope (ReadersCountedIn nodes) (λ stored. absurd (false≢true stored)) refl a.laws.readers)
+      let locations = LocationsHold-loaded kind core step still a new_load (ap (λ (t : Task). call_by_task t step.view.call) asked.task) (ap (λ (t : Task). call_by_task t (Last kind core step).call) asked.task) on_way in
+      Invariants-light kind core step a light locations (law-kept kind core step a light walk_scope WalksLeadIn (λ stored. absurd (false≢true stored)) refl a.laws.walks)
+      (law-kept kind core step a light reader_scope (ReadersCountedIn a.laws.nodes) (λ stored. absurd (false≢true stored)) refl a.laws.readers)
 
 -- ---- kind 36
 

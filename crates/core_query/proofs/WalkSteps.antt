@@ -6,8 +6,6 @@ use Rattle.std.proofs.lemmas.Option.{same_Some}
 use Rattle.word_map.specs.declared.name.Name.{Name}
 use Rattle.word_map.specs.declared.name.Name.TheVariants.{Reader}
 use Rattle.core_state.specs.declared.item.Load.{Load}
-use Rattle.core_state.specs.declared.view.View.{View}
-use Rattle.core_state.specs.declared.view.Walk.{Walk}
 use Rattle.core_state.specs.Log.{history}
 use Rattle.core_state.specs.Core.{Core, word_of}
 use Rattle.core_state.specs.View.{IsPass}
@@ -39,9 +37,6 @@ own-reader core step a number names pass = names ∙ ap (λ (p : ℕ). Reader p)
 then_odd : (w : ℕ) → ¬ (w % 2 ≡ 1) → (w + 1) % 2 ^ 64 % 2 ≡ 1
 then_odd w none = elim (cases_lt 0 (w % 2)) [ inl odd ↦ absurd (none (omega arith)) | inr even ↦ omega arith ]
 
-then_even : (w : ℕ) → w % 2 ≡ 1 → ¬ ((w + 1) % 2 ^ 64 % 2 ≡ 1)
-then_even w odd h = omega arith
-
 abbrev number_of_reader : Name → ℕ
 number_of_reader (Reader p) = p
 number_of_reader _ = 0
@@ -63,12 +58,6 @@ module _ (kind : Kind) (core : Core) (step : Step) (a : Acts core step) (t : Tur
   abbrev Now : Sight
   Now = sight reader_scope (After kind core step)
 
-  abbrev walk : Walk
-  walk = (Last kind core step).walk
-
-  abbrev Walks : View → Type 0
-  Walks view = view.walk.is_on ≡ true
-
   still : IsStill kind core step
   still = record {
     words = λ name other. word-step-other kind core step name (λ e. other step.number (e ∙ t.names));
@@ -84,15 +73,15 @@ module _ (kind : Kind) (core : Core) (step : Step) (a : Acts core step) (t : Tur
   adds : word_of (After kind core step) (Reader step.number) ≡ (word_of core (Reader step.number) + 1) % 2 ^ 64
   adds = subst (λ (name : Name). word_of (After kind core step) name ≡ (word_of core name + 1) % 2 ^ 64) t.names (word-step kind core step ∙ t.adds)
 
-  odd : (word_of core (Reader step.number) % 2 ≡ 1) ↔ Walks step.view → (word_of (After kind core step) (Reader step.number) % 2 ≡ 1) ↔ Walks (Last kind core step)
+  odd : (word_of core (Reader step.number) % 2 ≡ 1) ↔ (step.view.walk.is_on ≡ true) → (word_of (After kind core step) (Reader step.number) % 2 ≡ 1) ↔ ((Last kind core step).walk.is_on ≡ true)
   odd was =
       elim (t.turned) [
         | inl on ↦ (λ e. on.1, λ h. subst (λ (w : ℕ). w % 2 ≡ 1) (sym adds) (then_odd (word_of core (Reader step.number)) (λ e. false≢true (sym on.0 ∙ was.0 e))))
-        | inr off ↦ (λ e. absurd (then_even (word_of core (Reader step.number)) (was.1 off.0) (subst (λ (w : ℕ). w % 2 ≡ 1) adds e)), λ h. absurd (false≢true (sym off.1 ∙ h)))
+        | inr off ↦ (λ e. let odd = was.1 off.0 in let more = subst (λ (w : ℕ). w % 2 ≡ 1) adds e in absurd (omega arith), λ h. absurd (false≢true (sym off.1 ∙ h)))
       ]
 
   -- what is said of a walk is so of one that has read nothing
-  of_start : (P : Query → List Load → Type 0) → ((query : Query) → P query []) → walk.is_on ≡ true → (query : Query) → P query walk.loads
+  of_start : (P : Query → List Load → Type 0) → ((query : Query) → P query []) → (Last kind core step).walk.is_on ≡ true → (query : Query) → P query (Last kind core step).walk.loads
   of_start P h on query = subst (P query) (sym (t.fresh on)) (h query)
 
   readers : ReadersCounted a.laws.nodes (After kind core step)

@@ -6,7 +6,7 @@ use Rattle.core_state.specs.View.{IsPass}
 use Rattle.core_state.specs.Kind.{Step, after_step}
 use Rattle.core_state.specs.Batches.{MayAttach, attach}
 use Rattle.core_state.specs.Invariants.{Invariants}
-use Rattle.core_guard.proofs.Leaving.{Acts}
+use Rattle.core_guard.proofs.Leaving.{Acts, lawful}
 use Rattle.core_guard.proofs.LockSteps.{LocksAgree-other}
 use Rattle.core_guard.proofs.Touched.{IsKept}
 use Rattle.core_batch.proofs.Attaching.{Attaching, step_of}
@@ -25,7 +25,7 @@ attached core a acts =
     let leaves = attach-leaves core a acts.formed h in
     record {
       nodes = nodes_after h.nodes core a;
-      locks = LocksAgree-other core (step_of core a) acts attach refl refl;
+      locks = LocksAgree-other core (step_of core a) (lawful acts) attach refl refl;
       bodies = BodiesAgree-attach core a acts.formed h acts.guards;
       places = NodesInOnePlace-attach core a acts;
       trees = TreesSound-attach core a acts;

@@ -12,7 +12,7 @@ use Rattle.core_state.specs.NodesInOnePlace.{NodesInOnePlace, node_scope}
 use Rattle.core_state.specs.Batches.{attach, batch_nodes_of}
 use Rattle.core_state.specs.Invariants.{Invariants}
 use Rattle.core_state.proofs.Beginning.{contains_flat}
-use Rattle.core_guard.proofs.Leaving.{Acts}
+use Rattle.core_guard.proofs.Leaving.{Acts, lawful}
 use Rattle.core_guard.proofs.NodesLeft.{KeepsHomes, unseen-pool, unseen-update, pool-stays, tree-part, together, seen-nodes, flat_from}
 use Rattle.core_guard.proofs.Seats.{each-seat}
 use Rattle.core_batch.proofs.Lists.{pairs-left, pairs-across, flat-once, IsPartOf, part-refl, part-contains, part-pairs, part-append, part-flat}
@@ -114,10 +114,10 @@ module _ (core : Core) (a : Attaching core) (acts : Acts core (step_of core a)) 
   pub NodesInOnePlace-attach : NodesInOnePlace Later (core_after core a)
   NodesInOnePlace-attach =
       together (core_after core a) Later
-      (pool-stays attach core (step_of core a) acts Later
+      (pool-stays attach core (step_of core a) (lawful acts) Later
       (λ n. (
         λ e. (home-forth core a acts.formed h (λ x. x ≡ free) n (λ e. absurd cc) e).1,
         λ e. (home-back h.nodes core a (λ x. x ≡ free) n (λ e. absurd cc) e).1,
       ))
       (unseen-pool attach core (step_of core a) refl refl (λ pooling holds. holds)))
-      (owner-part attach core (step_of core a) acts Later owns) (tree-part attach core (step_of core a) acts (unseen-update attach core (step_of core a) refl refl) Later attach-keeps)
+      (owner-part attach core (step_of core a) acts Later owns) (tree-part attach core (step_of core a) (lawful acts) (unseen-update attach core (step_of core a) refl refl) Later attach-keeps)

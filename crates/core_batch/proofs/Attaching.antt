@@ -23,7 +23,7 @@ use Rattle.core_state.specs.Space.{IsInHull}
 use Rattle.core_state.specs.Kind.{Step}
 use Rattle.core_state.specs.Formed.{IsFormed}
 use Rattle.core_state.specs.Guards.{GuardsHold, by_node}
-use Rattle.core_state.specs.Nodes.{owned, node_in, nodes_of, Above, here, higher}
+use Rattle.core_state.specs.Nodes.{owned, node_in, Above, here, higher}
 use Rattle.core_state.specs.Scope.{Sight, sight, scene_in}
 use Rattle.core_state.specs.Bodies.{MovesBody, HasWholeBox, IsBetweenBoxes, IsForSlot, AreOtherSlots, all_batches}
 use Rattle.core_state.specs.BodiesAgree.{body_scope, IsHeldFor}

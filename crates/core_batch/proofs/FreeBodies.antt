@@ -25,7 +25,7 @@ use Rattle.core_state.proofs.Opening.{none_in}
 use Rattle.core_state.proofs.SameNames.{cases_name}
 use Rattle.core_state.proofs.Steps.{word-step, word-step-other}
 use Rattle.core_guard.proofs.BodiesStep.{same-locks, HoldsSlot}
-use Rattle.core_guard.proofs.Leaving.{Acts}
+use Rattle.core_guard.proofs.Leaving.{Acts, lawful}
 use Rattle.core_guard.proofs.Seats.{has-seat, SeatAfter, stepped, stayed, seat-after, seat_seen}
 use Rattle.core_batch.proofs.BatchesStep.{ChangesBatches, Past, batch-part, slot-kept}
 use Rattle.core_guard.proofs.BodiesAside.{IsAside, IsAsideWord, same_calls, PhasesKept, BodiesAgree-aside}
@@ -140,7 +140,7 @@ module _ (core : Core) (step : Step) (a : Acts core step) (asked : MayLetSlotGo 
       let same_batch = slot_batch all l t u.0 asked.batch a.laws.bodies.slots u.2 (own_among asked.batch asked.has.among) (layer, slot) asked.has.for_slot in
       none_in _ (subst (λ (m : List Marked). Contains m u.1) (ap (λ (b : Batch). b.marked) same_batch ∙ asked.bare) u.3)
 
-  phases : PhasesKept let_slot_go core step a leaves
+  phases : PhasesKept let_slot_go core step (lawful a) leaves
   phases i r e old =
       let word = word_of core (Phase i) in
       phase-or word (word_of core (Slot r.layer (word - 2))) (word_of After (Slot r.layer (word - 2))) r.phase
@@ -202,6 +202,6 @@ module _ (core : Core) (step : Step) (a : Acts core step) (asked : MayLetSlotGo 
 
   pub BodiesAgree-let_slot_go : BodiesAgree After
   BodiesAgree-let_slot_go =
-      BodiesAgree-aside let_slot_go core step a leaves phases
+      BodiesAgree-aside let_slot_go core step (lawful a) leaves phases
       (batch-part let_slot_go core step a freed-changes (λ i. word-step-other let_slot_go core step (Phase i) (λ same. let e = same ∙ asked.names in absurd cc))
       (λ i k. word-step-other let_slot_go core step (BoxWord i k) (λ same. let e = same ∙ asked.names in absurd cc)) held_slots)

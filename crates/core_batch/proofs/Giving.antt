@@ -23,7 +23,7 @@ use Rattle.core_state.specs.Scope.{Sight, sight, IsOnce}
 use Rattle.core_state.proofs.Beginning.{cases_cons, contains_filter, contains_first}
 use Rattle.core_state.proofs.Steps.{word-step, word-step-other}
 use Rattle.core_guard.proofs.Chains.{chain-kept, chain-front}
-use Rattle.core_guard.proofs.Leaving.{Acts}
+use Rattle.core_guard.proofs.Leaving.{Acts, lawful}
 use Rattle.core_guard.proofs.NodesLeft.{PoolPart, KeepsHomes, LeavesUpdate, tree-part, pool-part, pool-own, pool-idle, together, seen-nodes}
 use Rattle.core_guard.proofs.Seats.{seen_of, each-seat}
 use Rattle.core_batch.proofs.Lists.{contains_later, filter_from, pairs-cons, pairs-left, pairs-right, pairs-across, pairs-append}
@@ -242,7 +242,7 @@ module _ (core : Core) (step : Step) (a : Acts core step) (asked : MayStorePoolH
   }
 
   pub NodesInOnePlace-given : NodesInOnePlace later After
-  NodesInOnePlace-given = together After later pool (owner-part store_pool_head core step a later given-owns) (tree-part store_pool_head core step a update later given-keeps)
+  NodesInOnePlace-given = together After later pool (owner-part store_pool_head core step a later given-owns) (tree-part store_pool_head core step (lawful a) update later given-keeps)
 
 -- ---- both
 

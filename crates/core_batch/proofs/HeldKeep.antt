@@ -7,7 +7,7 @@ use Rattle.core_state.specs.LocksAgree.{LocksAgree}
 use Rattle.core_state.specs.BodiesAgree.{BodiesAgree}
 use Rattle.core_state.specs.NodesInOnePlace.{node_scope}
 use Rattle.core_state.specs.Invariants.{Invariants}
-use Rattle.core_guard.proofs.Leaving.{Acts, Touches}
+use Rattle.core_guard.proofs.Leaving.{Acts, lawful, Touches}
 use Rattle.core_guard.proofs.NodesLeft.{NodesInOnePlace-rebatched}
 use Rattle.core_guard.proofs.Touched.{Invariants-touches, IsKept, kept}
 use Rattle.core_batch.proofs.HeldFacts.{Rebatches}
@@ -20,7 +20,7 @@ rebatched : (kind : Kind) (core : Core) (step : Step) (a : Acts core step) → n
     → LocksAgree (after_step kind core step) → BodiesAgree (after_step kind core step) → Invariants (after_step kind core step)
 rebatched kind core step a hidden r touches locks bodies =
     Invariants-touches kind core step a a.laws.nodes touches locks bodies
-    (NodesInOnePlace-rebatched kind core step a hidden r.locks r.call r.nodes r.loose r.rebuild)
+    (NodesInOnePlace-rebatched kind core step (lawful a) hidden r.locks r.call r.nodes r.loose r.rebuild)
 
 pub Invariants-mark : IsKept MayMark mark
 Invariants-mark = kept MayMark mark

@@ -39,7 +39,7 @@ use Rattle.core_state.proofs.SameNames.{and_left, and_right}
 use Rattle.core_guard.proofs.Scenes.{live_or_dead, state-tells_live}
 use Rattle.core_guard.proofs.BodiesStep.{sound, known-now, out_phase, BatchPart}
 use Rattle.core_guard.proofs.LockSteps.{LocksAgree-other}
-use Rattle.core_guard.proofs.Leaving.{Acts, IsHandled, After, Touches}
+use Rattle.core_guard.proofs.Leaving.{Acts, lawful, IsHandled, After, Touches}
 use Rattle.core_guard.proofs.BodyTouch.{body_of, touches-body, location-words, record-made, stripe-alone, IsBare, bare-apart}
 use Rattle.core_guard.proofs.LivesTouch.{out_unseen, out-places}
 use Rattle.core_batch.proofs.Lists.{contains_at, pairs-cons, pairs-none, pairs-at, pairs-append, flat-own, flat-across, flat-pairs}
@@ -347,7 +347,7 @@ module _ (core : Core) (step : Step) (a : Acts core step) (asked : MayMark step.
       phase-agree mark core step a.at a.pass a.laws.bodies asked.index asked.names (Mark asked.index) Held (λ scene. refl) body.0 body.1 call locks refl says (omega arith) refl (ap mark_of asked.names) (mark-out, tt) batches
 
   pub LocksAgree-mark : LocksAgree (after_step mark core step)
-  LocksAgree-mark = LocksAgree-other core step a mark (ap (λ (n : Name). lock_scope.names n) asked.names) locks
+  LocksAgree-mark = LocksAgree-other core step (lawful a) mark (ap (λ (n : Name). lock_scope.names n) asked.names) locks
 
   -- ---- the laws of trees and of places
 

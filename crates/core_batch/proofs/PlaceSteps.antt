@@ -26,7 +26,7 @@ use Rattle.core_state.specs.BodiesAgree.{BodiesAgree}
 use Rattle.core_state.specs.LocationsHold.{IsPlannedIn, location_scope}
 use Rattle.core_state.proofs.Steps.{word-step, word-step-other}
 use Rattle.core_guard.proofs.LockSteps.{LocksAgree-other}
-use Rattle.core_guard.proofs.Leaving.{Acts, IsHandled, IsApart, After, Touches, scene-plain}
+use Rattle.core_guard.proofs.Leaving.{Acts, lawful, IsHandled, IsApart, After, Touches, scene-plain}
 use Rattle.core_guard.proofs.BodyTouch.{body_of, touches-body}
 use Rattle.core_guard.proofs.Scenes.{none_here}
 use Rattle.core_batch.proofs.Lists.{map_from}
@@ -85,7 +85,7 @@ module _ (kind : Kind) (core : Core) (step : Step) (a : Acts core step) (l : Rel
   bodies = placed-agree kind core step a.at a.pass a.laws.bodies l.m.index l.names l.plain relocates.call relocates.locks g (changed-mark l.m.index l.change l.keeps) changes
 
   locks : LocksAgree (after_step kind core step)
-  locks = LocksAgree-other core step a kind (ap (λ (n : Name). lock_scope.names n) l.names) relocates.locks
+  locks = LocksAgree-other core step (lawful a) kind (ap (λ (n : Name). lock_scope.names n) l.names) relocates.locks
 
   -- other words than the location stand
   stands : (name : Name) → is_first_location name ≡ false → word_of (After kind core step) name ≡ word_of core name

@@ -14,7 +14,7 @@ use Rattle.core_state.specs.Pool.{IsPoolTask, one_taken, one_given, MayStorePool
 use Rattle.core_state.specs.Scope.{sight}
 use Rattle.core_state.proofs.Steps.{word-step-other}
 use Rattle.core_guard.proofs.BodiesStep.{HoldsSlot}
-use Rattle.core_guard.proofs.Leaving.{Acts}
+use Rattle.core_guard.proofs.Leaving.{Acts, lawful}
 use Rattle.core_batch.proofs.BatchesStep.{ChangesBatches, batch-part, slot-kept}
 use Rattle.core_guard.proofs.BodiesAside.{IsAside, IsAsideWord, IsPoolCall, same_calls, pool_calls, BodiesAgree-aside}
 use Rattle.core_batch.proofs.Newest.{newest-changes, newest-holds, newest-held}
@@ -61,7 +61,7 @@ module _ (kind : Kind) (core : Core) (step : Step) (a : Acts core step) (of_pool
   BodiesAgree-pool entry call batches holds =
       let leaves : IsAside kind core step = record { word = pool_aside step.name of_pool; entry = entry; call = call } in
       let stands : (l t : ℕ) → word_of (after_step kind core step) (Slot l t) ≡ word_of core (Slot l t) = λ l t. word-step-other kind core step (Slot l t) (apart (Slot l t) (λ none. none)) in
-      BodiesAgree-aside kind core step a leaves
+      BodiesAgree-aside kind core step (lawful a) leaves
       (λ i r e old. ap (λ (w : ℕ). phase_by (word_of core (Phase i)) w) (stands r.layer (word_of core (Phase i) - 2)) ∙ old)
       (batch-part kind core step a batches (λ i. word-step-other kind core step (Phase i) (apart (Phase i) (λ none. none)))
       (λ i k. word-step-other kind core step (BoxWord i k) (apart (BoxWord i k) (λ none. none)))

@@ -14,7 +14,7 @@ use Rattle.core_state.specs.LocksAgree.{LocksAgree, lock_scope}
 use Rattle.core_state.specs.BodiesAgree.{BodiesAgreeIn, body_scope}
 use Rattle.core_state.specs.NodesInOnePlace.{NodesInOnePlaceIn, node_scope}
 use Rattle.core_state.proofs.Frames.{frame, step-same}
-use Rattle.core_guard.proofs.Leaving.{Acts}
+use Rattle.core_guard.proofs.Leaving.{Acts, lawful}
 use Rattle.core_guard.proofs.ListSteps.{IsAsideWord, Invariants-aside}
 use Rattle.core_guard.proofs.LockSteps.{LocksAgree-other}
 use Rattle.core_guard.proofs.Touched.{Invariants-touches, IsKept, kept}
@@ -31,7 +31,7 @@ use Rattle.core_batch.proofs.SlotSteps.{NodesInOnePlace-reserve, NodesInOnePlace
 -- a kind that leaves the locks as they were
 locks-still : (kind : Kind) → LeavesLocks kind → (core : Core) (step : Step) → Acts core step → lock_scope.names step.name ≡ false → LocksAgree (after_step kind core step)
 locks-still kind still core step a hidden =
-    LocksAgree-other core step a kind hidden (still (learned core step) step.name (found_by core step) step.first step.second).0
+    LocksAgree-other core step (lawful a) kind hidden (still (learned core step) step.name (found_by core step) step.first step.second).0
 
 -- ---- slots
 
@@ -65,7 +65,7 @@ Invariants-store_node = kept MayStoreNode store_node
     let name = node-name step.name asked.node asked.of_node in
     let bodies : IsOutside body_scope store_node core step = record { name = λ stored. name.bodies; entry = λ reads value. refl; part = refl } in
     let nodes : IsOutside node_scope store_node core step = record { name = λ stored. name.pool; entry = λ reads. absurd (false≢true reads); part = refl } in
-    Invariants-touches store_node core step a a.laws.nodes (touches-store_node core step a asked) (LocksAgree-other core step a store_node name.locks refl)
+    Invariants-touches store_node core step a a.laws.nodes (touches-store_node core step a asked) (LocksAgree-other core step (lawful a) store_node name.locks refl)
     (frame body_scope BodiesAgreeIn core (after_step store_node core step) (step-same body_scope store_node core step a.at a.pass bodies) a.laws.bodies)
     (frame node_scope (NodesInOnePlaceIn a.laws.nodes) core (after_step store_node core step) (step-same node_scope store_node core step a.at a.pass nodes) a.laws.places))
 
@@ -75,15 +75,15 @@ Invariants-store_node = kept MayStoreNode store_node
 pub Invariants-store_pool_link : IsKept MayStorePoolLink store_pool_link
 Invariants-store_pool_link = kept MayStorePoolLink store_pool_link
     (λ core step a asked.
-    Invariants-aside store_pool_link core step a
+    Invariants-aside store_pool_link core step (lawful a)
     (record { aside = subst IsAsideWord (sym asked.names) tt; entry = λ value. refl; batches = refl; written = refl; walk = refl; rebuild = refl; call = inl refl })
-    (LocksAgree-other core step a store_pool_link (ap lock_scope.names asked.names) refl)
+    (LocksAgree-other core step (lawful a) store_pool_link (ap lock_scope.names asked.names) refl)
     (BodiesAgree-store_pool_link core step a asked) (NodesInOnePlace-store_pool_link core step a asked))
 
 pub Invariants-store_pool_count : IsKept MayStorePoolCount store_pool_count
 Invariants-store_pool_count = kept MayStorePoolCount store_pool_count
     (λ core step a asked.
-    Invariants-aside store_pool_count core step a
+    Invariants-aside store_pool_count core step (lawful a)
     (record {
       aside = subst IsAsideWord (sym asked.names) tt;
       entry = λ value. refl;
@@ -92,7 +92,7 @@ Invariants-store_pool_count = kept MayStorePoolCount store_pool_count
       walk = refl;
       rebuild = refl;
       call = inr (pool_idle step.view.call.task (counting-pool step.view step.first asked.count), tt);
-    }) (LocksAgree-other core step a store_pool_count (ap lock_scope.names asked.names) refl) (BodiesAgree-store_pool_count core step a asked) (NodesInOnePlace-store_pool_count core step a asked))
+    }) (LocksAgree-other core step (lawful a) store_pool_count (ap lock_scope.names asked.names) refl) (BodiesAgree-store_pool_count core step a asked) (NodesInOnePlace-store_pool_count core step a asked))
 
 pub Invariants-store_pool_head : IsKept MayStorePoolHead store_pool_head
 Invariants-store_pool_head = kept MayStorePoolHead store_pool_head

@@ -22,7 +22,7 @@ use Rattle.core_state.specs.Scope.{Sight, sight}
 use Rattle.core_state.proofs.Steps.{word-step, word-step-other}
 use Rattle.core_guard.proofs.BodiesStep.{sound, known-now}
 use Rattle.core_guard.proofs.Chains.{chain-kept}
-use Rattle.core_guard.proofs.Leaving.{Acts}
+use Rattle.core_guard.proofs.Leaving.{Acts, lawful}
 use Rattle.core_guard.proofs.NodesLeft.{same-homes, same-nodes, tree-part, pool-part, pool-own, pool-idle, owner-stays, together}
 use Rattle.core_guard.proofs.Seats.{seen_of}
 use Rattle.core_batch.proofs.Owning.{batch-home}
@@ -91,8 +91,8 @@ NodesInOnePlace-store_pool_count core step a asked =
     (pool-part store_pool_count core step a lock a.laws.nodes h.chain
     (rw head (chain-kept (λ n. old.word (PoolNext n)) (λ n. new.word (PoolNext n)) (old.word PoolHead) h.chain (λ n c. next n) h.linked)) h.once h.free_nodes h.batch_nodes
     (λ quiet. stored ∙ done) tt)
-    (owner-stays store_pool_count core step a (same-nodes store_pool_count core step refl refl refl))
-    (tree-part store_pool_count core step a (record { rebuild = refl; update = λ same. let e = same ∙ asked.names in absurd cc; arena = λ same. let e = same ∙ asked.names in absurd cc })
+    (owner-stays store_pool_count core step (lawful a) (same-nodes store_pool_count core step refl refl refl))
+    (tree-part store_pool_count core step (lawful a) (record { rebuild = refl; update = λ same. let e = same ∙ asked.names in absurd cc; arena = λ same. let e = same ∙ asked.names in absurd cc })
     a.laws.nodes (same-homes core a.laws.nodes))
 
 -- ---- a link
@@ -123,6 +123,6 @@ NodesInOnePlace-store_pool_link core step a asked =
     (rw head (chain-kept (λ n. old.word (PoolNext n)) (λ n. new.word (PoolNext n)) (old.word PoolHead) h.chain next h.linked)) h.once h.free_nodes h.batch_nodes
     (λ quiet. count ∙ pool-idle store_pool_link core step a lock quiet)
     (pools-same old new (seen_of node_scope step.number step.view) (task_on_pool step.view.call.task) (length h.chain) refl count (pool-own store_pool_link core step a lock)))
-    (owner-stays store_pool_link core step a (same-nodes store_pool_link core step refl refl refl))
-    (tree-part store_pool_link core step a (record { rebuild = refl; update = λ same. let e = same ∙ asked.names in absurd cc; arena = λ same. let e = same ∙ asked.names in absurd cc })
+    (owner-stays store_pool_link core step (lawful a) (same-nodes store_pool_link core step refl refl refl))
+    (tree-part store_pool_link core step (lawful a) (record { rebuild = refl; update = λ same. let e = same ∙ asked.names in absurd cc; arena = λ same. let e = same ∙ asked.names in absurd cc })
     a.laws.nodes (same-homes core a.laws.nodes))

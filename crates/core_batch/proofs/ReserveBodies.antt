@@ -27,7 +27,7 @@ use Rattle.core_state.proofs.Opening.{none_in, only}
 use Rattle.core_state.proofs.SameNames.{cases_name}
 use Rattle.core_state.proofs.Steps.{gained-unstored, word-step, word-step-other, view-step}
 use Rattle.core_guard.proofs.BodiesStep.{same-locks, HoldsSlot}
-use Rattle.core_guard.proofs.Leaving.{Acts}
+use Rattle.core_guard.proofs.Leaving.{Acts, lawful}
 use Rattle.core_guard.proofs.Seats.{seen_at, has-seat, seat-has, SeatAfter, stepped, stayed, seat-after, seat_seen}
 use Rattle.core_batch.proofs.BatchesStep.{ChangesBatches, Past, batch-part, slot-kept}
 use Rattle.core_guard.proofs.BodiesAside.{IsAside, IsAsideWord, same_calls, PhasesKept, BodiesAgree-aside}
@@ -114,7 +114,7 @@ module _ (core : Core) (step : Step) (a : Acts core step) (l t : ℕ) (r : IsRes
   other_slot : (k n : ℕ) → Slot k n ≢ step.name → word_of After (Slot k n) ≡ word_of core (Slot k n)
   other_slot k n other = word-step-other reserve core step (Slot k n) other
 
-  phases : PhasesKept reserve core step a leaves
+  phases : PhasesKept reserve core step (lawful a) leaves
   phases i q e old =
       let word = word_of core (Phase i) in
       elim (cases_name (Slot q.layer (word - 2)) step.name) [
@@ -182,7 +182,7 @@ module _ (core : Core) (step : Step) (a : Acts core step) (l t : ℕ) (r : IsRes
 
   BodiesAgree-reserved : BodiesAgree After
   BodiesAgree-reserved =
-      BodiesAgree-aside reserve core step a leaves phases
+      BodiesAgree-aside reserve core step (lawful a) leaves phases
       (batch-part reserve core step a reserved-changes (λ i. word-step-other reserve core step (Phase i) (λ same. let e = same ∙ r.names in absurd cc))
       (λ i k. word-step-other reserve core step (BoxWord i k) (λ same. let e = same ∙ r.names in absurd cc)) held_slots)
 

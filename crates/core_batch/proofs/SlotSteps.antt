@@ -24,7 +24,7 @@ use Rattle.core_state.specs.NodesInOnePlace.{NodesInOnePlace, node_scope}
 use Rattle.core_state.specs.Scope.{sight, IsOnce}
 use Rattle.core_state.proofs.Beginning.{cases_cons}
 use Rattle.core_state.proofs.Opening.{none_in}
-use Rattle.core_guard.proofs.Leaving.{Acts}
+use Rattle.core_guard.proofs.Leaving.{Acts, lawful}
 use Rattle.core_guard.proofs.NodesLeft.{KeepsNodes, same-nodes, unseen-pool, unseen-update, NodesInOnePlace-stays}
 use Rattle.core_guard.proofs.Seats.{seat_seen}
 use Rattle.core_batch.proofs.Lists.{pairs-left, pairs-right}
@@ -109,7 +109,7 @@ module _ (kind : Kind) (core : Core) (step : Step) (a : Acts core step) (l t : �
       → left.rebuild ≡ step.view.rebuild → KeepsNodes kind core step → NodesInOnePlace a.laws.nodes (after_step kind core step)
   slot-nodes left is locks call rebuild keeps =
       let none : node_scope.names step.name ≡ false = ap node_scope.names names in
-      NodesInOnePlace-stays kind core step a
+      NodesInOnePlace-stays kind core step (lawful a)
       (unseen-pool kind core step none (ap (λ (v : View). task_on_pool v.call.task) is ∙ ap (λ c. task_on_pool c.task) call)
       (λ pooling holds. subst (λ k. Holds (record step.view { locks = k }) (pool_lock core.config) Write) (sym (ap (λ (v : View). v.locks) is ∙ locks)) holds))
       keeps (unseen-update kind core step none (ap (λ (v : View). option_map update_on_nodes v.rebuild) is ∙ ap (λ o. option_map update_on_nodes o) rebuild))

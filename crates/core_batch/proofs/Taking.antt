@@ -24,7 +24,7 @@ use Rattle.core_state.proofs.Beginning.{cases_cons, contains_first}
 use Rattle.core_state.proofs.Opening.{none_in, only}
 use Rattle.core_state.proofs.Steps.{word-step, word-step-other}
 use Rattle.core_guard.proofs.Chains.{chain-kept, chain-first}
-use Rattle.core_guard.proofs.Leaving.{Acts}
+use Rattle.core_guard.proofs.Leaving.{Acts, lawful}
 use Rattle.core_guard.proofs.NodesLeft.{PoolPart, KeepsHomes, LeavesUpdate, tree-part, pool-part, pool-own, pool-idle, together, seen-nodes}
 use Rattle.core_guard.proofs.Seats.{seen_of, each-seat}
 use Rattle.core_batch.proofs.Lists.{contains_later, pairs-first, pairs-rest, pairs-cons, pairs-none, pairs-left, pairs-right, pairs-across, pairs-append}
@@ -228,4 +228,4 @@ module _ (core : Core) (step : Step) (a : Acts core step) (asked : MayStorePoolH
   }
 
   pub NodesInOnePlace-taken : NodesInOnePlace later After
-  NodesInOnePlace-taken = together After later pool (owner-part store_pool_head core step a later taken-owns) (tree-part store_pool_head core step a update later taken-keeps)
+  NodesInOnePlace-taken = together After later pool (owner-part store_pool_head core step a later taken-owns) (tree-part store_pool_head core step (lawful a) update later taken-keeps)

@@ -28,7 +28,7 @@ use Rattle.core_state.specs.LocationsHold.{IsPlannedIn, location_scope, is_locat
 use Rattle.core_state.proofs.Beginning.{contains_filter, body_record}
 use Rattle.core_guard.proofs.BodiesStep.{BatchPart}
 use Rattle.core_guard.proofs.LockSteps.{LocksAgree-other}
-use Rattle.core_guard.proofs.Leaving.{Acts, IsHandled, After, Touches}
+use Rattle.core_guard.proofs.Leaving.{Acts, lawful, IsHandled, After, Touches}
 use Rattle.core_guard.proofs.BodyTouch.{body_of, touches-body, record-made, IsBare, bare-apart}
 use Rattle.core_batch.proofs.Lists.{filter_from, flat-own, flat-across, flat-pairs}
 use Rattle.core_batch.proofs.Mapped.{AreOtherBodies, own-marks, marks-apart, StemsFrom, mapped-part, batch-kept, own_batch, other_batch, held-by, marks-after}
@@ -135,7 +135,7 @@ module _ (core : Core) (step : Step) (a : Acts core step) (asked : MayUnmark ste
       refl (ap unmark_of asked.names) (held, tt) batches
 
   pub LocksAgree-unmark : LocksAgree (after_step unmark core step)
-  LocksAgree-unmark = LocksAgree-other core step a unmark (ap (λ (n : Name). lock_scope.names n) asked.names) locks
+  LocksAgree-unmark = LocksAgree-other core step (lawful a) unmark (ap (λ (n : Name). lock_scope.names n) asked.names) locks
 
   -- ---- the laws of trees and of places
 

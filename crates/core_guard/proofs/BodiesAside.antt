@@ -19,7 +19,7 @@ use Rattle.core_state.specs.BodiesAgree.{BodiesAgree, body_scope, ListsFree, Cha
 use Rattle.core_state.specs.Pool.{IsPoolTask}
 use Rattle.core_state.specs.Scope.{Sight, sight, scene_in}
 use Rattle.core_state.proofs.Frames.{step-history}
-use Rattle.core_guard.proofs.Leaving.{Acts}
+use Rattle.core_guard.proofs.Leaving.{Lawful}
 use Rattle.core_guard.proofs.BodiesStep.{WordsPart, BatchPart, together, unstored, new_sight, bodies-agree, whole-back, list-moved, list-left, stripe-moved, stripe-part}
 
 -- a word of a lock, of a slot, or of the pool
@@ -62,7 +62,7 @@ pub record IsAside (kind : Kind) (core : Core) (step : Step) : Type 0 where
   pub entry : (value : ℕ) → kind.entry step.view step.name value ≡ None
   pub call : IsPoolCall step.view (view_after kind core step)
 
-module _ (kind : Kind) (core : Core) (step : Step) (a : Acts core step) (leaves : IsAside kind core step) where
+module _ (kind : Kind) (core : Core) (step : Step) (a : Lawful core step) (leaves : IsAside kind core step) where
   abbrev Last : View
   Last = view_after kind core step
 

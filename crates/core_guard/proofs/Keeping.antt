@@ -11,9 +11,9 @@ use Rattle.core_guard.proofs.LivesGuarded.{GuardsHold-store_link, GuardsHold-sto
 
 pub locks-keep : KeepsAll LockEvent
 locks-keep before after (loads_lock e) formed guards h = (Invariants-unseen before after (load-unseen _ _ before after load_lock-plain e) h, GuardsHold-load _ _ before after (λ found first. refl) e guards)
-locks-keep before after (takes_read e) formed guards h = (Invariants-reads before after e formed guards h, GuardsHold-lock _ _ before after (λ view name first second asked. (asked.lock, asked.names)) e guards)
-locks-keep before after (takes_write e) formed guards h = (Invariants-writes before after e formed guards h, GuardsHold-lock _ _ before after (λ view name first second asked. (asked.lock, asked.names)) e guards)
-locks-keep before after (releases e) formed guards h = (Invariants-releases before after e formed guards h, GuardsHold-lock _ _ before after (λ view name first second asked. (asked.lock, asked.names)) e guards)
+locks-keep before after (takes_read e) formed guards h = (Invariants-reads before after e h, GuardsHold-lock _ _ before after (λ view name first second asked. (asked.lock, asked.names)) e guards)
+locks-keep before after (takes_write e) formed guards h = (Invariants-writes before after e h, GuardsHold-lock _ _ before after (λ view name first second asked. (asked.lock, asked.names)) e guards)
+locks-keep before after (releases e) formed guards h = (Invariants-releases before after formed e h, GuardsHold-lock _ _ before after (λ view name first second asked. (asked.lock, asked.names)) e guards)
 
 pub lists-keep : KeepsAll ListEvent
 lists-keep before after (loads_list e) formed guards h = (Invariants-unseen before after (load-unseen _ _ before after load_list-plain e) h, GuardsHold-load _ _ before after (λ found first. refl) e guards)

@@ -56,6 +56,15 @@ pub acts-of : (asks : Asking) (kind : Kind) (before after : Core) → (steps : S
 acts-of asks kind before after steps formed guards laws =
     record { at = steps.allowed.at; pass = steps.allowed.pass; named = steps.allowed.named; formed = formed; guards = guards; laws = laws }
 
+-- the part of it that does without form and guards: a pass makes the step, and all laws hold
+pub record Lawful (core : Core) (step : Step) : Type 0 where
+  pub at : IsViewAt core step.seat step.view
+  pub pass : IsPass step.view step.number
+  pub laws : Invariants core
+
+abbrev pub lawful : {core : Core} {step : Step} → Acts core step → Lawful core step
+lawful a = record { at = a.at; pass = a.pass; laws = a.laws }
+
 -- ---- facts of options
 
 pub if_some_map : {X : Type 0} (o : Option X) (P Q : X → Type 0) → ((x : X) → P x → Q x) → IfSome o P → IfSome o Q

@@ -29,7 +29,7 @@ use Rattle.core_state.specs.Lists.{MayStoreLink, store_link, MayStoreHead, store
 use Rattle.core_state.proofs.Frames.{frame, step-same}
 use Rattle.core_guard.proofs.ListsAgree.{BodiesAgree-store_link, BodiesAgree-store_head}
 use Rattle.core_guard.proofs.LockSteps.{LocksAgree-other}
-use Rattle.core_guard.proofs.Leaving.{Acts, acts-of, IsIdle, idle-places, idle-cover, idle-at_place}
+use Rattle.core_guard.proofs.Leaving.{Acts, acts-of, Lawful, lawful, IsIdle, idle-places, idle-cover, idle-at_place}
 
 -- ---- the laws of places
 
@@ -82,7 +82,7 @@ module _ (kind : Kind) (core : Core) (step : Step) where
   outside scope k hidden part = record { name = λ stored. hidden; entry = λ reads. k.entry; part = part }
 
   -- leaves them all, so that the other three are what is to be shown
-  pub Invariants-aside : (a : Acts core step) → KeepsPlaces → LocksAgree (after_step kind core step) → BodiesAgree (after_step kind core step) → NodesInOnePlace a.laws.nodes (after_step kind core step)
+  pub Invariants-aside : (a : Lawful core step) → KeepsPlaces → LocksAgree (after_step kind core step) → BodiesAgree (after_step kind core step) → NodesInOnePlace a.laws.nodes (after_step kind core step)
       → Invariants (after_step kind core step)
   Invariants-aside a k locks bodies nodes =
       let bare = bare_view step.number in
@@ -178,7 +178,7 @@ Invariants-store_link before after steps formed guards h =
       call = inl refl;
     } in
     let pool : KeepsPool store_link before step = record { hidden = pooled; locks = refl; batches = refl; loose = refl; rebuild = refl; pool = refl } in
-    subst Invariants (sym steps.result) (Invariants-aside store_link before step a keeps (LocksAgree-other before step a store_link hidden refl) bodies (NodesInOnePlace-other store_link before step a pool))
+    subst Invariants (sym steps.result) (Invariants-aside store_link before step (lawful a) keeps (LocksAgree-other before step (lawful a) store_link hidden refl) bodies (NodesInOnePlace-other store_link before step a pool))
 
 pub Invariants-store_head : (before after : Core) → Steps MayStoreHead store_head before after → IsFormed before → GuardsHold before → Invariants before → Invariants after
 Invariants-store_head before after steps formed guards h =
@@ -207,4 +207,4 @@ Invariants-store_head before after steps formed guards h =
       rebuild = refl;
       pool = off-pool (view_after store_head before step).call.task off ∙ sym (ap task_on_pool asked.list.idle);
     } in
-    subst Invariants (sym steps.result) (Invariants-aside store_head before step a keeps (LocksAgree-other before step a store_head hidden refl) bodies (NodesInOnePlace-other store_head before step a pool))
+    subst Invariants (sym steps.result) (Invariants-aside store_head before step (lawful a) keeps (LocksAgree-other before step (lawful a) store_head hidden refl) bodies (NodesInOnePlace-other store_head before step a pool))

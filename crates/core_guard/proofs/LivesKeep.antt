@@ -17,7 +17,7 @@ use Rattle.core_state.specs.Scope.{bare_view}
 use Rattle.core_state.specs.Invariants.{Invariants}
 use Rattle.core_state.proofs.Frames.{frame, step-same}
 use Rattle.core_guard.proofs.HandledLive.{handled-live}
-use Rattle.core_guard.proofs.Leaving.{Acts, acts-of, Touches}
+use Rattle.core_guard.proofs.Leaving.{Acts, acts-of, lawful, Touches}
 use Rattle.core_guard.proofs.LivesAgree.{BodiesAgree-store_field, BodiesAgree-create, BodiesAgree-destroy, BodiesAgree-set_user}
 use Rattle.core_guard.proofs.LivesTouch.{touches-store_field, touches-create, touches-destroy, touches-set_user}
 use Rattle.core_guard.proofs.LockSteps.{LocksAgree-other}
@@ -48,7 +48,7 @@ module _ (kind : Kind) (core : Core) (step : Step) (a : Acts core step) (name : 
         entry = λ reads. absurd (false≢true reads);
         part = λ i. record bare { locks = locks i; call = call_at (pool i); batches = batches i; loose = loose i; rebuild = option_map update_on_nodes (t.leaves.rebuild i) };
       } in
-      Invariants-touches kind core step a a.laws.nodes t (LocksAgree-other core step a kind name.locks locks) bodies
+      Invariants-touches kind core step a a.laws.nodes t (LocksAgree-other core step (lawful a) kind name.locks locks) bodies
       (frame node_scope (NodesInOnePlaceIn a.laws.nodes) core (after_step kind core step) (step-same node_scope kind core step a.at a.pass outside) a.laws.places)
 
 pub Invariants-store_field : IsKept MayStoreField store_field

@@ -19,7 +19,8 @@ use Rattle.core_state.specs.declared.view.View.{View}
 use Rattle.core_state.specs.Log.{history}
 use Rattle.core_state.specs.View.{mode_of, mode_after, Holds, HoldsNot}
 use Rattle.core_state.specs.Core.{Core, word_of}
-use Rattle.core_state.specs.Kind.{Kind, Step, learned, found_by, view_after, after_step}
+use Rattle.core_state.specs.Kind.{Asking, Kind, Step, Steps, learned, found_by, view_after, after_step}
+use Rattle.core_state.specs.Formed.{IsFormed}
 use Rattle.core_state.specs.Locking.{with_lock_step, taken_if, released, take, MayRead, take_read, MayWrite, take_write, MayRelease, release}
 use Rattle.core_state.specs.Bodies.{phase_by}
 use Rattle.core_state.specs.Nodes.{nodes_in}
@@ -33,12 +34,11 @@ use Rattle.core_state.proofs.Beginning.{record_body}
 use Rattle.core_state.proofs.Steps.{word-step-other}
 use Rattle.core_guard.proofs.BodiesAside.{IsAsideWord as IsOffBodies, IsPoolCall, same_calls, pool_calls, BodiesAgree-aside}
 use Rattle.core_guard.proofs.BodiesStep.{batch-part}
-use Rattle.core_guard.proofs.Leaving.{Acts, IsIdle}
+use Rattle.core_guard.proofs.Leaving.{Lawful, IsIdle}
 use Rattle.core_guard.proofs.ListSteps.{IsAsideWord, Invariants-aside}
 use Rattle.core_guard.proofs.LockSteps.{read-takes, write-takes, LocksAgree-take, LocksAgree-release}
 use Rattle.core_guard.proofs.LockWords.{Takes}
 use Rattle.core_guard.proofs.NodesLeft.{NodesInOnePlace-stays, unseen-pool, unseen-update, same-nodes}
-use Rattle.core_guard.proofs.Touched.{IsKept, kept}
 
 -- a view after a step on a lock
 pub record IsRelocked (v w : View) : Type 0 where
@@ -74,7 +74,7 @@ released-view view lock done = record { batches = refl; loose = refl; written = 
 
 -- ---- what it leaves
 
-module _ (kind : Kind) (core : Core) (step : Step) (a : Acts core step) (lock : ℕ) (names : step.name ≡ Lock lock) (entry : (value : ℕ) → kind.entry step.view step.name value ≡ None)
+module _ (kind : Kind) (core : Core) (step : Step) (a : Lawful core step) (lock : ℕ) (names : step.name ≡ Lock lock) (entry : (value : ℕ) → kind.entry step.view step.name value ≡ None)
     (w : IsRelocked (learned core step) (kind.leaves (learned core step) step.name (found_by core step) step.first step.second)) where
   abbrev Last : View
   Last = view_after kind core step
@@ -136,21 +136,35 @@ module _ (kind : Kind) (core : Core) (step : Step) (a : Acts core step) (lock : 
 
 -- ---- the steps
 
-taken : (core : Core) (step : Step) (a : Acts core step) (mode : Mode) (lock number : ℕ) → Takes mode step lock number → Invariants (after_step (take mode) core step)
+taken : (core : Core) (step : Step) (a : Lawful core step) (mode : Mode) (lock number : ℕ) → Takes mode step lock number → Invariants (after_step (take mode) core step)
 taken core step a mode lock number takes =
     Invariants-locked (take mode) core step a lock takes.names (λ value. refl)
     (subst (λ (n : Name). IsRelocked (learned core step) (taken_if (learned core step) n mode (found_by core step) step.first)) (sym takes.names)
     (taken-view (learned core step) lock mode (eqb (found_by core step) step.first) takes.free))
     (LocksAgree-take core step a mode lock number takes)
 
-pub Invariants-reads : IsKept MayRead take_read
-Invariants-reads = kept MayRead take_read (λ core step a asked. taken core step a Read asked.lock asked.number (read-takes step asked))
+-- such a step is made by a pass, and all laws hold before it
+lawful-of : (asks : Asking) (kind : Kind) (before after : Core) → (steps : Steps asks kind before after) → Invariants before → Lawful before steps.step
+lawful-of asks kind before after steps laws = record { at = steps.allowed.at; pass = steps.allowed.pass; laws = laws }
 
-pub Invariants-writes : IsKept MayWrite take_write
-Invariants-writes = kept MayWrite take_write (λ core step a asked. taken core step a Write asked.lock asked.number (write-takes step asked))
+pub Invariants-reads : (before after : Core) → Steps MayRead take_read before after → Invariants before → Invariants after
+Invariants-reads before after steps laws =
+    let asked = steps.allowed.asked in
+    subst Invariants (sym steps.result) (taken before steps.step (lawful-of MayRead take_read before after steps laws) Read asked.lock asked.number (read-takes steps.step asked))
 
-pub Invariants-releases : IsKept MayRelease release
-Invariants-releases = kept MayRelease release
-    (λ core step a asked. Invariants-locked release core step a asked.lock asked.names (λ value. refl)
-    (subst (λ (n : Name). IsRelocked (learned core step) (released (learned core step) n)) (sym asked.names) (released-view (learned core step) asked.lock asked.done))
-    (LocksAgree-release core step a asked))
+pub Invariants-writes : (before after : Core) → Steps MayWrite take_write before after → Invariants before → Invariants after
+Invariants-writes before after steps laws =
+    let asked = steps.allowed.asked in
+    subst Invariants (sym steps.result) (taken before steps.step (lawful-of MayWrite take_write before after steps laws) Write asked.lock asked.number (write-takes steps.step asked))
+
+-- the form is asked for as well: it bounds the word from which the bit is taken away
+pub Invariants-releases : (before after : Core) → IsFormed before → Steps MayRelease release before after → Invariants before → Invariants after
+Invariants-releases before after formed steps laws =
+    let step = steps.step in
+    let asked = steps.allowed.asked in
+    let a = lawful-of MayRelease release before after steps laws in
+    let view = learned before step in
+    subst Invariants (sym steps.result)
+    (Invariants-locked release before step a asked.lock asked.names (λ value. refl)
+    (subst (λ (n : Name). IsRelocked view (released view n)) (sym asked.names) (released-view view asked.lock asked.done))
+    (LocksAgree-release before step a formed steps.allowed.named asked))

@@ -2,18 +2,20 @@
 use Rattle.std.proofs.Common.{◌≡◌, ℕ, pow-add, ◌+◌, ◌*◌, ◌^◌, ◌≤◌, false, arith}
 use Rattle.std.proofs.lemmas.Bool.{false≢true}
 use Rattle.std.proofs.lemmas.Nat.{pow_pos}
+use Rattle.word_map.specs.Names.{IsName}
 use Rattle.core_state.specs.declared.view.Mode.{Mode}
 use Rattle.core_state.specs.declared.view.Mode.TheVariants.{Read, Write}
 use Rattle.core_state.specs.Core.{Core}
 use Rattle.core_state.specs.Kind.{Kind, Step, view_after, after_step}
 use Rattle.core_state.specs.Locking.{bit_of, take, MayRead, MayWrite, MayRelease, release}
+use Rattle.core_state.specs.Formed.{IsFormed}
 use Rattle.core_state.specs.Frame.{IsOutside}
 use Rattle.core_state.specs.Scope.{bare_view}
 use Rattle.core_state.specs.LocksAgree.{LocksAgreeIn, LocksAgree, lock_scope}
 use Rattle.core_state.proofs.Fitting.{word-fits}
 use Rattle.core_state.proofs.Frames.{frame, step-same}
 use Rattle.core_guard.proofs.LockWords.{Agrees-from, Agrees-to, Takes, Agrees-take, Agrees-release}
-use Rattle.core_guard.proofs.Leaving.{Acts}
+use Rattle.core_guard.proofs.Leaving.{Lawful}
 
 -- ---- taking a lock
 
@@ -47,18 +49,19 @@ write-takes step asked = record {
   alone = λ e. asked.unheld;
 }
 
-module _ (core : Core) (step : Step) (a : Acts core step) where
+module _ (core : Core) (step : Step) (a : Lawful core step) where
   pub LocksAgree-take : (mode : Mode) (lock number : ℕ) → Takes mode step lock number → LocksAgree (after_step (take mode) core step)
   LocksAgree-take mode lock number takes = Agrees-to (after_step (take mode) core step) (Agrees-take mode core step lock number a.at takes (Agrees-from core a.laws.locks))
 
-  pub LocksAgree-release : MayRelease step.view step.name step.first step.second → LocksAgree (after_step release core step)
-  LocksAgree-release asked =
-      let fits = word-fits core.config core.log step.name a.formed.sizes a.formed.items a.named in
+  -- the bit is taken away by a sum that wraps, so the word has to be below 2^64: the form says so
+  pub LocksAgree-release : IsFormed core → IsName core.config step.name → MayRelease step.view step.name step.first step.second → LocksAgree (after_step release core step)
+  LocksAgree-release formed named asked =
+      let fits = word-fits core.config core.log step.name formed.sizes formed.items named in
       Agrees-to (after_step release core step) (Agrees-release core step a.at fits asked (Agrees-from core a.laws.locks))
 
 -- ---- a step on another word that leaves the locks
 
-pub LocksAgree-other : (core : Core) (step : Step) → Acts core step → (kind : Kind) → lock_scope.names step.name ≡ false → (view_after kind core step).locks ≡ step.view.locks → LocksAgree (after_step kind core step)
+pub LocksAgree-other : (core : Core) (step : Step) → Lawful core step → (kind : Kind) → lock_scope.names step.name ≡ false → (view_after kind core step).locks ≡ step.view.locks → LocksAgree (after_step kind core step)
 LocksAgree-other core step a kind hidden locks =
     let outside : IsOutside lock_scope kind core step = record {
       name = λ stored. hidden;

@@ -32,7 +32,7 @@ use Rattle.core_state.proofs.Lookups.{at_one}
 use Rattle.core_state.proofs.Opening.{none_in}
 use Rattle.core_state.proofs.Steps.{view-step, word-step-other}
 use Rattle.core_guard.proofs.Chains.{chain-kept}
-use Rattle.core_guard.proofs.Leaving.{Acts, if_some_map}
+use Rattle.core_guard.proofs.Leaving.{Acts, Lawful, if_some_map}
 use Rattle.core_guard.proofs.Seats.{seen_of, seen_at, each-seat, each-seats, each-step, each-unstep, has-step, has-unstep, fold-step}
 
 -- ---- the parts
@@ -212,7 +212,7 @@ module _ (kind : Kind) (core : Core) (step : Step) where
         batch = λ n among. subst (λ (l : List ℕ). Contains l n) own among;
       }
 
-  module _ (a : Acts core step) where
+  module _ (a : Lawful core step) where
     abbrev nodes : Nodes
     nodes = a.laws.nodes
 
@@ -327,48 +327,6 @@ module _ (kind : Kind) (core : Core) (step : Step) where
               (subst (λ (t : Task). PoolsUnder Old (seen_of node_scope step.number step.view) t (length h.chain)) (sym leaves.task) old));
         }
 
-    -- while a pass writes under its lock, no other one changes it
-    module _ (lock : Holds step.view (pool_lock core.config) Write) where
-      pub others-unpooled : (seat number : ℕ) (view : View) → seat ≢ step.seat → IsViewAt core seat view → IsPass view number → ¬ IsPooling (task_on_pool view.call.task)
-      others-unpooled seat number view apart found own pooling =
-          let h = a.laws.places in
-          let holds : Holds view (pool_lock core.config) Write =
-          pools_lock Old (seen_of node_scope number view) (task_on_pool view.call.task) (length h.chain)
-          (each-seat node_scope (λ k v. refl) core (λ k v. PoolsUnder Old v v.call.task (length h.chain)) h.pool seat number view found own) pooling in
-          let none : HoldsNot view (pool_lock core.config) = writer-alone core (pool_lock core.config) step.seat seat step.number number step.view view a.laws.locks a.at a.pass lock apart found own in
-          none-some Write (sym none ∙ holds)
-
-      -- so it is as the own task says
-      pub pool-own : PoolsUnder Old (seen_of node_scope step.number step.view) (task_on_pool step.view.call.task) (length a.laws.places.chain)
-      pool-own = each-seat node_scope (λ k v. refl) core (λ k v. PoolsUnder Old v v.call.task (length a.laws.places.chain)) a.laws.places.pool step.seat step.number step.view a.at a.pass
-
-      pub pool-idle : ¬ IsPooling (task_on_pool step.view.call.task) → Old.word PoolFree ≡ length a.laws.places.chain
-      pool-idle idle =
-          a.laws.places.count
-          (each-seats node_scope (λ k v. refl) core (λ k v. ¬ IsPooling v.call.task)
-          (λ seat number view found own.
-          elim (cases_eq seat step.seat) [
-            | inl same ↦
-                let one : step.view ≡ view = at_one core.views step.seat step.view view a.at (subst (λ (k : ℕ). IsViewAt core k view) same found) in
-                subst (λ (v : View). ¬ IsPooling (task_on_pool v.call.task)) one idle
-            | inr apart ↦ others-unpooled seat number view apart found own
-          ]))
-
-      -- a step under it
-      pub pool-part : (later : Nodes) (chain : List ℕ) → IsChain (λ n. New.word (PoolNext n)) (New.word PoolHead) chain → IsOnce chain → ((n : ℕ) → Contains chain n ↔ (later.home n ≡ free))
-          → ((n : ℕ) → later.home n ≡ free → n < core.config.nodes) → (¬ IsPooling (task_on_pool Last.call.task) → New.word PoolFree ≡ length chain)
-          → PoolsUnder New (seen_of node_scope step.number Last) (task_on_pool Last.call.task) (length chain) → PoolPart later New
-      pool-part later chain linked once frees below count own_pool = record {
-        chain = chain;
-        linked = linked;
-        once = once;
-        free_nodes = frees;
-        batch_nodes = below;
-        count = λ quiet. count (each-seat node_scope (λ k v. refl) (after_step kind core step) (λ k v. ¬ IsPooling v.call.task) quiet step.seat step.number Last (view-step kind core step a.at) a.pass);
-        pool = each-step node_scope (λ k v. refl) kind core step a.at a.pass (λ number view. ⊤) (λ number view. PoolsUnder New view view.call.task (length chain)) (λ number view among own. tt)
-            (λ seat number view apart found own old. unpooled New (seen_of node_scope number view) (task_on_pool view.call.task) (length chain) (others-unpooled seat number view apart found own)) (λ old. own_pool);
-      }
-
     -- ---- owners
 
     -- where each has the nodes that it had
@@ -418,3 +376,47 @@ module _ (kind : Kind) (core : Core) (step : Step) where
         NodesInOnePlace-stays
         (unseen-pool none (ap (λ (c : Call). task_on_pool c.task) call) (λ pooling holds. subst (λ l. Holds (record Last { locks = l }) (pool_lock core.config) Write) (sym locks) holds))
         (same-nodes batches loose (ap nodes_in rebuild)) (unseen-update none (ap (option_map update_on_nodes) rebuild))
+
+  -- ---- the pool, under its lock
+
+  -- while a pass writes under its lock, no other one changes it
+  module _ (a : Acts core step) (lock : Holds step.view (pool_lock core.config) Write) where
+    pub others-unpooled : (seat number : ℕ) (view : View) → seat ≢ step.seat → IsViewAt core seat view → IsPass view number → ¬ IsPooling (task_on_pool view.call.task)
+    others-unpooled seat number view apart found own pooling =
+        let h = a.laws.places in
+        let holds : Holds view (pool_lock core.config) Write =
+        pools_lock Old (seen_of node_scope number view) (task_on_pool view.call.task) (length h.chain)
+        (each-seat node_scope (λ k v. refl) core (λ k v. PoolsUnder Old v v.call.task (length h.chain)) h.pool seat number view found own) pooling in
+        let none : HoldsNot view (pool_lock core.config) = writer-alone core (pool_lock core.config) step.seat seat step.number number step.view view a.laws.locks a.at a.pass lock apart found own in
+        none-some Write (sym none ∙ holds)
+
+    -- so it is as the own task says
+    pub pool-own : PoolsUnder Old (seen_of node_scope step.number step.view) (task_on_pool step.view.call.task) (length a.laws.places.chain)
+    pool-own = each-seat node_scope (λ k v. refl) core (λ k v. PoolsUnder Old v v.call.task (length a.laws.places.chain)) a.laws.places.pool step.seat step.number step.view a.at a.pass
+
+    pub pool-idle : ¬ IsPooling (task_on_pool step.view.call.task) → Old.word PoolFree ≡ length a.laws.places.chain
+    pool-idle idle =
+        a.laws.places.count
+        (each-seats node_scope (λ k v. refl) core (λ k v. ¬ IsPooling v.call.task)
+        (λ seat number view found own.
+        elim (cases_eq seat step.seat) [
+          | inl same ↦
+              let one : step.view ≡ view = at_one core.views step.seat step.view view a.at (subst (λ (k : ℕ). IsViewAt core k view) same found) in
+              subst (λ (v : View). ¬ IsPooling (task_on_pool v.call.task)) one idle
+          | inr apart ↦ others-unpooled seat number view apart found own
+        ]))
+
+    -- a step under it
+    pub pool-part : (later : Nodes) (chain : List ℕ) → IsChain (λ n. New.word (PoolNext n)) (New.word PoolHead) chain → IsOnce chain → ((n : ℕ) → Contains chain n ↔ (later.home n ≡ free))
+        → ((n : ℕ) → later.home n ≡ free → n < core.config.nodes) → (¬ IsPooling (task_on_pool Last.call.task) → New.word PoolFree ≡ length chain)
+        → PoolsUnder New (seen_of node_scope step.number Last) (task_on_pool Last.call.task) (length chain) → PoolPart later New
+    pool-part later chain linked once frees below count own_pool = record {
+      chain = chain;
+      linked = linked;
+      once = once;
+      free_nodes = frees;
+      batch_nodes = below;
+      count = λ quiet. count (each-seat node_scope (λ k v. refl) (after_step kind core step) (λ k v. ¬ IsPooling v.call.task) quiet step.seat step.number Last (view-step kind core step a.at) a.pass);
+      pool = each-step node_scope (λ k v. refl) kind core step a.at a.pass (λ number view. ⊤) (λ number view. PoolsUnder New view view.call.task (length chain)) (λ number view among own. tt)
+          (λ seat number view apart found own old. unpooled New (seen_of node_scope number view) (task_on_pool view.call.task) (length chain) (others-unpooled seat number view apart found own)) (λ old. own_pool);
+    }

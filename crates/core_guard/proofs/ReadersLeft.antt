@@ -8,7 +8,7 @@ use Rattle.fixed_box.specs.FixBox.{words_of}
 use Rattle.scene_model.specs.Scene.{Scene, record_at}
 use Rattle.scene_model.specs.Step.{HasBody}
 use Rattle.word_map.specs.declared.name.Name.{Name}
-use Rattle.word_map.specs.declared.name.Name.TheVariants.{Reader, Child, Bound, Parent, LocA, LocB}
+use Rattle.word_map.specs.declared.name.Name.TheVariants.{Reader, Child, Bound, LocA, LocB}
 use Rattle.core_state.specs.declared.item.Load.{Load}
 use Rattle.core_state.specs.declared.view.Task.{Task}
 use Rattle.core_state.specs.declared.view.Task.TheVariants.{Moving, Removing}
@@ -228,9 +228,6 @@ module _ (kind : Kind) (core : Core) (step : Step) (a : Acts core step) (later :
 
   leads : LeadsWithin Before Old.word
   leads = let t = sound-leads Before (sight tree_scope core) a.laws.trees in record { up = t.up; down = t.down }
-
-  parent : (n : ℕ) → Stands (Before.home n) → Now.word (Parent n) ≡ Old.word (Parent n)
-  parent n stands = m.parent n (stands-in_tree (Before.home n) stands)
 
   child : (n k : ℕ) → Stands (Before.home n) → Now.word (Child n k) ≡ Old.word (Child n k)
   child n k stands = m.child n k (stands-in_tree (Before.home n) stands)

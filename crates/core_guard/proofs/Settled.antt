@@ -32,7 +32,7 @@ use Rattle.core_state.specs.Moving.{IsSettled}
 use Rattle.core_state.proofs.Forming.{unspent_pass}
 use Rattle.core_state.proofs.Guarding.{own-less, owned-still, live-still}
 use Rattle.core_state.proofs.Reading.{word-other}
-use Rattle.core_guard.proofs.Leaving.{Acts}
+use Rattle.core_guard.proofs.Leaving.{Acts, held-once}
 use Rattle.core_guard.proofs.Scenes.{place_at-created_other, place_at-destroyed_other}
 
 -- ---- one entry
@@ -144,11 +144,6 @@ pub record StandsStill (core : Core) (view : View) (i : ℕ) : Type 0 where
   pub loc_a : word_of core (LocA i) ≡ known_word view (LocA i)
   pub loc_b : word_of core (LocB i) ≡ known_word view (LocB i)
 
--- no other phase
-unheld-not : (o : Option Record) → IsSomeAnd o (λ r. r.phase ≢ Held) → ¬ IsSomeAnd o (λ r. r.phase ≡ Held)
-unheld-not None h k = h
-unheld-not (Some r) h k = h k
-
 module _ (core : Core) (step : Step) (a : Acts core step) where
   abbrev sound : IsSoundView core.config core.log step.view
   sound = a.formed.views step.seat step.view a.at (unspent_pass step.view.role step.number a.pass)
@@ -180,7 +175,7 @@ module _ (core : Core) (step : Step) (a : Acts core step) where
       let holds = subst (λ (c : Config). Holds step.view (stripe_of c i) Write) sound.config h.stripe in
       let live = subst (λ (c : Config). 256 ≤ word c Known (State i)) sound.config h.live in
       let unheld = subst (λ (c : Config). HasBody (scene_at c Known) i (λ r. r.phase ≢ Held)) sound.config h.unheld in
-      let t = settled-since core.config step.view i Write holds Known Since quiet-since sound-since lawful-since live (unheld-not _ unheld) in
+      let t = settled-since core.config step.view i Write holds Known Since quiet-since sound-since lawful-since live (held-once _ unheld) in
       let now : (name : Name) → word core.config Known name ≡ known_word step.view name = λ name. ap (λ (c : Config). word c Known name) (sym sound.config) in
       let owned : (name : Name) → Owns core.config step.view name → word_of core name ≡ known_word step.view name =
       λ name owns. owned-still core step.seat step.number step.view a.formed a.guards a.at a.pass name owns ∙ now name

@@ -1,6 +1,6 @@
 -- A step that stores no word but those of readers, and makes no entry: nodes and bodies are as before. Of a load in a climb
 -- it is to be shown that the node is on the way up, of a step of a walk that the walk goes on.
-use Rattle.std.proofs.Common.{◌≡◌, ◌≢◌, ℕ, ◌<◌, List, [], ◌∷◌, ◌++◌, None, refl, sym, ◌∙◌, subst, inl, inr, arith}
+use Rattle.std.proofs.Common.{◌≡◌, ◌≢◌, ℕ, List, [], ◌∷◌, ◌++◌, None, refl, sym, ◌∙◌, subst, inl, inr, arith}
 use Rattle.std.specs.Prelude.{Option, IsSomeAnd, Contains}
 use Rattle.std.proofs.lemmas.List.Elements.{Contains-append_cases}
 use Rattle.scene_model.specs.Scene.{Record}
@@ -18,12 +18,13 @@ use Rattle.core_state.specs.Encoding.{NamesRoot, IsBox, place}
 use Rattle.core_state.specs.Kind.{Kind, Step, gained_by}
 use Rattle.core_state.specs.LocationsHold.{LocationsHold, location_scope, Removes, ClimbsFrom, IsOnItsWay}
 use Rattle.core_state.specs.Moving.{HasComeTo, at_start, by_parent}
-use Rattle.core_state.specs.Nodes.{Nodes, Above, here, higher}
+use Rattle.core_state.specs.Nodes.{Nodes, Above, here}
 use Rattle.core_state.specs.Parts.{call_on_places}
 use Rattle.core_state.specs.Scope.{Sight, sight}
 use Rattle.core_state.specs.Space.{IsTarget}
 use Rattle.core_state.specs.Updates.{IsPlacing}
 use Rattle.core_state.specs.ReadersCounted.{ReadersCounted}
+use Rattle.core_state.proofs.Beginning.{above-more}
 use Rattle.core_guard.proofs.Seats.{each-seat, flat-step}
 use Rattle.core_guard.proofs.Leaving.{Acts, After, Last, Stays, Leaves, step-goes_on, scene-plain, as_before-same}
 use Rattle.core_guard.proofs.PlacesStay.{PassIsPlaced, acting, taken-out, pass-placed, pass-forth}
@@ -39,11 +40,6 @@ pub record IsStill (kind : Kind) (core : Core) (step : Step) : Type 0 where
   pub rebuild : (Last kind core step).rebuild ≡ step.view.rebuild
 
 -- ---- climbs
-
--- one place further up
-above_more : (w : Name → ℕ) (n k a b m j : ℕ) → Above w n k a b → w (Parent a) ≡ place m j → j < 4 → Above w n k m j
-above_more w n k a b m j (here x y) e below = higher x y m j m j e below (here m j)
-above_more w n k a b m j (higher p q x y c d f lower rest) e below = higher p q x y m j f lower (above_more w x y c d m j rest e below)
 
 -- where a call climbs from is no matter of what it loaded
 climbs-any : (s : Sight) (c d : Call) (r : Option Rebuild) (task : Task) (n k : ℕ) → ClimbsFrom s (acting c r) task n k → ClimbsFrom s (acting d r) task n k
@@ -62,7 +58,7 @@ module _ (nodes : Nodes) (s : Sight) (r : Option Rebuild) (c : Call) (p : PassIs
   come-on_way Begins climbs d m j (by_parent x below loaded) =
       let old = p.on_its_way x (place m j) loaded in
       let t = old.1 in
-      (t.0, t.1, j, climbs-any s c d r c.task t.0 t.1 t.3, above_more s.word t.0 t.1 x t.2 m j t.4 old.0 below)
+      (t.0, t.1, j, climbs-any s c d r c.task t.0 t.1 t.3, above-more s.word t.0 t.1 x t.2 m j t.4 old.0 below)
 
   -- a load more
   loaded-placed : (new : Load) → IsOnItsWay s (acting (record c { loads = new ∷ [] }) r) → PassIsPlaced nodes s (with_new c new) r

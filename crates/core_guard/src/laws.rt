@@ -12,9 +12,9 @@ ghost use Rattle.core_state.specs.Invariants.{Invariants};
 /// Opening a pass, taking a lock to read or to write, be it in vain, and letting it go each keep all invariants.
 pub fn locks_keep_all()
     ensures opens { (before after : Core) → Opens before after → Invariants before → Invariants after }
-    ensures reads { (before after : Core) → Steps MayRead take_read before after → IsFormed before → GuardsHold before → Invariants before → Invariants after }
-    ensures writes { (before after : Core) → Steps MayWrite take_write before after → IsFormed before → GuardsHold before → Invariants before → Invariants after }
-    ensures releases { (before after : Core) → Steps MayRelease release before after → IsFormed before → GuardsHold before → Invariants before → Invariants after }
+    ensures reads { (before after : Core) → Steps MayRead take_read before after → Invariants before → Invariants after }
+    ensures writes { (before after : Core) → Steps MayWrite take_write before after → Invariants before → Invariants after }
+    ensures releases { (before after : Core) → IsFormed before → Steps MayRelease release before after → Invariants before → Invariants after }
 {}
 
 /// The steps on the list of free indexes and on bodies each keep all invariants: a link, a head, what a body is to be,

@@ -38,7 +38,7 @@ use Rattle.core_state.proofs.Opening.{range_contains, none_in, only}
 -- ---- up from an entry to the root
 
 -- one place further up
-above-more : (w : Name → ℕ) (n k a b m j : ℕ) → Above w n k a b → w (Parent a) ≡ place m j → j < 4 → Above w n k m j
+pub above-more : (w : Name → ℕ) (n k a b m j : ℕ) → Above w n k a b → w (Parent a) ≡ place m j → j < 4 → Above w n k m j
 above-more w n k a b m j (here x y) e below = higher x y m j m j e below (here m j)
 above-more w n k a b m j (higher p q x y c d f lower rest) e below = higher p q x y m j f lower (above-more w x y c d m j rest e below)
 

@@ -49,7 +49,3 @@ module _ {A : Type 0} where
   at_longer [] m i a e = absurd (some-ne-none a (sym e))
   at_longer (x ∷ xs) m zero a e = e
   at_longer (x ∷ xs) m (suc i) a e = at_longer xs m i a e
-
-  pub at_last : (l : List A) (a : A) → get_elem? (l ++ a ∷ []) (length l) ≡ some a
-  at_last [] a = refl
-  at_last (x ∷ xs) a = at_last xs a

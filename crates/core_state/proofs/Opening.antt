@@ -24,7 +24,7 @@ use Rattle.core_state.specs.LocksAgree.{LocksAgree, lock_scope}
 use Rattle.core_state.specs.BodiesAgree.{BodiesAgree, body_scope}
 use Rattle.core_state.specs.NodesInOnePlace.{NodesInOnePlace, node_scope}
 use Rattle.core_state.specs.TreesSound.{TreesSound, tree_scope}
-use Rattle.core_state.specs.LocationsHold.{IsLocation, LocationsHold, location_scope}
+use Rattle.core_state.specs.LocationsHold.{LocationsHold, location_scope}
 use Rattle.core_state.specs.BodiesCovered.{BodiesCovered, cover_scope}
 use Rattle.core_state.specs.WalksLead.{WalksLead, walk_scope}
 use Rattle.core_state.specs.ReadersCounted.{ReadersCounted, reader_scope}
@@ -213,10 +213,6 @@ TreesSound-opening c =
       left_nodes = λ n number e. absurd (idle_not c.nodes n IsInTree (λ h. h) (λ h. h) (subst IsInTree (sym e) tt));
       tops = each_bare s _ refl (λ number. tt);
     }
-
--- no body has a location
-no_location : (c : Config) (i n k : ℕ) → IsLocation (sight location_scope (opening c)) i n k → ⊥
-no_location c i n k h = elim (h.1) [ inl e ↦ absurd (omega arith) | inr e ↦ absurd (omega arith) ]
 
 LocationsHold-opening : (c : Config) → LocationsHold (opening_nodes c) (opening c)
 LocationsHold-opening c =

@@ -3,3 +3,4 @@ pub mod Stretches
 pub mod Places
 pub mod Stripes
 pub mod Sizes
+pub mod Words

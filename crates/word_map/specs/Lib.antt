@@ -3,3 +3,4 @@ pub mod Names
 pub mod Row
 pub mod Layout
 pub mod Inside
+pub mod Words

@@ -203,7 +203,7 @@ prepare_known_goes_on table name layer None u = u
 prepare_known_goes_on table name layer (Some bodies) u = cond_goes_on table (has_batch table.books name) _ _ u (prepare_goes_on table name layer bodies u)
 
 -- what batches keep once one is spent, and one is attached
-nodes-attached : (books : Books) (layer nodes : ℕ) → nodes_kept (with_attached books layer nodes) ≡ nodes_kept books + nodes
+pub nodes-attached : (books : Books) (layer nodes : ℕ) → nodes_kept (with_attached books layer nodes) ≡ nodes_kept books + nodes
 nodes-attached books layer nodes =
     let one : Attached = record { layer = layer; nodes = nodes } in
     omega (arith, sum_by_push (λ (a : Attached). a.nodes) books.attached one)

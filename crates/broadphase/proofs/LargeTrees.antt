@@ -2,7 +2,9 @@
 use Rattle.std.proofs.Common.{◌≡◌, ℕ, zero, suc, ◌+◌, ◌-◌, ◌*◌, ◌/◌, ◌<◌, ◌≤◌, Bool, true, false, cond, nat_lt, refl, ap, sym, Some, None, arith}
 use Rattle.std.proofs.lemmas.Bool.Decides.{nat_tests}
 use Rattle.std.proofs.lemmas.Bool.{lt-ltb}
+use Rattle.word_map.specs.declared.config.TheConstants.{MAX_NODES}
 use Rattle.scene_model.specs.Need.{need, need_of_run, need_within}
+use Rattle.tree_plan.specs.declared.node_count.TheConstants.{MAX_TREE_BODIES}
 
 cond-large : (b : Bool) (x run : ℕ) → (b ≡ true → run ≤ 1) → (b ≡ false → run ≤ 4 * x) → run ≤ 4 * cond b 0 x + 1
 cond-large true x run few many = let h = few refl in omega arith
@@ -37,7 +39,7 @@ pub need-large : (n : ℕ) → n ≤ 4 * need n
 need-large n = need_within-large n n (omega arith)
 
 -- the tree over more bodies than are counted has more nodes than any world
-pub too_many : (count free : ℕ) → free ≤ 65536 → 1048576 < count → None ≡ cond (nat_lt free (need count)) None (Some (need count))
+pub too_many : (count free : ℕ) → free ≤ MAX_NODES → MAX_TREE_BODIES < count → None ≡ cond (nat_lt free (need count)) None (Some (need count))
 too_many count free most many =
     let few : free < need count = omega (arith, need-large count) in
     ap (λ b. cond b None (Some (need count))) (sym (lt-ltb free (need count) few))

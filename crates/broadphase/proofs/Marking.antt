@@ -90,7 +90,8 @@ ready_view scene i layer (Some v) e h =
 pub is_ready : (scene : Scene) (layer : ℕ) (i : Id) → mark_refusal scene layer i ≡ None → HasBody scene i.index (IsReady layer)
 is_ready scene layer i h = ready_view scene i layer (body_of scene i) refl h
 
-weaker : (o : Option Record) (P Q : Record → Type 0) → ((r : Record) → P r → Q r) → IsSomeAnd o P → IsSomeAnd o Q
+-- what follows from a fact of a body
+pub weaker : (o : Option Record) (P Q : Record → Type 0) → ((r : Record) → P r → Q r) → IsSomeAnd o P → IsSomeAnd o Q
 weaker None P Q to h = h
 weaker (Some r) P Q to h = to r h
 

@@ -13,3 +13,12 @@ pub mod Playing
 pub mod Form
 pub mod Ended
 pub mod Status
+pub mod Standing
+pub mod Created
+pub mod Queried
+pub mod InLayers
+pub mod Exchange
+pub mod Prepared
+pub mod Refused
+pub mod Done
+pub mod Undone

@@ -24,6 +24,3 @@ pub use reading::{MAX_BYTES, ParseEnd, run_parse};
 pub use room::Room;
 pub use status::Status;
 pub use top::{run, run_check};
-
-#[cfg(test)]
-mod tests;

@@ -2,6 +2,7 @@
 ghost use Rattle.std.specs.Prelude.{◌≡◌, ◌≤◌, ℕ, Option, List, IfOk, OnOk, MatchResult, Some, None, nat_lt, if◌then◌else◌, length, fold};
 ghost use Rattle.scene_model.specs.Need.{need};
 ghost use Rattle.scene_model.specs.Shown.{after_shown};
+ghost use Rattle.word_map.specs.declared.config.TheConstants.{MAX_NODES};
 ghost use Rattle.broadphase.specs.Taking.{room_refusal, mark_refusal, marking, taking, unmarks};
 ghost use Rattle.broadphase.specs.UnderWay.{IsUnderWay, ArePossible};
 ghost use Rattle.broadphase.specs.Shown.{Marks, Takes};
@@ -13,10 +14,7 @@ use body_ident::BodyId;
 use reply_text::Refusal;
 use scene_model::{Entry, IndexList, Phase, PlainScene};
 use std::alloc::{AllocError, Global};
-use tree_plan::need;
-
-/// The most bodies whose tree is counted. The tree over more of them has more nodes than any world.
-const MAX_COUNTED: usize = 1_048_576;
+use tree_plan::{MAX_TREE_BODIES, need};
 
 /// What a batch took: the indexes of its bodies, and how many nodes it keeps.
 #[derive(Debug, Drop)]
@@ -25,13 +23,14 @@ pub struct Taken {
     pub nodes: u32,
 }
 
-/// How many nodes the tree over so many bodies has; `None` where these are more than are free.
+/// How many nodes the tree over so many bodies has; `None` where these are more than are free, as those over more
+/// bodies than one tree may have always are.
 #[tactic(auto, using(crate::proofs::LargeTrees::too_many))]
 fn nodes_within(count: usize, free: u32) -> Option<u32>
-    requires { free ≤ 65536 }
+    requires { free ≤ MAX_NODES }
     ensures { result ≡ (if nat_lt free (need count) then None else Some (need count)) }
 {
-    if count > MAX_COUNTED {
+    if count > MAX_TREE_BODIES as usize {
         return None;
     }
     let nodes = need(count as u32);

@@ -8,8 +8,6 @@ mod body_view;
 mod entry;
 pub mod laws;
 mod plain_scene;
-#[cfg(test)]
-mod tests;
 
 pub use body_view::{BodyView, Phase};
 pub use entry::{Entry, IndexList, Made};

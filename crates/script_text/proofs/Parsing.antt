@@ -18,21 +18,22 @@ use Rattle.script_text.specs.Printed.{line_text, lines_text, words_below, text_o
 use Rattle.script_text.specs.Sound.{IsSound}
 use Rattle.script_text.proofs.Reprinting.{reads_again, lines_again, commands_again}
 use Rattle.script_text.specs.Line.{line_fault, lines_fault, script_fault}
+use Rattle.script_text.specs.declared.limits.TheConstants.{MAX_LINES}
 
 -- the lines of a text down to the rest were added, and what is left to find is all that there is to find
 pub record HasAdded (old : Draft) (text : List ℕ) (new : Draft) (number : ℕ) (rest : List ℕ) : Type 0 where
   pub fault : lines_fault (above_next new) number (lines_of rest) ≡ lines_fault (above_next old) 1 (lines_of text)
   pub words : words_so_far new ++ commands_of (lines_of rest) ≡ words_so_far old ++ commands_of (lines_of text)
   pub low : 1 ≤ number
-  pub high : number ≤ 200001
+  pub high : number ≤ MAX_LINES + 1
   pub fit : all_fit old.lines.items ≡ true → all_fit new.lines.items ≡ true
 
 -- a line without a fault is not too far down
-not_long : (n : ℕ) (above : Above) (line : List ℕ) → line_fault n above line ≡ None → n ≤ 200000
+not_long : (n : ℕ) (above : Above) (line : List ℕ) → line_fault n above line ≡ None → n ≤ MAX_LINES
 not_long n above line h =
-    elim (cases_Bool (ltb 200000 n)) [
+    elim (cases_Bool (ltb MAX_LINES n)) [
       | inl long ↦ absurd (let e = rw long at h in cc)
-      | inr short ↦ ltb-false 200000 n short
+      | inr short ↦ ltb-false MAX_LINES n short
     ]
 
 pub one_more : (old new newer : Draft) (text rest line below : List ℕ) (n : ℕ) → HasAdded old text new n rest → lines_of rest ≡ line ∷ lines_of below

@@ -5,6 +5,7 @@ use Rattle.std.proofs.lemmas.Bool.{cases_Bool}
 use Rattle.std.proofs.lemmas.Bool.Decides.{nat_tests}
 use Rattle.std.proofs.lemmas.List.{append-nil}
 use Rattle.std.proofs.lemmas.List.Splits.{slice_split_none, slice_split_at}
+use Rattle.script_text.specs.declared.limits.TheConstants.{MAX_LINES}
 use Rattle.script_text.specs.declared.code.Code.{Code}
 use Rattle.script_text.specs.Fault.{first_of}
 use Rattle.script_text.specs.Lines.{without_return, lines_of, is_text_byte, text_fault, some_word, words_of, begins_comment, command_in, command_of, some_command, commands_of}
@@ -171,8 +172,8 @@ at_line_none number None below h = (refl, h)
 -- a line that is not further down is not too far down
 earlier : (n m : ℕ) → m ≤ n → long_fault n ≡ None → long_fault m ≡ None
 earlier n m less h =
-    elim (cases_Bool (ltb 200000 m)) [
-      | inl long ↦ absurd (let further : ltb 200000 n ≡ true = grind (arith, nat_tests) in let e = rw further at h in cc)
+    elim (cases_Bool (ltb MAX_LINES m)) [
+      | inl long ↦ absurd (let further : ltb MAX_LINES n ≡ true = grind (arith, nat_tests) in let e = rw further at h in cc)
       | inr short ↦ rw short refl
     ]
 

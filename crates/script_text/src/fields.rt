@@ -9,7 +9,7 @@ ghost use Rattle.script_text.specs.Fields.{SpellsCorner, SpellsSteps, SpellsSize
 use crate::code::Code;
 use crate::number::{read_natural, read_number};
 use fixed_box::{Coord, FixBox, Segment};
-use word_map::{Config, Field, check};
+use word_map::{Config, Field, MAX_LAYERS, check};
 
 /// There have to be from `lo` to `hi` words.
 pub fn check_count(words: &[&[u8]], lo: u32, hi: u32) -> Result<(), Code>
@@ -140,7 +140,7 @@ pub fn read_size(field: Field, word: &[u8]) -> Result<u32, Code>
 pub fn read_layer(layers: u32, word: &[u8]) -> Result<u32, Code>
     ensures { Reads result (layer_fault layers word.now) (λ n. (word.now ≡ decimal n) × (n < layers)) }
 {
-    let layer = read_natural(word, 0, 7)?;
+    let layer = read_natural(word, 0, MAX_LAYERS - 1)?;
     if layer < layers {
         Ok(layer)
     } else {

@@ -33,6 +33,3 @@ pub use printing::print;
 pub use reading::parse;
 pub use script::{CommandList, Script, ScriptFault};
 pub use text::{Text, TextList};
-
-#[cfg(test)]
-mod tests;

@@ -14,6 +14,3 @@ mod tree_bounds;
 
 pub use by_index::sort_by_index;
 pub use tree_bounds::TreeBounds;
-
-#[cfg(test)]
-mod tests;

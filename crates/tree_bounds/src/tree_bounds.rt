@@ -1,5 +1,6 @@
 ghost use Rattle.std.specs.Prelude.{◌≡◌, ℕ, [], ◌*◌, ◌<◌, ◌≤◌, length, map, IfOk, Contains};
 ghost use Rattle.std.specs.List.Sorted.{IsStrictlyIncreasing};
+ghost use Rattle.tree_plan.specs.declared.node_count.TheConstants.{MAX_TREE_BODIES};
 ghost use Rattle.tree_plan.specs.declared.plan_child.PlanChild.TheVariants.{Body, Node};
 ghost use Rattle.tree_plan.specs.Plan.{node_count, child_at, IsPlanOf};
 ghost use Rattle.tree_bounds.specs.Bounds.{IsHullOfNode, AreBoundsOf};
@@ -67,20 +68,21 @@ pub struct TreeBounds {
 impl Model for TreeBounds {
     ghost use Rattle.std.specs.Prelude.{◌*◌, ◌≤◌, take, vec_len};
     ghost use Rattle.scene_model.specs.Need.{need};
+    ghost use Rattle.tree_plan.specs.declared.node_count.TheConstants.{MAX_TREE_BODIES};
     ghost use Rattle.tree_bounds.specs.Held.{HeldBounds};
 
     ghost Value = { HeldBounds };
 
     ghost view = { λ t. record { most = t.most; nodes = t.len; boxes = take (4 * t.len) t.bounds.items } };
 
-    ghost invariant = { λ t. (t.most ≤ 1048576) × (t.len ≤ need t.most) × (4 * need t.most ≤ vec_len t.bounds) };
+    ghost invariant = { λ t. (t.most ≤ MAX_TREE_BODIES) × (t.len ≤ need t.most) × (4 * need t.most ≤ vec_len t.bounds) };
 }
 
 impl TreeBounds {
     /// Room for the bounds of a tree over so many bodies at most. It has none yet. It takes all memory that it ever
     /// needs, and fails where there is not enough.
     pub fn new(alloc: Global, most: u32) -> Result<TreeBounds, AllocError>
-        requires { most ≤ 1048576 }
+        requires { most ≤ MAX_TREE_BODIES }
         ensures { IfOk result (λ t. t ≡ record { most = most; nodes = 0; boxes = [] }) }
     {
         let corner = [Coord { value: 0 }; 3];

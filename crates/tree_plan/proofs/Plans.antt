@@ -9,6 +9,7 @@ use Rattle.fixed_box.specs.declared.fix_box.FixBox.{FixBox}
 use Rattle.scene_model.specs.Need.{need}
 use Rattle.scene_model.specs.Tree.{Tree, child_of, tree, height_of}
 use Rattle.scene_model.proofs.Trees.{same_node, height_of-tree_within}
+use Rattle.tree_plan.specs.declared.node_count.TheConstants.{MAX_TREE_BODIES}
 use Rattle.tree_plan.specs.declared.plan_child.PlanChild.{PlanChild}
 use Rattle.tree_plan.specs.declared.plan_child.PlanChild.TheVariants.{Nothing, Body, Node}
 use Rattle.tree_plan.specs.declared.run.Run.{Run}
@@ -250,7 +251,7 @@ parents_over bodies runs children most nodes some h =
 
 -- ---- all together
 
-low_tree : (old : List (ℕ × FixBox)) (t : Tree) → t ≡ tree old → length old ≤ 1048576 → height_of t ≤ 10
+low_tree : (old : List (ℕ × FixBox)) (t : Tree) → t ≡ tree old → length old ≤ MAX_TREE_BODIES → height_of t ≤ 10
 low_tree old t e few = subst (λ s. height_of s ≤ 10) (sym e) (height_of-tree_within (length old) 10 old (omega arith) few)
 
 once_over : (bodies old : List (ℕ × FixBox)) (runs : List Run) (children : List PlanChild) (nodes : ℕ) → bodies ≡ arranged old → IsNumbered bodies runs children nodes nodes (4 * nodes)
@@ -265,7 +266,7 @@ once_over bodies old runs children nodes e h =
     ap (λ k. picked ++ indexes_from bodies runs (4 * nodes) k) none ∙ append-nil picked in
     IsPermutation-trans (map index old) (map index bodies) picked first (subst (λ (ys : List ℕ). IsPermutation (map index bodies) ys) all h.once)
 
-IsPlanOf-some : (bodies old : List (ℕ × FixBox)) (runs : List Run) (children : List PlanChild) (most nodes : ℕ) → bodies ≡ arranged old → 0 < nodes → nodes ≡ need (length bodies) → length old ≤ 1048576
+IsPlanOf-some : (bodies old : List (ℕ × FixBox)) (runs : List Run) (children : List PlanChild) (most nodes : ℕ) → bodies ≡ arranged old → 0 < nodes → nodes ≡ need (length bodies) → length old ≤ MAX_TREE_BODIES
     → IsNumbered bodies runs children nodes nodes (4 * nodes) → IsPlanOf old (plan_over most nodes runs children)
 unfolding plan_over
 IsPlanOf-some bodies old runs children most nodes e some needed few h =
@@ -281,7 +282,7 @@ IsPlanOf-some bodies old runs children most nodes e some needed few h =
       parents = parents_over bodies runs children most nodes some h;
     }
 
-pub IsPlanOf-numbered : (bodies old : List (ℕ × FixBox)) (runs : List Run) (children : List PlanChild) (most nodes : ℕ) → bodies ≡ arranged old → 0 < nodes → nodes ≡ need (length bodies) → length old ≤ 1048576
+pub IsPlanOf-numbered : (bodies old : List (ℕ × FixBox)) (runs : List Run) (children : List PlanChild) (most nodes : ℕ) → bodies ≡ arranged old → 0 < nodes → nodes ≡ need (length bodies) → length old ≤ MAX_TREE_BODIES
     → IsNumbered bodies runs children nodes nodes (4 * nodes)
     → IsPlanOf old (record { most = most; children = take (4 * nodes) children; parents = map (λ (r : Run). r.parent) (take nodes runs) })
 unfolding plan_over

@@ -4,7 +4,7 @@ ghost use Rattle.std.specs.Int.{int_min, int_max};
 ghost use Rattle.scene_model.specs.Tree.{centre, spread, widest};
 ghost use Rattle.tree_plan.specs.Axes.{IsCentre, axis_number, key_of, IsExtent};
 
-use fixed_box::FixBox;
+use fixed_box::{Coord, FixBox};
 
 /// One of the three axes.
 #[derive(Clone, Copy, Debug, PartialEq, Eq)]
@@ -14,6 +14,14 @@ pub(crate) enum Axis {
     Z,
 }
 
+/// The doubled centre between two coordinates, in 1/1024 metre.
+fn doubled_centre(low: Coord, high: Coord) -> i32
+    ensures value { result ≡ low.value +ℤ high.value }
+    ensures in_range { IsCentre result }
+{
+    low.value + high.value
+}
+
 /// The doubled centre of a body on an axis, in 1/1024 metre.
 fn centre(body: &(u32, FixBox), axis: Axis) -> i32
     ensures value { result ≡ centre (axis_number axis) body.now }
@@ -21,9 +29,9 @@ fn centre(body: &(u32, FixBox), axis: Axis) -> i32
 {
     let bounds = &body.1;
     match axis {
-        Axis::X => bounds.lo[0].value + bounds.hi[0].value,
-        Axis::Y => bounds.lo[1].value + bounds.hi[1].value,
-        Axis::Z => bounds.lo[2].value + bounds.hi[2].value,
+        Axis::X => doubled_centre(bounds.lo[0], bounds.hi[0]),
+        Axis::Y => doubled_centre(bounds.lo[1], bounds.hi[1]),
+        Axis::Z => doubled_centre(bounds.lo[2], bounds.hi[2]),
     }
 }
 

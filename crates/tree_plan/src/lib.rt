@@ -20,9 +20,6 @@ mod planner;
 mod run;
 
 pub use indexes::indexes_rise;
-pub use node_count::need;
+pub use node_count::{MAX_TREE_BODIES, need};
 pub use plan_child::PlanChild;
 pub use planner::Planner;
-
-#[cfg(test)]
-mod tests;

@@ -1,6 +1,7 @@
 ghost use Rattle.std.specs.Prelude.{◌≡◌, ◌+◌, ◌*◌, ◌<◌, ◌≤◌, length};
 ghost use Rattle.scene_model.specs.Need.{need};
 ghost use Rattle.tree_plan.specs.Numbering.{IsNumbered};
+ghost use Rattle.tree_plan.specs.declared.node_count.TheConstants.{MAX_TREE_BODIES};
 
 use crate::plan_child::PlanChild;
 use crate::run::Run;
@@ -16,7 +17,7 @@ fn fill_slot(
     count: usize,
     slot: usize,
 ) -> usize
-    requires few { nodes ≤ 1048576 }
+    requires few { nodes ≤ MAX_TREE_BODIES }
     requires before { IsNumbered bodies.now runs.old children.old nodes count slot }
     requires slot { slot < 4 * nodes }
     ensures { IsNumbered bodies.now runs.new children.new nodes result (slot + 1) }
@@ -48,7 +49,7 @@ pub(crate) fn number_nodes(
     children: &mut [PlanChild],
     nodes: usize,
 )
-    requires few { nodes ≤ 1048576 }
+    requires few { nodes ≤ MAX_TREE_BODIES }
     requires some { 0 < length bodies.now }
     requires nodes { nodes ≡ need (length bodies.now) }
     requires room { nodes ≤ length runs.old }

@@ -1,6 +1,7 @@
 ghost use Rattle.std.specs.Prelude.{◌≡◌, [], ◌*◌, ◌<◌, ◌≤◌, length, IfOk};
 ghost use Rattle.std.specs.List.Sorted.{IsPermutation};
 ghost use Rattle.tree_plan.specs.Arranged.{AreApart};
+ghost use Rattle.tree_plan.specs.declared.node_count.TheConstants.{MAX_TREE_BODIES};
 
 use crate::arrange::arrange;
 use crate::node_count::need;
@@ -29,6 +30,7 @@ impl Model for Planner {
     ghost use Rattle.std.specs.Prelude.{◌*◌, ◌≤◌, map, take, vec_len};
     ghost use Rattle.scene_model.specs.Need.{need};
     ghost use Rattle.tree_plan.specs.Plan.{Plan};
+    ghost use Rattle.tree_plan.specs.declared.node_count.TheConstants.{MAX_TREE_BODIES};
 
     ghost Value = { Plan };
 
@@ -38,17 +40,17 @@ impl Model for Planner {
       parents = map (λ r. r.parent) (take p.len p.runs.items);
     } };
 
-    ghost invariant = { λ p. (p.most ≤ 1048576) × (p.len ≤ need p.most) × (need p.most ≤ vec_len p.runs)
+    ghost invariant = { λ p. (p.most ≤ MAX_TREE_BODIES) × (p.len ≤ need p.most) × (need p.most ≤ vec_len p.runs)
         × (4 * need p.most ≤ vec_len p.children) × (p.most ≤ vec_len p.room) };
 }
 
 impl Planner {
     ghost use Rattle.tree_plan.specs.Plan.{node_count, child_at, parent_at, IsPlanOf};
 
-    /// A planner for so many bodies at most. It has no nodes yet. It takes all memory that it ever needs, and fails
+    /// A planner for so many bodies at most, no more than `MAX_TREE_BODIES`. It has no nodes yet. It takes all memory that it ever needs, and fails
     /// where there is not enough.
     pub fn new(alloc: Global, most: u32) -> Result<Planner, AllocError>
-        requires { most ≤ 1048576 }
+        requires { most ≤ MAX_TREE_BODIES }
         ensures { IfOk result (λ p. p ≡ record { most = most; children = []; parents = [] }) }
     {
         let nodes = need(most) as usize;

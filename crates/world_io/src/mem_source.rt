@@ -51,6 +51,20 @@ impl MemSource {
             faults: 0,
         }
     }
+
+    /// Moves the first bytes that are left to the front of `buf`, as many as one call may give and as there is room
+    /// for, and answers how many these are.
+    #[tactic(auto, using(std::proofs::lemmas::List::Folds::drop_split))]
+    fn give(&mut self, buf: &mut [u8]) -> usize
+        ensures count { result ≡ min (min self.old.at_most (length buf.old)) (length self.old.left) }
+        ensures copied { buf.new ≡ take result self.old.left ++ drop result buf.old }
+        ensures rest { self.new ≡ record self.old { left = drop result self.old.left } }
+    {
+        let count = self.at_most.min(buf.len()).min(self.bytes.len() - self.at);
+        buf[..count].copy_from_slice(&self.bytes[self.at..self.at + count]);
+        self.at += count;
+        count
+    }
 }
 
 impl Source for MemSource {
@@ -59,7 +73,6 @@ impl Source for MemSource {
     ghost faults = { λ s. s.faults };
 
     /// Its count rises exactly where the number of the call is one of those that fail.
-    #[tactic(auto, using(std::proofs::lemmas::Grind::common_steps, std::proofs::lemmas::List::Folds::drop_split))]
     fn read(&mut self, buf: &mut [u8]) -> Result<usize, Failed>
         ensures fits { IfOk result (λ n. n ≤ length buf.new) }
         ensures gave { IfOk result (λ n. Gave (Some self.old.left) (Some self.new.left) (take n buf.new)) }
@@ -83,10 +96,7 @@ impl Source for MemSource {
             self.faults = self.faults.saturating_add(1);
             return Err(Failed);
         }
-        let count = self.at_most.min(buf.len()).min(self.bytes.len() - self.at);
-        buf[..count].copy_from_slice(&self.bytes[self.at..self.at + count]);
-        self.at += count;
-        Ok(count)
+        Ok(self.give(buf))
     }
 }
 

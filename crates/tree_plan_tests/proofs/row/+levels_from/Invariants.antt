@@ -1,0 +1,4 @@
+use Rattle.tree_plan_tests.proofs.row.+levels_from.Given as goal
+
+abbrev pub decreases-levels_from : goal.decreases-levels_from
+decreases-levels_from l = l.most

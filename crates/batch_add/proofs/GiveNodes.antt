@@ -114,6 +114,15 @@ module _ (start : View) (before : List Batch) (batch : Batch) (after : List Batc
   pub has-pool : (given : ℕ) (gone left : List ℕ) → WorksUnder (pool_lock start.config) start view (giving_work start before batch after (putting given) gone left) → HasPool view
   has-pool given gone left work = record { lock = under-pool start view _ begun.rest work; idle = subst IsPoolTask (sym work.worked.doing) (pool_task given) }
 
+  -- after the last node its count may be stored
+  pub count-asks : (free : ℕ) → 0 < length batch.nodes → WorksUnder (pool_lock start.config) start view (giving_work start before batch after (putting (length batch.nodes)) batch.nodes [])
+      → KnowsFree start before batch after view free → IsPooling view.call.task × (free + length batch.nodes + taken_in view.call.task ≡ known_word view PoolFree + given_in view.call.task)
+  count-asks free some work knows =
+      let taken = ap taken_in work.worked.doing ∙ none_taken (length batch.nodes) in
+      let given = ap given_in work.worked.doing ∙ so_many (length batch.nodes) in
+      let known = knows.known in
+      (subst IsPooling (sym work.worked.doing) (is_putting (length batch.nodes) some), omega arith)
+
   -- ---- the count is loaded
 
   pub count-known : (next : View) (count : ℕ) → LoadedCount view next count → 0 < length batch.nodes

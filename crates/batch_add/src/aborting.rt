@@ -1,7 +1,6 @@
 //! Giving up a batch that is prepared.
 ghost use Rattle.std.specs.Prelude.{◌≡◌, None};
-ghost use Rattle.pass_table.specs.Holding.{IsAtRest};
-ghost use Rattle.pass_table.specs.Passes.{view_of, IsOf};
+ghost use Rattle.pass_table.specs.Passes.{view_of, IsIdle};
 ghost use Rattle.batch_add.specs.Prepared.{IsGood};
 ghost use Rattle.batch_add.specs.Aborting.{kept_of, IsAborting, HasAborted};
 
@@ -57,8 +56,7 @@ impl Operation for AbortOp {
 impl AbortOp {
     /// Begins to give the batch up; no step is made yet. Neither it nor a turn takes memory.
     pub fn new(world: &World, pass: &mut Pass, batch: Prepared) -> AbortOp
-        requires of { IsOf world.now pass.old }
-        requires rest { IsAtRest (view_of pass.old) }
+        requires idle { IsIdle world.now pass.old }
         requires good { IsGood batch (view_of pass.old) }
         ensures pass { pass.new ≡ pass.old }
         ensures kept { result.giving.kept ≡ kept_of batch }

@@ -1,7 +1,6 @@
 //! Preparing a batch and giving it up, each in one call.
 ghost use Rattle.std.specs.Prelude.{◌<◌, ◌≤◌, length, All};
-ghost use Rattle.pass_table.specs.Holding.{IsAtRest};
-ghost use Rattle.pass_table.specs.Passes.{view_of, IsOf};
+ghost use Rattle.pass_table.specs.Passes.{view_of, IsIdle};
 ghost use Rattle.batch_add.specs.Prepared.{IsGood};
 ghost use Rattle.batch_add.specs.Preparing.{PrepareAnswers};
 ghost use Rattle.batch_add.specs.Aborting.{HasAborted};
@@ -29,12 +28,11 @@ pub fn prepare<R: Wait>(
     layer: u32,
     ids: &[BodyId],
 ) -> Result<Prepared, PrepareRefused>
-    requires of { IsOf world.now pass.old }
+    requires idle { IsIdle world.now pass.old }
     requires in_layers { layer < world.now.map.layers }
     requires below { All (λ id. id.index < world.now.map.bodies) ids.now }
     requires few { length ids.now ≤ world.now.map.bodies }
-    requires rest { IsAtRest (view_of pass.old) }
-    ensures of { IsOf world.now pass.new }
+    ensures idle { IsIdle world.now pass.new }
     ensures answers { PrepareAnswers layer ids.now (view_of pass.old) (view_of pass.new) result }
 {
     match PrepareOp::new(alloc, world, pass, layer, ids) {
@@ -47,10 +45,9 @@ pub fn prepare<R: Wait>(
 ///
 /// It may wait for locks. It takes no memory and is not refused.
 pub fn abort<R: Wait>(rt: &R, world: &World, pass: &mut Pass, batch: Prepared)
-    requires of { IsOf world.now pass.old }
-    requires rest { IsAtRest (view_of pass.old) }
+    requires idle { IsIdle world.now pass.old }
     requires good { IsGood batch (view_of pass.old) }
-    ensures of { IsOf world.now pass.new }
+    ensures idle { IsIdle world.now pass.new }
     ensures aborted { HasAborted batch (view_of pass.old) (view_of pass.new) }
 {
     let mut aborting = AbortOp::new(world, pass, batch);

@@ -1,7 +1,7 @@
 //! How far drawing a tree is.
 
 /// How far drawing a tree is. Nodes and children are those of the plan.
-#[derive(Clone, Copy, Debug, PartialEq, Eq)]
+#[derive(Clone, Copy)]
 pub(crate) enum DrawStage {
     /// The word of a child is stored next.
     Child { node: u32, child: u32 },

@@ -18,7 +18,7 @@ use scene_model::{Entry, Made};
 use word_map::Name;
 
 /// How far it is.
-#[derive(Clone, Copy, Debug, PartialEq, Eq)]
+#[derive(Clone, Copy)]
 pub(crate) enum GiveStage {
     /// So many bodies are unmarked, and the stripe of the next one is being taken.
     Striping { done: u32, taking: TakeOp },
@@ -243,7 +243,7 @@ impl GivingUp {
             self.made = None;
             return Turn::Done(());
         }
-        let lock = world.config().stripes + 1;
+        let lock = world.pool_lock();
         let taking = TakeOp::new(world, pass, lock, Mode::Write);
         self.go_on(GiveStage::Locking { taking })
     }
@@ -349,7 +349,7 @@ impl GivingUp {
         ensures of { IsOf world.now pass.new }
         ensures turn { IsGiveTurn result self.old self.new (view_of pass.old) (view_of pass.new) }
     {
-        release(world, pass, world.config().stripes + 1);
+        release(world, pass, world.pool_lock());
         self.made = None;
         Turn::Done(())
     }

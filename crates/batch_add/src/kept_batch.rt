@@ -37,7 +37,7 @@ impl KeptBatch {
         ensures value { result ≡ stripe_of world.now.map (index_at self.now number) }
         ensures few { result < world.now.map.stripes }
     {
-        self.index(number) % world.config().stripes
+        world.stripe_of(self.index(number))
     }
 
     /// A node.

@@ -21,15 +21,11 @@ pub mod laws;
 mod mark_op;
 mod marking;
 mod node_taking;
-#[cfg(test)]
-mod parts_tests;
 mod prepare_begun;
 mod prepare_op;
 mod prepared;
 mod preparing;
 mod slot_search;
-#[cfg(test)]
-mod tests;
 mod tree_drawing;
 
 pub use aborting::AbortOp;

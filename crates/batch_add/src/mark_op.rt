@@ -5,7 +5,7 @@ use pass_table::TakeOp;
 use scene_model::Made;
 
 /// Why a body was not marked, with the word that says so.
-#[derive(Clone, Copy, Debug, PartialEq, Eq)]
+#[derive(Clone, Copy)]
 pub(crate) enum MarkRefused {
     /// The id names no live body. The state word of its index is this.
     Gone { state: u64 },
@@ -18,7 +18,7 @@ pub(crate) enum MarkRefused {
 }
 
 /// How far the marks are.
-#[derive(Clone, Copy, Debug, PartialEq, Eq)]
+#[derive(Clone, Copy)]
 pub(crate) enum MarkStage {
     /// The stripe of the next body is being taken.
     Taking { taking: TakeOp },

@@ -15,10 +15,7 @@ use core_state::Mode;
 use fixed_box::FixBox;
 use pass_table::{Label, Operation, Pass, TakeOp, Turn, World, release, step_15, step_17, step_19};
 use scene_model::{Entry, Made};
-use word_map::Name;
-
-/// A slot word from here on names the root of a tree; the words below are those of batches that are not attached yet.
-const TREES: u64 = 1024;
+use word_map::{Name, PhaseWord, SlotWord, StateWord};
 
 impl Operation for Marking {
     ghost use Rattle.core_state.specs.declared.view.Mode.TheVariants.{Write};
@@ -78,7 +75,7 @@ impl Marking {
         ensures left { mark_left result ≤ 13 * length ids.items }
         ensures under_way { IsMarking result (view_of pass.old) result (view_of pass.new) }
     {
-        let stripe = ids[0].index() % world.config().stripes;
+        let stripe = world.stripe_of(ids[0].index());
         let taking = TakeOp::new(world, pass, stripe, Mode::Write);
         Marking {
             layer,
@@ -126,7 +123,7 @@ impl Marking {
         ensures value { result ≡ stripe_of world.now.map (current (marks_of self.now)).index }
         ensures below { result < world.now.map.stripes }
     {
-        self.id().index() % world.config().stripes
+        world.stripe_of(self.id().index())
     }
 
     /// Goes on to a stage, after a turn that made no entry.
@@ -173,7 +170,8 @@ impl Marking {
     {
         let id = self.id();
         let state = step_15(world, pass, Name::State(id.index()));
-        if state == 256 + u64::from(id.seq()) {
+        let live = StateWord::Live { sequence: id.seq() };
+        if state == live.to_word() {
             return self.go_on(MarkStage::Live);
         }
         self.go_on(MarkStage::Refusing {
@@ -236,13 +234,13 @@ impl Marking {
         ensures turn { IsMarkTurn result self.old self.new (view_of pass.old) (view_of pass.new) }
     {
         let slot = step_17(world, pass, Name::Slot(layer, (phase - 2) as u32));
-        if slot < TREES {
+        if SlotWord::names_tree(slot) {
             return self.go_on(MarkStage::Refusing {
-                refused: MarkRefused::Held { slot },
+                refused: MarkRefused::AlreadyIn { phase },
             });
         }
         self.go_on(MarkStage::Refusing {
-            refused: MarkRefused::AlreadyIn { phase },
+            refused: MarkRefused::Held { slot },
         })
     }
 
@@ -325,7 +323,8 @@ impl Marking {
     {
         let index = self.id().index();
         let stripe = self.stripe(world);
-        step_19(world, pass, Name::Phase(index), 2 + u64::from(self.slot));
+        let joined = PhaseWord::Joined { slot: self.slot };
+        step_19(world, pass, Name::Phase(index), joined.to_word());
         self.note(pass.number(), index, bounds, stripe);
         Turn::More
     }

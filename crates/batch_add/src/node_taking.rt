@@ -13,7 +13,7 @@ use pass_table::{Label, Operation, Pass, TakeOp, Turn, World, release};
 use scene_model::Made;
 
 /// How far the taking of nodes is.
-#[derive(Clone, Copy, Debug, PartialEq, Eq)]
+#[derive(Clone, Copy)]
 pub(crate) enum NodeStage {
     /// The lock of the pool is being taken.
     Locking { taking: TakeOp },
@@ -92,7 +92,7 @@ impl NodeTaking {
         ensures count { result.count ≡ count }
         ensures under_way { IsTakingNodes result (view_of pass.old) result (view_of pass.new) }
     {
-        let lock = world.config().stripes + 1;
+        let lock = world.pool_lock();
         let taking = TakeOp::new(world, pass, lock, Mode::Write);
         NodeTaking {
             count,
@@ -254,7 +254,7 @@ impl NodeTaking {
         ensures of { IsOf world.now pass.new }
         ensures turn { IsNodesTurn result self.old self.new (view_of pass.old) (view_of pass.new) }
     {
-        release(world, pass, world.config().stripes + 1);
+        release(world, pass, world.pool_lock());
         Turn::Done(answer)
     }
 }

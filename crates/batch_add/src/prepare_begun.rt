@@ -1,8 +1,7 @@
 //! How a preparation is begun: all memory that it needs is taken.
 ghost use Rattle.std.specs.Prelude.{◌≡◌, ◌<◌, ◌≤◌, length, map, All, IfOk, None};
 ghost use Rattle.scene_model.specs.Need.{need};
-ghost use Rattle.pass_table.specs.Holding.{IsAtRest};
-ghost use Rattle.pass_table.specs.Passes.{view_of, IsOf};
+ghost use Rattle.pass_table.specs.Passes.{view_of, IsIdle};
 ghost use Rattle.batch_add.specs.Preparing.{ids_of, IsPreparing, CanPlan};
 
 use crate::mark_op::{MarkStage, Marking};
@@ -26,11 +25,10 @@ impl PrepareOp {
         layer: u32,
         ids: &[BodyId],
     ) -> Result<PrepareOp, AllocError>
-        requires of { IsOf world.now pass.old }
+        requires idle { IsIdle world.now pass.old }
         requires in_layers { layer < world.now.map.layers }
         requires below { All (λ id. id.index < world.now.map.bodies) ids.now }
         requires few { length ids.now ≤ world.now.map.bodies }
-        requires rest { IsAtRest (view_of pass.old) }
         ensures pass { pass.new ≡ pass.old }
         ensures begun { IfOk result (λ op. (op.layer ≡ layer) × (ids_of op ≡ ids.now) × IsPreparing op (view_of pass.old) op (view_of pass.new)) }
     {

@@ -9,7 +9,7 @@ use tree_bounds::TreeBounds;
 use tree_plan::Planner;
 
 /// Why what was done is undone.
-#[derive(Clone, Copy, Debug, PartialEq, Eq)]
+#[derive(Clone, Copy)]
 pub(crate) enum Undone {
     /// Fewer nodes were free than the tree needs.
     NoNodes { free: u32 },
@@ -18,7 +18,7 @@ pub(crate) enum Undone {
 }
 
 /// How far a preparation is.
-#[derive(Clone, Copy, Debug, PartialEq, Eq)]
+#[derive(Clone, Copy)]
 pub(crate) enum PrepareStage {
     /// There are no bodies.
     Empty,

@@ -8,7 +8,7 @@ ghost use Rattle.batch_add.specs.Searching.{IsSearching, HasNoted, IsSearchTurn}
 
 use pass_table::{Label, Operation, Pass, Turn, World, step_17, step_18};
 use scene_model::Made;
-use word_map::Name;
+use word_map::{Name, SlotWord};
 
 /// Looking for an empty slot of a layer, from the first to the last, and reserving it.
 ///
@@ -113,7 +113,10 @@ impl SlotSearch {
         ensures of { IsOf world.now pass.new }
         ensures turn { IsSearchTurn result self.old self.new (view_of pass.old) (view_of pass.new) }
     {
-        let own = u64::from(pass.number()) + 1;
+        let own = SlotWord::Reserved {
+            pass: pass.number(),
+        }
+        .to_word();
         match step_18(world, pass, Name::Slot(self.layer, self.slot), 0, own) {
             Ok(()) => Turn::Done(Some(self.slot)),
             Err(word) => self.note(word),

@@ -19,7 +19,7 @@ use pass_table::{Label, Operation, Pass, Turn, World, step_20, step_21, step_22,
 use scene_model::Made;
 use tree_bounds::{TreeBounds, sort_by_index};
 use tree_plan::{PlanChild, Planner};
-use word_map::Name;
+use word_map::{ChildWord, LocationWord, Name};
 
 /// Drawing the planned tree over the bodies of the newest batch in its nodes, and placing the bodies there.
 ///
@@ -150,9 +150,12 @@ impl TreeDrawing {
         ensures { result ≡ child_word self.now.nodes.items (child_at self.now.planner node child) }
     {
         match self.planner.child(node, child) {
-            PlanChild::Nothing => 0,
-            PlanChild::Body(index) => 1 + 2 * u64::from(index),
-            PlanChild::Node(below) => 2 + 2 * u64::from(self.node(below)),
+            PlanChild::Nothing => ChildWord::Empty.to_word(),
+            PlanChild::Body(index) => ChildWord::Body { index }.to_word(),
+            PlanChild::Node(below) => ChildWord::Node {
+                node: self.node(below),
+            }
+            .to_word(),
         }
     }
 
@@ -173,8 +176,12 @@ impl TreeDrawing {
         ensures { result ≡ parent_word self.now.nodes.items (parent_at self.now.planner node) }
     {
         match self.planner.parent(node) {
-            None => 0,
-            Some((above, child)) => 1 + (4 * u64::from(self.node(above)) + u64::from(child)),
+            None => LocationWord::Nowhere.to_word(),
+            Some((above, child)) => LocationWord::At {
+                node: self.node(above),
+                child,
+            }
+            .to_word(),
         }
     }
 
@@ -270,8 +277,11 @@ impl TreeDrawing {
         ensures of { IsOf world.now pass.new }
         ensures turn { IsDrawTurn result self.old self.new (view_of pass.old) (view_of pass.new) }
     {
-        let place = 1 + (4 * u64::from(self.node(node)) + u64::from(child));
-        step_23(world, pass, Name::LocA(index), place);
+        let location = LocationWord::At {
+            node: self.node(node),
+            child,
+        };
+        step_23(world, pass, Name::LocA(index), location.to_word());
         self.go_on(next_child(node, child))
     }
 

@@ -2,7 +2,7 @@
 ghost use Rattle.std.specs.Prelude.{◌≡◌, []};
 ghost use Rattle.pass_table.specs.Knowing.{KnowsMore};
 ghost use Rattle.pass_table.specs.Calls.{Adds, AtPoint, RestsAgain};
-ghost use Rattle.pass_table.specs.Passes.{view_of, IsOf};
+ghost use Rattle.pass_table.specs.Passes.{view_of, IsOf, IsIdle};
 ghost use Rattle.body_lock.specs.Guarding.{IsReading};
 ghost use Rattle.pass_table.specs.Bodies.{IsCurrent};
 ghost use Rattle.body_lock.specs.Staying.{BodyStays};
@@ -51,7 +51,7 @@ impl BodyRead {
     pub fn unlock(self, world: &World, pass: &mut Pass)
         requires of { IsOf world.now pass.old }
         requires good { IsReading self (view_of pass.old) }
-        ensures of { IsOf world.now pass.new }
+        ensures idle { IsIdle world.now pass.new }
         ensures adds { Adds (view_of pass.old) (view_of pass.new) [] }
         ensures rests { RestsAgain (view_of pass.old) (view_of pass.new) }
     {

@@ -3,7 +3,7 @@ ghost use Rattle.std.specs.Prelude.{◌≡◌, [], ◌∷◌};
 ghost use Rattle.scene_model.specs.declared.entry.Entry.TheVariants.{SetUser};
 ghost use Rattle.pass_table.specs.Knowing.{KnowsMore};
 ghost use Rattle.pass_table.specs.Calls.{Adds, AtPoint, RestsAgain};
-ghost use Rattle.pass_table.specs.Passes.{view_of, IsOf};
+ghost use Rattle.pass_table.specs.Passes.{view_of, IsOf, IsIdle};
 ghost use Rattle.body_lock.specs.Guarding.{IsWriting};
 ghost use Rattle.pass_table.specs.Bodies.{IsCurrent};
 ghost use Rattle.body_lock.specs.Staying.{BodyStays};
@@ -65,7 +65,7 @@ impl BodyWrite {
     pub fn unlock(self, world: &World, pass: &mut Pass)
         requires of { IsOf world.now pass.old }
         requires good { IsWriting self (view_of pass.old) }
-        ensures of { IsOf world.now pass.new }
+        ensures idle { IsIdle world.now pass.new }
         ensures adds { Adds (view_of pass.old) (view_of pass.new) [] }
         ensures rests { RestsAgain (view_of pass.old) (view_of pass.new) }
     {

@@ -1,8 +1,7 @@
 //! Locking a body in one call.
-ghost use Rattle.std.specs.Prelude.{◌≡◌, ◌<◌, ◌≤◌, false, length, All};
+ghost use Rattle.std.specs.Prelude.{◌≡◌, ◌<◌, ◌≤◌, false, length, All, OnErr};
 ghost use Rattle.pass_table.specs.Trying.{mode_if};
-ghost use Rattle.pass_table.specs.Holding.{IsAtRest};
-ghost use Rattle.pass_table.specs.Passes.{view_of, IsOf};
+ghost use Rattle.pass_table.specs.Passes.{view_of, IsOf, IsIdle};
 ghost use Rattle.body_lock.specs.LockingAll.{LocksAll};
 ghost use Rattle.body_lock.specs.Locking.{ReadAnswers, WriteAnswers};
 
@@ -26,10 +25,10 @@ pub fn lock_read<R: Wait>(
     pass: &mut Pass,
     id: BodyId,
 ) -> Result<BodyRead, Gone>
-    requires of { IsOf world.now pass.old }
+    requires idle { IsIdle world.now pass.old }
     requires below { id.index < world.now.map.bodies }
-    requires rest { IsAtRest (view_of pass.old) }
     ensures of { IsOf world.now pass.new }
+    ensures idle { OnErr result (IsIdle world.now pass.new) }
     ensures answers { ReadAnswers id (view_of pass.old) (view_of pass.new) result }
 {
     let mut locking = LockReadOp::new(world, pass, id);
@@ -45,10 +44,10 @@ pub fn lock_write<R: Wait>(
     pass: &mut Pass,
     id: BodyId,
 ) -> Result<BodyWrite, Gone>
-    requires of { IsOf world.now pass.old }
+    requires idle { IsIdle world.now pass.old }
     requires below { id.index < world.now.map.bodies }
-    requires rest { IsAtRest (view_of pass.old) }
     ensures of { IsOf world.now pass.new }
+    ensures idle { OnErr result (IsIdle world.now pass.new) }
     ensures answers { WriteAnswers id (view_of pass.old) (view_of pass.new) result }
 {
     let mut locking = LockWriteOp::new(world, pass, id);
@@ -65,11 +64,10 @@ pub fn lock_multi<R: Wait>(
     ids: &[BodyId],
     write: bool,
 ) -> MultiGuard
-    requires of { IsOf world.now pass.old }
+    requires idle { IsIdle world.now pass.old }
     requires some { 0 < length ids.now }
     requires few { length ids.now ≤ 64 }
     requires below { All (λ id. id.index < world.now.map.bodies) ids.now }
-    requires rest { IsAtRest (view_of pass.old) }
     ensures of { IsOf world.now pass.new }
     ensures locked { LocksAll ids.now (mode_if write) (view_of pass.old) (view_of pass.new) result }
 {

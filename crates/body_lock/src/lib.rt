@@ -32,8 +32,3 @@ pub use multi_guard::{MOST, MultiEntry, MultiGuard};
 pub use multi_op::LockMultiOp;
 pub use read_op::LockReadOp;
 pub use write_op::LockWriteOp;
-
-#[cfg(test)]
-mod body_tests;
-#[cfg(test)]
-mod tests;

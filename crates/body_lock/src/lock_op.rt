@@ -4,7 +4,7 @@ use core_state::Mode;
 use pass_table::TakeOp;
 
 /// How far it is.
-#[derive(Clone, Copy, Debug, PartialEq, Eq)]
+#[derive(Clone, Copy)]
 pub(crate) enum LockStage {
     /// The stripe of the body is being taken.
     Taking { taking: TakeOp },
@@ -15,7 +15,7 @@ pub(crate) enum LockStage {
 }
 
 /// Locking a body by turns: its stripe is taken, and then its state word tells whether it is the one that is meant.
-#[derive(Clone, Copy, Debug, PartialEq, Eq)]
+#[derive(Clone, Copy)]
 pub(crate) struct LockOp {
     pub(crate) id: BodyId,
     pub(crate) mode: Mode,

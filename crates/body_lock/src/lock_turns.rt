@@ -1,8 +1,7 @@
 //! Locking a body by turns.
 ghost use Rattle.std.specs.Prelude.{◌≡◌, ◌<◌, None};
-ghost use Rattle.pass_table.specs.Holding.{IsAtRest};
 ghost use Rattle.pass_table.specs.Turning.{IsUnderWay};
-ghost use Rattle.pass_table.specs.Passes.{view_of, IsOf};
+ghost use Rattle.pass_table.specs.Passes.{view_of, IsOf, IsIdle};
 ghost use Rattle.body_lock.specs.declared.lock_op.LockStage.TheVariants.{Taking, Held, Leaving};
 ghost use Rattle.body_lock.specs.Locking.{locking_of, lock_left, IsLocking, LockAnswers, IsLockTurn};
 
@@ -13,7 +12,7 @@ use body_ident::BodyId;
 use core_state::Mode;
 use pass_table::{Label, Operation, Pass, TakeOp, Turn, World, step_15};
 use scene_model::Made;
-use word_map::Name;
+use word_map::{Name, StateWord};
 
 impl Operation for LockOp {
     ghost use Rattle.body_lock.specs.Locking.{locking-later};
@@ -55,14 +54,13 @@ impl Operation for LockOp {
 impl LockOp {
     /// Begins to lock a body; no step is made yet.
     pub(crate) fn new(world: &World, pass: &mut Pass, id: BodyId, mode: Mode) -> LockOp
-        requires of { IsOf world.now pass.old }
+        requires idle { IsIdle world.now pass.old }
         requires below { id.index < world.now.map.bodies }
-        requires rest { IsAtRest (view_of pass.old) }
         ensures pass { pass.new ≡ pass.old }
         ensures begun { result ≡ locking_of world.now.map id mode }
         ensures under_way { IsLocking result (view_of pass.old) result (view_of pass.new) }
     {
-        let stripe = id.index() % world.config().stripes;
+        let stripe = world.stripe_of(id.index());
         let taking = TakeOp::new(world, pass, stripe, mode);
         LockOp {
             id,
@@ -107,7 +105,10 @@ impl LockOp {
         ensures turn { IsLockTurn result self.old self.new (view_of pass.old) (view_of pass.new) }
     {
         let state = step_15(world, pass, Name::State(self.id.index()));
-        if state == 256 + u64::from(self.id.seq()) {
+        let live = StateWord::Live {
+            sequence: self.id.seq(),
+        };
+        if state == live.to_word() {
             return Turn::Done(Ok(()));
         }
         self.stage = LockStage::Leaving { state };

@@ -5,7 +5,7 @@ ghost use Rattle.core_state.specs.declared.view.Mode.{Mode};
 ghost use Rattle.core_state.specs.declared.view.Mode.TheVariants.{Write};
 ghost use Rattle.core_state.specs.declared.view.Task.TheVariants.{Nothing};
 ghost use Rattle.pass_table.specs.Calls.{Adds, RestsAgain};
-ghost use Rattle.pass_table.specs.Passes.{view_of, IsOf};
+ghost use Rattle.pass_table.specs.Passes.{view_of, IsOf, IsIdle};
 ghost use Rattle.body_lock.specs.declared.multi_guard.LockedBody.{LockedBody};
 ghost use Rattle.body_lock.specs.declared.multi_guard.MultiEntry.TheVariants.{Reached};
 ghost use Rattle.body_lock.specs.Stripes.{has_stripe, HoldsAll};
@@ -35,7 +35,7 @@ pub enum MultiEntry {
 }
 
 /// One of several bodies.
-#[derive(Clone, Copy, Debug, PartialEq, Eq)]
+#[derive(Clone, Copy)]
 pub(crate) struct LockedBody {
     pub(crate) id: BodyId,
     pub(crate) entry: MultiEntry,
@@ -130,7 +130,7 @@ impl MultiGuard {
     pub fn unlock(self, world: &World, pass: &mut Pass)
         requires of { IsOf world.now pass.old }
         requires good { IsMultiGood self (view_of pass.old) }
-        ensures of { IsOf world.now pass.new }
+        ensures idle { IsIdle world.now pass.new }
         ensures adds { Adds (view_of pass.old) (view_of pass.new) [] }
         ensures rests { RestsAgain (view_of pass.old) (view_of pass.new) }
     {

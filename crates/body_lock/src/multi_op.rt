@@ -7,7 +7,7 @@ use core_state::Mode;
 use pass_table::TakeOp;
 
 /// A body that is to be locked.
-#[derive(Clone, Copy, Debug, PartialEq, Eq)]
+#[derive(Clone, Copy)]
 pub(crate) struct Wanted {
     pub(crate) id: BodyId,
 }
@@ -21,7 +21,7 @@ impl Default for Wanted {
 }
 
 /// How far it is.
-#[derive(Clone, Copy, Debug, PartialEq, Eq)]
+#[derive(Clone, Copy)]
 pub(crate) enum MultiStage {
     /// This stripe is being taken. Those of the set below it are held.
     Taking { stripe: u32, taking: TakeOp },

@@ -1,9 +1,8 @@
 //! Locking several bodies by turns.
 ghost use Rattle.std.specs.Prelude.{◌≡◌, ◌<◌, ◌≤◌, ℕ, suc, true, None, length, slice_index_or, All};
-ghost use Rattle.pass_table.specs.Holding.{IsAtRest};
 ghost use Rattle.pass_table.specs.Trying.{mode_if};
 ghost use Rattle.pass_table.specs.Turning.{IsUnderWay, AtMostOneStep, MadeBy};
-ghost use Rattle.pass_table.specs.Passes.{view_of, IsOf};
+ghost use Rattle.pass_table.specs.Passes.{view_of, IsOf, IsIdle};
 ghost use Rattle.body_lock.specs.declared.multi_op.Wanted.{Wanted};
 ghost use Rattle.body_lock.specs.declared.multi_op.MultiStage.TheVariants.{Taking, Held};
 ghost use Rattle.body_lock.specs.Stripes.{has_stripe, AreStripesOf, HoldsBelow};
@@ -18,7 +17,7 @@ use core_state::Mode;
 use pass_table::{Label, Operation, Pass, TakeOp, Turn, World, step_15};
 use scene_model::Made;
 use std::mem;
-use word_map::Name;
+use word_map::{Name, StateWord};
 
 impl Operation for LockMultiOp {
     ghost use Rattle.body_lock.specs.LockingAll.{locking_all-later};
@@ -66,10 +65,9 @@ fn mode_of(write: bool) -> Mode
 fn stripes_of(world: &World, ids: &[BodyId]) -> StripeSet
     ensures { AreStripesOf world.now.map ids.now result.bits }
 {
-    let stripes = world.config().stripes;
     let mut set = StripeSet::none();
     for id in ids {
-        set.insert(id.index() % stripes);
+        set.insert(world.stripe_of(id.index()));
     }
     set
 }
@@ -89,11 +87,10 @@ fn wanted_of(ids: &[BodyId]) -> ArrayVec<Wanted, MOST>
 impl LockMultiOp {
     /// Begins to lock several bodies; no step is made yet.
     pub fn new(world: &World, pass: &mut Pass, ids: &[BodyId], write: bool) -> LockMultiOp
-        requires of { IsOf world.now pass.old }
+        requires idle { IsIdle world.now pass.old }
         requires some { 0 < length ids.now }
         requires few { length ids.now ≤ 64 }
         requires below { All (λ id. id.index < world.now.map.bodies) ids.now }
-        requires rest { IsAtRest (view_of pass.old) }
         ensures pass { pass.new ≡ pass.old }
         ensures mode { result.mode ≡ mode_if write }
         ensures ids { wanted_ids result.wanted.items ≡ ids.now }
@@ -218,7 +215,8 @@ impl LockMultiOp {
 fn entry_of(id: BodyId, state: u64) -> MultiEntry
     ensures { SaysEntry id.seq state result }
 {
-    if state == 256 + u64::from(id.seq()) {
+    let live = StateWord::Live { sequence: id.seq() };
+    if state == live.to_word() {
         MultiEntry::Reached
     } else {
         MultiEntry::Gone { state }

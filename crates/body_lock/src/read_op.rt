@@ -1,8 +1,7 @@
 //! Locking a body to read, by turns.
 ghost use Rattle.std.specs.Prelude.{◌≡◌, ◌<◌, None};
 ghost use Rattle.core_state.specs.declared.view.Mode.TheVariants.{Read};
-ghost use Rattle.pass_table.specs.Holding.{IsAtRest};
-ghost use Rattle.pass_table.specs.Passes.{view_of, IsOf};
+ghost use Rattle.pass_table.specs.Passes.{view_of, IsIdle};
 ghost use Rattle.body_lock.specs.Locking.{locking_of, IsLockingSo};
 
 use crate::body_read::BodyRead;
@@ -15,7 +14,7 @@ use scene_model::Made;
 
 /// Locking a body to read, by turns: a load and an exchange of its stripe's word, again until it is taken, then a load of
 /// its state word, and where it is gone the stripe is let go.
-#[derive(Clone, Copy, Debug, PartialEq, Eq)]
+#[derive(Clone, Copy)]
 pub struct LockReadOp {
     pub(crate) locking: LockOp,
 }
@@ -65,9 +64,8 @@ impl Operation for LockReadOp {
 impl LockReadOp {
     /// Begins to lock a body to read; no step is made yet. The pass holds no lock.
     pub fn new(world: &World, pass: &mut Pass, id: BodyId) -> LockReadOp
-        requires of { IsOf world.now pass.old }
+        requires idle { IsIdle world.now pass.old }
         requires below { id.index < world.now.map.bodies }
-        requires rest { IsAtRest (view_of pass.old) }
         ensures pass { pass.new ≡ pass.old }
         ensures begun { result.locking ≡ locking_of world.now.map id Read }
         ensures under_way { IsLockingSo Read result.locking (view_of pass.old) result.locking (view_of pass.new) }

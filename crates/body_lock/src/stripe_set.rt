@@ -3,7 +3,7 @@ ghost use Rattle.std.specs.Prelude.{◌≡◌, ℕ, true, false, ◌<◌, ◌==�
 ghost use Rattle.body_lock.specs.Stripes.{has_stripe, IsNext, HasNone, TakesFirst};
 
 /// A set of stripes, a bit for each.
-#[derive(Clone, Copy, Debug, PartialEq, Eq)]
+#[derive(Clone, Copy)]
 pub(crate) struct StripeSet {
     pub(crate) bits: u64,
 }

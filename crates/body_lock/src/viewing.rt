@@ -14,10 +14,7 @@ use body_ident::BodyId;
 use fixed_box::FixBox;
 use pass_table::{Pass, World, step_17};
 use scene_model::{BodyView, Phase};
-use word_map::Name;
-
-/// A slot word from here on names the root of a tree; the words below are those of batches that are not attached yet.
-const TREES: u64 = 1024;
+use word_map::{Name, SlotWord};
 
 /// Loads the phase word.
 fn read_phase(world: &World, pass: &mut Pass, id: BodyId) -> u64
@@ -86,10 +83,10 @@ fn tell_phase(world: &World, pass: &mut Pass, id: BodyId, word: u64, layer: u32)
         return Phase::In;
     }
     let slot = (word - 2) as u32;
-    if load_slot(world, pass, id, layer, slot) < TREES {
-        Phase::Held
-    } else {
+    if SlotWord::names_tree(load_slot(world, pass, id, layer, slot)) {
         Phase::In
+    } else {
+        Phase::Held
     }
 }
 

@@ -45,6 +45,6 @@ pub(crate) fn unlock(world: &World, pass: &mut Pass, id: BodyId)
     ensures of { IsOf world.now pass.new }
     ensures step { (found : ℕ) × LetGo (view_of pass.old) (stripe_of world.now.map id.index) found (view_of pass.new) }
 {
-    let stripe = id.index() % world.config().stripes;
+    let stripe = world.stripe_of(id.index());
     release(world, pass, stripe);
 }

@@ -14,7 +14,7 @@ use Rattle.core_state.specs.declared.view.Task.TheVariants.{Nothing, Creating}
 use Rattle.core_state.specs.declared.view.View.{View}
 use Rattle.core_state.specs.View.{IsPass, known_word}
 use Rattle.core_state.specs.Event.{loads_list, stores_head, stores_field, of_lists, of_bodies}
-use Rattle.core_state.specs.Lists.{MayLoadList, load_list, MayStoreHead, store_head}
+use Rattle.core_state.specs.Lists.{HasList, MayLoadList, load_list, MayStoreHead, store_head}
 use Rattle.core_state.specs.Lives.{MayLoadBody, load_body, IsCreating, IsFieldOf, MayStoreField, store_field}
 use Rattle.pass_table.specs.Stepping.{Stepped, Stored}
 use Rattle.pass_table.specs.Turning.{AtMostOneStep, MadeBy}
@@ -32,6 +32,12 @@ use Rattle.body_slots.specs.Answers.{IsFullAt}
 use Rattle.body_slots.specs.Creating.{field_name, field_values, field_value, HasFieldsOf, list_taken, IsTakenOff, AtCreate, IsBegun, IsMaking, HasMade, stage_left}
 use Rattle.body_slots.proofs.Stages.{Staged}
 use Rattle.body_slots.specs.Later.{list-held, listed-steady, created-steady, field_of}
+
+-- ---- what the steps on the list ask
+
+-- once its lock is taken, the list may be changed
+pub has-list : (start view : View) → IsAtRest start → IsCalling start view (list_taken start.config) Nothing [] → HasList view
+has-list start view rest calling = record { lock = list-held start view Nothing [] rest calling; idle = calling.doing }
 
 -- ---- stages
 

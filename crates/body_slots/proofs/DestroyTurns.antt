@@ -1,17 +1,19 @@
 -- What the turns of a destruction leave that load words of the body, and those that take locks.
 use Rattle.std.proofs.Common.{◌≡◌, ◌≢◌, ◌⊎◌, ℕ, ◌+◌, ◌^◌, ◌<◌, ◌≤◌, [], Bool, true, false, Option, Some, None, Err, Result, eqb, cond, inl, inr, refl, ap, sym, ◌∙◌, subst, arith}
+use Rattle.std.proofs.lemmas.Bool.{ne_eqb}
 use Rattle.body_ident.specs.Id.{Id}
 use Rattle.scene_model.specs.declared.body_view.Phase.{Phase as BodyPhase}
 use Rattle.scene_model.specs.declared.body_view.Phase.TheVariants.{Held as HeldPhase, In}
 use Rattle.word_map.specs.declared.config.Config.{Config}
 use Rattle.word_map.specs.declared.name.Name.{Name}
 use Rattle.word_map.specs.declared.name.Name.TheVariants.{State, Phase, Layer, Slot}
-use Rattle.word_map.specs.Names.{index_lock, stripe_of}
+use Rattle.word_map.specs.Names.{lock_count, index_lock, stripe_of}
 use Rattle.core_state.specs.declared.view.Mode.{Mode}
 use Rattle.core_state.specs.declared.view.Mode.TheVariants.{Write}
 use Rattle.core_state.specs.declared.view.Task.TheVariants.{Nothing}
 use Rattle.core_state.specs.declared.view.View.{View}
-use Rattle.core_state.specs.View.{Holds, known_word}
+use Rattle.core_state.specs.View.{Holds, HoldsNot, known_word}
+use Rattle.core_state.specs.Lists.{HasList, IsLiveAndOut}
 use Rattle.core_state.specs.Lives.{MayLoadBody, load_body}
 use Rattle.core_state.specs.Batches.{MayLoadSlot, load_slot}
 use Rattle.core_state.specs.Quietly.{KnowsQuietly}
@@ -24,7 +26,7 @@ use Rattle.pass_table.specs.Holding.{IsAtRest}
 use Rattle.pass_table.specs.Calls.{IsCalling}
 use Rattle.pass_table.specs.Bodies.{Loaded, live_state, KnowsLive, IsGoneAt, IsGuarded, IsTold}
 use Rattle.pass_table.proofs.TakingTurns.{taking-anew}
-use Rattle.pass_table.proofs.Calling.{point-now, calling-sizes, calling-more, calling-pass, taken-calling, waiting-calling}
+use Rattle.pass_table.proofs.Calling.{point-now, calling-sizes, calling-mode, calling-more, calling-pass, taken-calling, waiting-calling}
 use Rattle.pass_table.proofs.Bodies.{loaded-body, loaded-slot, gone-now}
 use Rattle.pass_table.proofs.LockedBodies.{live-steady, phase-steady, guarded-more, phase-stays, layer-stays, guarded-tells, told-body, told-in, told-held, told-joined, slot-below, layer-below, phase-fits, layer-fits}
 use Rattle.body_slots.specs.declared.answers.DestroyRefused.{DestroyRefused}
@@ -32,8 +34,8 @@ use Rattle.body_slots.specs.declared.answers.DestroyRefused.TheVariants.{Gone, I
 use Rattle.body_slots.specs.declared.destroy_op.DestroyStage.{DestroyStage}
 use Rattle.body_slots.specs.declared.destroy_op.DestroyStage.TheVariants.{TakingStripe, Held, Live, Joining, Placed, TakingList, Locked, Leaving}
 use Rattle.body_slots.specs.declared.destroy_op.DestroyOp.{DestroyOp}
-use Rattle.body_slots.specs.Destroying.{IsDestroyAnswer, IsInUseAt, stripe_taken, KnowsOut, HasStripeAlone, AtDestroy, IsBegunFor, IsUnmaking, HasUnmade, stage_left}
-use Rattle.body_slots.specs.DestroyLater.{one-taken, stripe-held}
+use Rattle.body_slots.specs.Destroying.{IsDestroyAnswer, IsInUseAt, stripe_taken, both_taken, KnowsOut, HasStripeAlone, AtDestroy, IsBegunFor, IsUnmaking, HasUnmade, stage_left}
+use Rattle.body_slots.specs.DestroyLater.{one-taken, stripe-held, both-stripe, both-list}
 use Rattle.body_slots.proofs.Stages.{Staged}
 
 -- ---- stages
@@ -52,6 +54,33 @@ destroy_stages = record {
   unmade = λ operation after. refl;
   holds = λ first start operation view making. making.2;
   goes = λ first start operation after view next making at. (making.0, making.1, at);
+}
+
+-- ---- what the steps on the list ask
+
+-- its lock is one of the world's
+pub list-named : (lock : ℕ) (c : Config) → lock ≡ index_lock c → lock < lock_count c
+list-named lock c is = omega arith
+
+-- and is free as long as only the stripe is held
+pub list-free : (id : Id) (start view : View) → IsBegunFor id start → IsCalling start view (stripe_taken start.config id) Nothing [] → HoldsNot view (index_lock start.config)
+list-free id start view begun calling =
+    let stripe = stripe_of start.config id.index in
+    let list = index_lock start.config in
+    calling-mode start view view (stripe_taken start.config id) Nothing [] calling begun.rest list
+    ∙ ap (λ (t : Bool). cond {A = Option Mode} t (Some Write) None) (ne_eqb stripe list (λ same. let below = begun.striped in omega arith))
+
+-- once it is taken, the list may be changed
+pub has-list : (id : Id) (start view : View) → IsAtRest start → IsCalling start view (both_taken start.config id) Nothing [] → HasList view
+has-list id start view rest calling = record { lock = both-list id start view Nothing [] rest calling; idle = calling.doing }
+
+-- for a body that is live and out
+pub has-out : (id : Id) (start view : View) → IsBegunFor id start → IsCalling start view (both_taken start.config id) Nothing [] → KnowsOut id view → IsLiveAndOut view id.index
+has-out id start view begun calling out = record {
+  below = subst (λ (c : Config). id.index < c.bodies) (sym (calling-sizes start view view _ _ _ calling)) begun.below;
+  stripe = both-stripe id start view Nothing [] begun.rest calling;
+  live = let live = out.0 in omega arith;
+  out = out.1;
 }
 
 -- ---- taking the stripe

@@ -4,4 +4,3 @@ pub mod CreateEnds
 pub mod Begun
 pub mod DestroyTurns
 pub mod DestroyEnds
-pub mod FreshPasses

@@ -1,7 +1,6 @@
 //! Creating and destroying a body in one call.
 ghost use Rattle.std.specs.Prelude.{◌<◌, IfOk, IfErr, OnOk};
-ghost use Rattle.pass_table.specs.Holding.{IsAtRest};
-ghost use Rattle.pass_table.specs.Passes.{view_of, IsOf};
+ghost use Rattle.pass_table.specs.Passes.{view_of, IsIdle};
 ghost use Rattle.body_slots.specs.Answers.{HasCreated, WasFull, HasEnded};
 ghost use Rattle.body_slots.specs.Destroying.{HasDestroyed, WasRefused};
 
@@ -25,10 +24,9 @@ pub fn create<R: Wait>(
     bounds: FixBox,
     user: u32,
 ) -> Result<BodyId, Full>
-    requires of { IsOf world.now pass.old }
+    requires idle { IsIdle world.now pass.old }
     requires in_layers { layer < world.now.map.layers }
-    requires rest { IsAtRest (view_of pass.old) }
-    ensures of { IsOf world.now pass.new }
+    ensures idle { IsIdle world.now pass.new }
     ensures ended { HasEnded (view_of pass.old) (view_of pass.new) }
     ensures created { IfOk result (HasCreated layer bounds user (view_of pass.old) (view_of pass.new)) }
     ensures full { IfErr result (WasFull (view_of pass.old) (view_of pass.new)) }
@@ -46,10 +44,9 @@ pub fn destroy<R: Wait>(
     pass: &mut Pass,
     id: BodyId,
 ) -> Result<(), DestroyRefused>
-    requires of { IsOf world.now pass.old }
+    requires idle { IsIdle world.now pass.old }
     requires below { id.index < world.now.map.bodies }
-    requires rest { IsAtRest (view_of pass.old) }
-    ensures of { IsOf world.now pass.new }
+    ensures idle { IsIdle world.now pass.new }
     ensures ended { HasEnded (view_of pass.old) (view_of pass.new) }
     ensures destroyed { OnOk result (HasDestroyed id (view_of pass.old) (view_of pass.new)) }
     ensures refused { IfErr result (WasRefused id (view_of pass.old) (view_of pass.new)) }

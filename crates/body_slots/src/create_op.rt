@@ -6,7 +6,7 @@ use pass_table::TakeOp;
 use scene_model::Made;
 
 /// How far a creation is.
-#[derive(Clone, Copy, Debug, PartialEq, Eq)]
+#[derive(Clone, Copy)]
 pub(crate) enum CreateStage {
     /// The lock of the list is being taken.
     Taking { taking: TakeOp },

@@ -2,8 +2,7 @@
 ghost use Rattle.std.specs.Prelude.{◌≡◌, ℕ, ◌<◌, None};
 ghost use Rattle.core_state.specs.Lives.{IsFieldOf};
 ghost use Rattle.pass_table.specs.declared.turn.Turn.TheVariants.{More};
-ghost use Rattle.pass_table.specs.Holding.{IsAtRest};
-ghost use Rattle.pass_table.specs.Passes.{view_of, IsOf};
+ghost use Rattle.pass_table.specs.Passes.{view_of, IsOf, IsIdle};
 ghost use Rattle.pass_table.specs.Turning.{IsUnderWay};
 ghost use Rattle.body_slots.specs.declared.create_op.CreateStage.TheVariants.{Taking, Locked, First, Linked, Taken, Fields, Filled, Leaving};
 ghost use Rattle.body_slots.specs.Creating.{field_name, field_value, IsMaking, IsCreateTurn};
@@ -16,7 +15,7 @@ use fixed_box::FixBox;
 use free_list::{load_head, load_link, take_off};
 use pass_table::{Label, Operation, Pass, TakeOp, Turn, World, release, step_12, step_13, step_15};
 use scene_model::{Entry, Made};
-use word_map::Name;
+use word_map::{Name, StateWord};
 
 /// How many words a body is given before it is created: its layer, its user number and its box.
 pub(crate) const FIELDS: u32 = 8;
@@ -58,14 +57,13 @@ impl Operation for CreateOp {
 impl CreateOp {
     /// Begins to create a body; no step is made yet.
     pub fn new(world: &World, pass: &mut Pass, layer: u32, bounds: FixBox, user: u32) -> CreateOp
-        requires of { IsOf world.now pass.old }
+        requires idle { IsIdle world.now pass.old }
         requires in_layers { layer < world.now.map.layers }
-        requires rest { IsAtRest (view_of pass.old) }
         ensures pass { pass.new ≡ pass.old }
         ensures begun { (result.layer ≡ layer) × (result.bounds ≡ bounds) × (result.user ≡ user) }
         ensures under_way { IsMaking result (view_of pass.old) result (view_of pass.new) }
     {
-        let lock = world.config().stripes;
+        let lock = world.index_lock();
         let taking = TakeOp::new(world, pass, lock, Mode::Write);
         CreateOp {
             layer,
@@ -264,10 +262,11 @@ impl CreateOp {
         ensures of { IsOf world.now pass.new }
         ensures turn { IsCreateTurn result self.old self.new (view_of pass.old) (view_of pass.new) }
     {
-        let sequence = (state % 256 + 1) % 256;
-        step_13(world, pass, Name::State(index), sequence + 256);
+        let sequence = StateWord::sequence_of(state).wrapping_add(1);
+        let word = StateWord::Live { sequence }.to_word();
+        step_13(world, pass, Name::State(index), word);
         self.stage = CreateStage::Leaving {
-            answer: Ok(BodyId::new(index, sequence as u8)),
+            answer: Ok(BodyId::new(index, sequence)),
         };
         self.made = Some(Made {
             pass: pass.number(),
@@ -294,7 +293,7 @@ impl CreateOp {
         ensures of { IsOf world.now pass.new }
         ensures turn { IsCreateTurn result self.old self.new (view_of pass.old) (view_of pass.new) }
     {
-        release(world, pass, world.config().stripes);
+        release(world, pass, world.index_lock());
         self.made = None;
         Turn::Done(answer)
     }

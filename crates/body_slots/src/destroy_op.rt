@@ -5,7 +5,7 @@ use pass_table::TakeOp;
 use scene_model::Made;
 
 /// How far a destruction is.
-#[derive(Clone, Copy, Debug, PartialEq, Eq)]
+#[derive(Clone, Copy)]
 pub(crate) enum DestroyStage {
     /// The stripe of the body is being taken.
     TakingStripe { taking: TakeOp },

@@ -1,8 +1,7 @@
 //! Destroying a body by turns.
 ghost use Rattle.std.specs.Prelude.{◌≡◌, ◌<◌, Err, None};
 ghost use Rattle.pass_table.specs.declared.turn.Turn.TheVariants.{More};
-ghost use Rattle.pass_table.specs.Holding.{IsAtRest};
-ghost use Rattle.pass_table.specs.Passes.{view_of, IsOf};
+ghost use Rattle.pass_table.specs.Passes.{view_of, IsOf, IsIdle};
 ghost use Rattle.pass_table.specs.Turning.{IsUnderWay};
 ghost use Rattle.body_slots.specs.declared.answers.DestroyRefused.TheVariants.{InUse};
 ghost use Rattle.body_slots.specs.declared.destroy_op.DestroyStage.TheVariants.{TakingStripe, Held, Live, Joining, Placed, TakingList, Locked, Headed, Linked, InFront, Destroyed, Leaving};
@@ -15,7 +14,7 @@ use core_state::Mode;
 use free_list::{load_head, put_in_front, store_link};
 use pass_table::{Label, Operation, Pass, TakeOp, Turn, World, release, step_14, step_15, step_17};
 use scene_model::{Entry, Made, Phase};
-use word_map::Name;
+use word_map::{Name, SlotWord, StateWord};
 
 impl Operation for DestroyOp {
     ghost use Rattle.core_state.specs.declared.view.Mode.TheVariants.{Write};
@@ -54,14 +53,13 @@ impl Operation for DestroyOp {
 impl DestroyOp {
     /// Begins to destroy the body of an id; no step is made yet.
     pub fn new(world: &World, pass: &mut Pass, id: BodyId) -> DestroyOp
-        requires of { IsOf world.now pass.old }
+        requires idle { IsIdle world.now pass.old }
         requires below { id.index < world.now.map.bodies }
-        requires rest { IsAtRest (view_of pass.old) }
         ensures pass { pass.new ≡ pass.old }
         ensures begun { result.id ≡ id }
         ensures under_way { IsUnmaking result (view_of pass.old) result (view_of pass.new) }
     {
-        let stripe = id.index() % world.config().stripes;
+        let stripe = world.stripe_of(id.index());
         let taking = TakeOp::new(world, pass, stripe, Mode::Write);
         DestroyOp {
             id,
@@ -146,7 +144,10 @@ impl DestroyOp {
         ensures turn { IsDestroyTurn result self.old self.new (view_of pass.old) (view_of pass.new) }
     {
         let state = step_15(world, pass, Name::State(self.id.index()));
-        if state == 256 + u64::from(self.id.seq()) {
+        let live = StateWord::Live {
+            sequence: self.id.seq(),
+        };
+        if state == live.to_word() {
             return self.go_on(DestroyStage::Live);
         }
         self.go_on(DestroyStage::Leaving {
@@ -164,7 +165,7 @@ impl DestroyOp {
     {
         let phase = step_15(world, pass, Name::Phase(self.id.index()));
         if phase == 0 {
-            let lock = world.config().stripes;
+            let lock = world.index_lock();
             let taking = TakeOp::new(world, pass, lock, Mode::Write);
             return self.go_on(DestroyStage::TakingList { taking });
         }
@@ -211,10 +212,10 @@ impl DestroyOp {
         ensures turn { IsDestroyTurn result self.old self.new (view_of pass.old) (view_of pass.new) }
     {
         let word = step_17(world, pass, Name::Slot(layer, slot));
-        if word < 1024 {
-            return self.refuse(Phase::Held);
+        if SlotWord::names_tree(word) {
+            return self.refuse(Phase::In);
         }
-        self.refuse(Phase::In)
+        self.refuse(Phase::Held)
     }
 
     /// A turn of taking the lock of the list.
@@ -308,7 +309,7 @@ impl DestroyOp {
         ensures of { IsOf world.now pass.new }
         ensures turn { IsDestroyTurn result self.old self.new (view_of pass.old) (view_of pass.new) }
     {
-        release(world, pass, world.config().stripes);
+        release(world, pass, world.index_lock());
         self.go_on(DestroyStage::Leaving { answer: Ok(()) })
     }
 
@@ -325,7 +326,7 @@ impl DestroyOp {
         ensures of { IsOf world.now pass.new }
         ensures turn { IsDestroyTurn result self.old self.new (view_of pass.old) (view_of pass.new) }
     {
-        release(world, pass, self.id.index() % world.config().stripes);
+        release(world, pass, world.stripe_of(self.id.index()));
         self.made = None;
         Turn::Done(answer)
     }

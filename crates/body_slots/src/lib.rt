@@ -19,6 +19,3 @@ pub use answers::{DestroyRefused, Full};
 pub use calls::{create, destroy};
 pub use create_op::CreateOp;
 pub use destroy_op::DestroyOp;
-
-#[cfg(test)]
-mod tests;

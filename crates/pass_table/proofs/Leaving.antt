@@ -1,12 +1,15 @@
 -- What a step leaves of the view of its pass.
 use Rattle.std.proofs.lemmas.Bool.{eq-eqb, ne_eqb}
-use Rattle.std.proofs.Common.{◌≡◌, ◌≢◌, cond, ℕ, ◌<◌, ◌^◌, ◌-◌, List, [], ◌∷◌, ◌++◌, Some, None, Option, Bool, true, false, eqb, refl, ap, sym, ◌∙◌, subst}
+use Rattle.std.proofs.Common.{◌≡◌, ◌≢◌, cond, ℕ, ◌<◌, ◌^◌, ◌-◌, List, [], ◌∷◌, ◌++◌, Some, None, Option, Bool, true, false, eqb, refl, ap, sym, ◌∙◌, subst, arith}
 use Rattle.atomic_table.specs.Table.{Me}
 use Rattle.atomic_table.specs.Seated.{TableId}
 use Rattle.word_map.specs.declared.config.Config.{Config}
 use Rattle.word_map.specs.declared.name.Name.{Name}
 use Rattle.word_map.specs.declared.name.Name.TheVariants.{Lock}
+use Rattle.word_map.specs.Limits.{IsConfig}
+use Rattle.word_map.specs.Names.{IsName}
 use Rattle.word_map.specs.Layout.{word_count, name_of}
+use Rattle.word_map.proofs.Stripes.{stripes-range}
 use Rattle.core_state.specs.declared.view.Mode.{Mode}
 use Rattle.core_state.specs.declared.view.Mode.TheVariants.{Read, Write}
 use Rattle.core_state.specs.declared.view.LockStep.{LockStep}
@@ -18,6 +21,9 @@ use Rattle.core_state.specs.Locking.{bit_of, take, MayRelease, release}
 use Rattle.core_state.specs.Kind.{Kind, Asking, found_by, view_after}
 use Rattle.pass_table.specs.Stepping.{step_by, Stepped, MayStep}
 use Rattle.pass_table.specs.declared.lock_set.LockSet.{LockSet}
+use Rattle.pass_table.specs.declared.pass.Pass.{Pass}
+use Rattle.pass_table.specs.declared.world.World.{World}
+use Rattle.pass_table.specs.Passes.{view_of, IsOf}
 use Rattle.pass_table.specs.LockSets.{bit_in, IsChanged}
 use Rattle.pass_table.specs.Holding.{mode_by, AreHeld, IsStill}
 use Rattle.core_guard.proofs.LockWords.{mode-push}
@@ -45,6 +51,10 @@ pub stepped-named : (asks : Asking) (kind same : Kind) (view next : View) (key c
 stepped-named asks kind same view next key c place first second found name keyed named kinds stepped =
     subst (λ (k : Kind). Stepped asks k view name first second found next) kinds
     (subst (λ (n : Name). Stepped asks kind view n first second found next) (ap (λ (d : Config). name_of d place) keyed ∙ named) stepped)
+
+-- so many locks at the most has a world
+pub lock-below : (c : Config) (lock : ℕ) → IsConfig c → IsName c (Lock lock) → lock < 66
+lock-below c lock limits named = let range = stripes-range c.stripes limits.stripes in omega arith
 
 -- ---- how the locks are held
 
@@ -91,8 +101,17 @@ module _ (asks : Asking) (kind : Kind) (view : View) (name : Name) (first second
   pub sizes-left : next.config ≡ view.config
   sizes-left = ap (λ (v : View). v.config) stepped.leaves
 
+  pub still-held : IsStill kind → (held written : LockSet) → AreHeld held written view.locks → AreHeld held written next.locks
+  still-held still held written are = subst (AreHeld held written) (sym (ap (λ (v : View). v.locks) stepped.leaves ∙ (still _ name _ first second).0)) are
+
   pub walk-left : IsStill kind → next.walk.is_on ≡ view.walk.is_on
   walk-left still = ap (λ (v : View). v.walk.is_on) stepped.leaves ∙ (still _ name _ first second).1
+
+-- the pass stays one of its world
+pub of-left : (asks : Asking) (kind : Kind) (world : World) (pass next : Pass) (name : Name) (first second found : ℕ) → Stepped asks kind (view_of pass) name first second found (view_of next)
+    → next.seat.table_id ≡ pass.seat.table_id → IsOf world pass → IsOf world next
+of-left asks kind world pass next name first second found stepped same of =
+    record { table = same ∙ of.table; sizes = sizes-left asks kind (view_of pass) name first second found (view_of next) stepped ∙ of.sizes }
 
 -- an exchange that found the word that it expected took the lock, and another left the locks as they were
 module _ (asks : Asking) (mode : Mode) (view next : View) (lock expected new found : ℕ) (stepped : Stepped asks (take mode) view (Lock lock) expected new found next) where

@@ -1,4 +1,4 @@
--- A lock that was taken can be let go, and then the pass is at rest as before.
+-- A lock that was taken can be let go, and then the pass is at rest as before. A pass that did nothing yet is idle.
 use Rattle.std.proofs.Common.{◌≡◌, ℕ, Bool, true, false, eqb, cond, Option, Some, None, refl, ap, ◌∙◌}
 use Rattle.std.proofs.lemmas.Bool.{eq-eqb}
 use Rattle.core_state.specs.declared.view.Mode.{Mode}
@@ -6,6 +6,10 @@ use Rattle.core_state.specs.declared.view.LockStep.TheVariants.{Taken, Released}
 use Rattle.core_state.specs.declared.view.View.{View}
 use Rattle.core_state.specs.View.{mode_of, mode_after}
 use Rattle.pass_table.specs.Holding.{MayLetGo, LetGo, IsAtRest}
+use Rattle.pass_table.specs.declared.pass.Pass.{Pass}
+use Rattle.pass_table.specs.declared.world.World.{World}
+use Rattle.pass_table.specs.Opened.{IsFresh}
+use Rattle.pass_table.specs.Passes.{IsIdle}
 use Rattle.pass_table.specs.Trying.{Leaves, with_taken}
 use Rattle.core_guard.proofs.LockWords.{mode-push}
 
@@ -36,3 +40,10 @@ module _ (view mid : View) (lock : ℕ) (mode : Mode) (rest : IsAtRest view) (le
         (mode-push mid.locks (Released lock) other ∙ (ap (λ (o : Option Mode). mode_after other o (Released lock)) (mid-mode other) ∙ none-left (eqb lock other)));
     done = ap (λ (v : View). v.call.task) go.1.leaves;
   }
+
+-- a pass of a world that was just opened is idle
+pub fresh-idle : (world : World) (number : ℕ) (pass : Pass) → IsFresh world number pass → IsIdle world pass
+fresh-idle world number pass fresh = record {
+  of = fresh.of;
+  rest = record { free = λ lock. ap (λ (v : View). mode_of v.locks lock) fresh.view; done = ap (λ (v : View). v.call.task) fresh.view };
+}

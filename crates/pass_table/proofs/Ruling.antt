@@ -1,10 +1,11 @@
 -- A world is opened in the state that the rule asks for, and its passes are those of its numbers.
-use Rattle.std.proofs.Common.{◌≡◌, ℕ, ◌+◌, ◌-◌, ◌<◌, List, [], ◌∷◌, ◌++◌, map, length, replicate, slice_index_or, zero, suc, Option, None, refl, ap, sym, ◌∙◌, subst, inl, inr, arith}
+use Rattle.std.proofs.Common.{◌≡◌, ℕ, ◌+◌, ◌-◌, ◌<◌, ◌≤◌, List, [], ◌∷◌, ◌++◌, map, length, slice_index_or, refl, ap, sym, ◌∙◌, subst, inl, inr, arith}
 use Rattle.std.specs.List.{range_with_len}
 use Rattle.std.proofs.lemmas.Bool.{cases_lt}
-use Rattle.std.proofs.lemmas.List.{length-append, length-replicate, get_or_append_left}
+use Rattle.std.proofs.lemmas.List.{length-append, get_or_append_left}
 use Rattle.std.proofs.lemmas.List.FromFn.{map-range_with_len_more}
 use Rattle.atomic_table.specs.Table.{opening}
+use Rattle.atomic_table.specs.declared.shared.Seat.{Seat}
 use Rattle.word_map.specs.declared.config.Config.{Config}
 use Rattle.word_map.specs.Limits.{IsConfig}
 use Rattle.word_map.specs.Layout.{name_of, word_count}
@@ -14,8 +15,9 @@ use Rattle.pass_table.specs.declared.world.World.{World}
 use Rattle.pass_table.specs.declared.lock_set.LockSet.{LockSet}
 use Rattle.pass_table.specs.LockSets.{bit_in}
 use Rattle.pass_table.specs.Holding.{mode_by, AreHeld}
-use Rattle.pass_table.specs.Opened.{IsFresh, AreFresh, AreAll}
+use Rattle.pass_table.specs.Opened.{IsFresh, AreFresh, AreAll, IsLast}
 use Rattle.core_state.specs.declared.view.Role.TheVariants.{Pass as PassRole}
+use Rattle.core_state.specs.declared.view.View.{View}
 use Rattle.core_state.specs.Log.{opening_word, words}
 use Rattle.core_state.specs.View.{blank_view}
 use Rattle.pass_table.specs.Standing.{IsRuled}
@@ -55,10 +57,37 @@ AreFresh-push world passes pass fresh last = λ number past below.
           subst (λ (n : ℕ). IsFresh world n (slice_index_or (passes ++ pass ∷ []) n past)) same (subst (IsFresh world (length passes)) (sym (get_or_last passes pass past)) last)
     ]
 
-pub ruleset open_rules = (AreFresh-push, length-append)
+-- no pass yet
+pub AreFresh-none : (world : World) (passes : List Pass) → passes ≡ [] → AreFresh world passes
+AreFresh-none world passes none = λ number past below. let count = ap length none in absurd (omega arith)
 
--- the first two passes of a list of all
-pub first_two : (world : World) (a b : Pass) (list mid rest : List Pass) → AreAll world list → list ≡ a ∷ mid → mid ≡ b ∷ rest → IsFresh world 0 a × IsFresh world 1 b
-first_two world a b list mid rest all one two =
-    let fresh : AreFresh world (a ∷ b ∷ rest) = subst (AreFresh world) (one ∙ ap (λ (l : List Pass). a ∷ l) two) all.fresh in
-    (fresh 0 a (omega arith), fresh 1 a (omega arith))
+-- a pass more after so many
+pub fresh-more : (world : World) (passes more : List Pass) (pass : Pass) (number : ℕ) → more ≡ passes ++ pass ∷ [] → length passes ≡ number → AreFresh world passes → IsFresh world number pass
+    → (length more ≡ number + 1) × AreFresh world more
+fresh-more world passes more pass number same count fresh last = (
+  ap length same ∙ (length-append passes (pass ∷ []) ∙ ap (λ (n : ℕ). n + 1) count),
+  subst (AreFresh world) (sym same) (AreFresh-push world passes pass fresh (subst (λ (n : ℕ). IsFresh world n pass) (sym count) last)),
+)
+
+-- the last number that is given
+pub last-number : (passes number : ℕ) → number ≤ passes - 1 → passes - 1 ≤ number → number ≡ passes - 1
+last-number passes number below above = omega arith
+
+-- one number more is left
+pub number-below : (passes all number : ℕ) → passes ≡ all → number < passes - 1 → number + 1 < all
+number-below passes all number same below = omega arith
+
+-- the seat that has the last number alone is that of a fresh pass
+pub last-view : (world : World) (seat : Seat (Unit {0}) View) (passes number : ℕ) → IsLast world number seat → passes ≡ world.map.passes → number ≡ passes - 1
+    → seat.me.0 ≡ blank_view world.map (PassRole (passes - 1) 0)
+last-view world seat passes number last all same =
+    let further : world.map.passes - 1 - number ≡ 0 = omega arith in
+    last.view ∙ (λ i. blank_view world.map (PassRole (same i) (further i)))
+
+-- with the last pass there are all
+pub all-fresh : (world : World) (passes all : List Pass) (pass : Pass) (count number : ℕ) → count ≡ world.map.passes → 1 ≤ count → number ≡ count - 1 → all ≡ passes ++ pass ∷ [] → length passes ≡ number
+    → AreFresh world passes → IsFresh world (count - 1) pass → AreAll world all
+all-fresh world passes all pass count number sizes some same parts many fresh last =
+    let more = fresh-more world passes all pass number parts many fresh (subst (λ (n : ℕ). IsFresh world n pass) (sym same) last) in
+    let whole : number + 1 ≡ world.map.passes = omega arith in
+    record { count = more.0 ∙ whole; fresh = more.1 }

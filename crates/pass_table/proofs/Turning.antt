@@ -83,6 +83,14 @@ module _ (asks : Asking) (kind : Kind) (view next : View) (name : Name) (first s
       subst (λ (n : ℕ). MadeBy view next (option_map (λ entry. record { pass = n; entry = entry }) (kind.entry view name value))) (ap (λ (o : Option ℕ). unwrap_or o 0) (sym stepped.allowed.pass ∙ pass))
       (subst (λ (s : Option ℕ). MadeBy view next (made_of kind made s)) (ap (λ (f : ℕ). stored_by kind.operation f first second) (sym stepped.finds) ∙ stored) made-by-step)
 
+  -- a kind that makes no entry
+  pub made-none : ((value : ℕ) → kind.entry view name value ≡ None) → MadeBy view next None
+  made-none never = subst (λ (m : Option Made). MadeBy view next m) (none-made (stored_by kind.operation (found_by stepped.before made) first second)) made-by-step
+    where
+      none-made : (stored : Option ℕ) → made_of kind made stored ≡ None
+      none-made None = refl
+      none-made (Some value) = ap (option_map (λ (entry : Entry). record { pass = stepped.number; entry = entry })) (never value)
+
 -- what goes on from each beginning goes on
 pub goes-on : {T S : Type 0} (under_way : S → View → S → View → Type 0) (turn : Turn T) (before after : S) (view next : View)
     → ((first : S) (start : View) → under_way first start before view → GoesOn turn (under_way first start after next)) → IsUnderWay under_way before view → GoesOn turn (IsUnderWay under_way after next)
@@ -118,3 +126,6 @@ loaded-made view next lock found step = made-by-step MayLoadLock load_lock view 
 pub exchanged-step : (view next : View) (lock : ℕ) (mode : Mode) (expected found : ℕ) → ExchangedLock view next lock mode expected found → AtMostOneStep view next
 exchanged-step view next lock Read expected found made = one-step (MayTake Read) (take Read) view next (Lock lock) expected made.put found made.step (λ before after steps. of_locks (takes_read steps))
 exchanged-step view next lock Write expected found made = one-step (MayTake Write) (take Write) view next (Lock lock) expected made.put found made.step (λ before after steps. of_locks (takes_write steps))
+
+pub exchanged-made : (view next : View) (lock : ℕ) (mode : Mode) (expected found : ℕ) → ExchangedLock view next lock mode expected found → MadeBy view next None
+exchanged-made view next lock mode expected found made = made-none (MayTake mode) (take mode) view next (Lock lock) expected made.put found made.step (λ value. refl)

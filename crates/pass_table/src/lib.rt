@@ -57,11 +57,6 @@ pub use typed_bodies::{step_12, step_13, step_14, step_15, step_16};
 pub use typed_lists::{step_9, step_10, step_11};
 pub use world::World;
 
-#[cfg(test)]
-mod look_twice;
-#[cfg(test)]
-mod tests;
-
 /// A world may be shared between threads.
 fn is_shared<T: Sync>() {}
 

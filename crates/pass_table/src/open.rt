@@ -80,7 +80,6 @@ fn open_table(alloc: Global, map: Map) -> Result<(World, Seat), AllocError>
 }
 
 /// Opens all passes, each from the one before it, which keeps its own number alone.
-#[tactic(auto, using(crate::proofs::Ruling::open_rules))]
 fn open_passes(alloc: Global, world: &World, seat: Seat) -> Result<Vec<Pass>, AllocError>
     requires { IsLast world.now 0 seat }
     ensures { IfOk result (λ list. AreAll world.now list.items) }

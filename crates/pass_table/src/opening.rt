@@ -1,18 +1,20 @@
 //! The words of a world in which nothing was done.
-ghost use Rattle.std.specs.Prelude.{◌≡◌, IfOk, []};
+ghost use Rattle.std.specs.Prelude.{◌≡◌, ◌<◌, IfOk, []};
+ghost use Rattle.word_map.specs.Names.{IsName};
 ghost use Rattle.core_state.specs.Log.{opening_link, empty_side, opening_word, words};
 
 use std::alloc::{AllocError, Global};
-use word_map::{Config, Map, Name};
+use word_map::{BoundWord, Config, ListWord, Map, Name};
 
 /// The link of a list through all places in order.
 fn opening_link(count: u32, place: u32) -> u64
+    requires below { place < count }
     ensures { result ≡ opening_link count place }
 {
-    if place as u64 + 1 == count as u64 {
-        0
+    if place + 1 == count {
+        ListWord::End.to_word()
     } else {
-        2 + place as u64
+        ListWord::Next { place: place + 1 }.to_word()
     }
 }
 
@@ -20,15 +22,16 @@ fn opening_link(count: u32, place: u32) -> u64
 fn empty_side(k: u32) -> u64
     ensures { result ≡ empty_side k }
 {
-    if k < 3 { 33_554_432 } else { 0 }
+    BoundWord::Empty.to_word(k)
 }
 
 /// A word of a world in which nothing was done yet.
 fn opening_word(config: Config, name: Name) -> u64
+    requires named { IsName config name }
     ensures { result ≡ opening_word config name }
 {
     match name {
-        Name::SlotHead | Name::PoolHead => 1,
+        Name::SlotHead | Name::PoolHead => ListWord::Next { place: 0 }.to_word(),
         Name::SlotNext(index) => opening_link(config.bodies, index),
         Name::BoxWord(_, _) => 1,
         Name::Bound(_, _, k) => empty_side(k),

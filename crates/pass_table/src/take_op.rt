@@ -2,7 +2,7 @@
 use core_state::Mode;
 
 /// Taking a lock by turns: a load, and where its word shows nobody that excludes this one, an exchange.
-#[derive(Clone, Copy, Debug, PartialEq, Eq)]
+#[derive(Clone, Copy)]
 pub struct TakeOp {
     pub(crate) lock: u32,
     pub(crate) mode: Mode,

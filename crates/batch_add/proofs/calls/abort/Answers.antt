@@ -3,6 +3,7 @@ use Rattle.pass_table.specs.Passes.{view_of}
 use Rattle.batch_add.specs.declared.kept_batch.KeptBatch.{KeptBatch}
 use Rattle.batch_add.specs.Keeping.{IsBegunFor}
 use Rattle.batch_add.proofs.AbortBegun.{prepared-begun}
+use Rattle.batch_add.proofs.Resting.{aborted-rest}
 use Rattle.batch_add.proofs.calls.abort.Goals as goal
 
 pub returns-clause-aborted : goal.returns-clause-aborted
@@ -18,5 +19,8 @@ returns-clause-aborted g c =
       given =
           c.drive.ensures.answers c.new-aborting.result view c.new-aborting.ensures.under_way good.before good.batch good.after
           (subst (λ (k : KeptBatch). IsBegunFor k view good.before good.batch good.after) (sym c.new-aborting.ensures.kept)
-          (prepared-begun c.args.batch view good.before good.batch good.after good.bodies good.is c.requires.rest));
+          (prepared-begun c.args.batch view good.before good.batch good.after good.bodies good.is c.requires.idle.rest));
     }
+
+pub returns-clause-idle : goal.returns-clause-idle
+returns-clause-idle g c = record { of = c.drive.ensures.of; rest = aborted-rest c.args.batch (view_of c.args.pass.now) (view_of c.drive.new.pass) (returns-clause-aborted g c) }

@@ -7,6 +7,7 @@ use Rattle.batch_add.specs.declared.prepared.Prepared.{Prepared}
 use Rattle.batch_add.specs.declared.answers.PrepareRefused.{PrepareRefused}
 use Rattle.batch_add.specs.declared.answers.PrepareRefused.TheVariants.{Memory, Empty, NoSlot, NoNodes, Gone, Held, AlreadyIn, WrongLayer}
 use Rattle.batch_add.specs.Preparing.{IsPrepareAnswer, PrepareAnswers}
+use Rattle.batch_add.proofs.Resting.{prepare-rest}
 use Rattle.batch_add.proofs.calls.prepare.Goals as goal
 
 -- no turn answers want of memory
@@ -31,3 +32,9 @@ returns-in-Ok-clause-answers g c =
     (subst (λ (l : ℕ). IsPrepareAnswer l c.args.ids.now view next c.drive.result) begun.0
     (subst (λ (l : List Id). IsPrepareAnswer operation.layer l view next c.drive.result) begun.1
     (c.drive.ensures.answers operation view begun.2)))
+
+pub returns-in-Ok-clause-idle : goal.returns-in-Ok-clause-idle
+returns-in-Ok-clause-idle g c = record {
+  of = c.drive.ensures.of;
+  rest = prepare-rest c.args.layer c.args.ids.now (view_of c.args.pass.now) (view_of c.drive.new.pass) c.drive.result c.requires.idle.rest (returns-in-Ok-clause-answers g c);
+}

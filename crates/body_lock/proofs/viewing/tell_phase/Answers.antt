@@ -1,6 +1,7 @@
 use Rattle.std.proofs.Common.{◌≡◌, ℕ, ◌+◌, ◌<◌, ◌-◌, ◌∙◌, subst, arith}
 use Rattle.scene_model.specs.declared.body_view.Phase.TheVariants.{Out, Held, In}
 use Rattle.word_map.specs.declared.config.Config.{Config}
+use Rattle.word_map.proofs.Words.{no-tree}
 use Rattle.pass_table.specs.Passes.{view_of}
 use Rattle.pass_table.proofs.Between.{more-refl}
 use Rattle.pass_table.proofs.LockedBodies.{phase-stays, layer-stays, guarded-tells, told-body, told-out, told-in, told-held, told-joined, slot-below, layer-below, phase-fits}
@@ -43,8 +44,8 @@ returns-then-word-eq1-clause-tells c =
 names : (word : ℕ) → (word ≡ 0 → ⊥) → (word ≡ 1 → ⊥) → word ≡ 2 + (word - 2)
 names word not_out not_in = omega arith
 
-pub returns-then-load_slot-lt-TREES-clause-tells : goal.returns-then-load_slot-lt-TREES-clause-tells
-returns-then-load_slot-lt-TREES-clause-tells c =
+pub returns-else-names_tree-clause-tells : goal.returns-else-names_tree-clause-tells
+returns-else-names_tree-clause-tells c =
     let view = view_of c.args.pass.now in
     let next = view_of c.load_slot.new.pass in
     let loaded = c.load_slot.ensures.loaded in
@@ -52,10 +53,10 @@ returns-then-load_slot-lt-TREES-clause-tells c =
     told-body c.args.id next told (λ r. r.phase ≡ Held)
     (told-held c.args.id next told (c.args.word - 2) c.args.layer c.load_slot.result
     (phase-stays c.args.id view next c.requires.guarded loaded.more ∙ (c.requires.word ∙ names c.args.word c.if-word-eq0.false c.if-word-eq1.false))
-    (layer-stays c.args.id view next c.requires.guarded loaded.more ∙ c.requires.layer) loaded.word c.if-load_slot-lt-TREES.true)
+    (layer-stays c.args.id view next c.requires.guarded loaded.more ∙ c.requires.layer) loaded.word (no-tree c.load_slot.result c.names_tree.ensures.1 c.if-names_tree.false))
 
-pub returns-else-load_slot-lt-TREES-clause-tells : goal.returns-else-load_slot-lt-TREES-clause-tells
-returns-else-load_slot-lt-TREES-clause-tells c =
+pub returns-then-names_tree-clause-tells : goal.returns-then-names_tree-clause-tells
+returns-then-names_tree-clause-tells c =
     let view = view_of c.args.pass.now in
     let next = view_of c.load_slot.new.pass in
     let loaded = c.load_slot.ensures.loaded in
@@ -63,4 +64,4 @@ returns-else-load_slot-lt-TREES-clause-tells c =
     told-body c.args.id next told (λ r. r.phase ≡ In)
     (told-joined c.args.id next told (c.args.word - 2) c.args.layer c.load_slot.result
     (phase-stays c.args.id view next c.requires.guarded loaded.more ∙ (c.requires.word ∙ names c.args.word c.if-word-eq0.false c.if-word-eq1.false))
-    (layer-stays c.args.id view next c.requires.guarded loaded.more ∙ c.requires.layer) loaded.word c.if-load_slot-lt-TREES.false)
+    (layer-stays c.args.id view next c.requires.guarded loaded.more ∙ c.requires.layer) loaded.word (c.names_tree.ensures.0 c.if-names_tree.true))

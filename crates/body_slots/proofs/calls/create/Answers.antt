@@ -19,3 +19,6 @@ pub returns-clause-full : goal.returns-clause-full
 returns-clause-full g c =
     let made = c.drive.ensures.answers c.new-creating.result (view_of c.args.pass.now) c.new-creating.ensures.under_way in
     of_refusal _ _ c.drive.result made.1
+
+pub returns-clause-idle : goal.returns-clause-idle
+returns-clause-idle g c = record { of = c.drive.ensures.of; rest = (returns-clause-ended g c).rests.rest }

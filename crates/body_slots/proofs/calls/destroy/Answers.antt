@@ -33,3 +33,6 @@ returns-clause-refused g c =
     let next = view_of c.drive.new.pass in
     let made = c.drive.ensures.answers c.new-destroying.result view c.new-destroying.ensures.under_way in
     of_refusal _ _ c.drive.result (subst (λ (i : Id). IsDestroyAnswer i view next c.drive.result) c.new-destroying.ensures.begun made.1)
+
+pub returns-clause-idle : goal.returns-clause-idle
+returns-clause-idle g c = record { of = c.drive.ensures.of; rest = (returns-clause-ended g c).rests.rest }

@@ -12,7 +12,7 @@ overflow_cast-marked c =
     let good = c.requires.good in
     let few = bodies-few c.args.batch (view_of c.args.pass.now) good.before good.batch good.after good.bodies good.is in
     let most = c.args.world.now.in_limits.bodies.1 in
-    let same = ap (λ (m : Config). m.bodies) c.requires.of.sizes in
+    let same = ap (λ (m : Config). m.bodies) c.requires.idle.of.sizes in
     let len = c.len-marked.ensures in
     let items = c.args.batch.indexes.ok.0 in
     omega arith
@@ -24,7 +24,7 @@ overflow_cast-node_count c =
     let bodies = c.args.world.now.in_limits.bodies.1 in
     let nodes = c.args.world.now.in_limits.nodes.1 in
     let layers = c.args.world.now.in_limits.layers.1 in
-    let same = c.requires.of.sizes in
+    let same = c.requires.idle.of.sizes in
     let bodies_same = ap (λ (m : Config). m.bodies) same in
     let nodes_same = ap (λ (m : Config). m.nodes) same in
     let layers_same = ap (λ (m : Config). m.layers) same in
@@ -43,5 +43,5 @@ new-requires-clause-begun c =
       good.batch,
       good.after,
       subst (λ (k : KeptBatch). IsBegunFor k view good.before good.batch good.after) (λ i. record (kept_of prepared) { marked = marked i; node_count = nodes i })
-          (prepared-begun prepared view good.before good.batch good.after good.bodies good.is c.requires.rest),
+          (prepared-begun prepared view good.before good.batch good.after good.bodies good.is c.requires.idle.rest),
     )

@@ -1,6 +1,6 @@
 use Rattle.std.proofs.Common.{◌≡◌, ℕ, ◌+◌, ◌<◌, sym, ◌∙◌, ap, subst, arith}
 use Rattle.word_map.specs.declared.config.Config.{Config}
-use Rattle.word_map.specs.Names.{pool_lock}
+use Rattle.word_map.specs.Names.{pool_lock, lock_count}
 use Rattle.core_state.specs.declared.view.Mode.TheVariants.{Write}
 use Rattle.core_state.specs.declared.view.View.{View}
 use Rattle.pass_table.specs.TakeTurns.{taking_of, IsTaking}
@@ -48,7 +48,7 @@ returns-clause-turn c =
     let taking = c.new-taking.result in
     let few = few-left taking in
     let still : view_of c.new-taking.new.pass ≡ mid = ap view_of c.new-taking.ensures.pass in
-    let lock = c.config-lock.result.stripes + 1 in
+    let lock = c.pool_lock-lock.result in
     let goes : IsTaking (taking_of lock Write) mid taking mid = subst (λ (v : View). IsTaking (taking_of lock Write) mid taking v) still c.new-taking.ensures.under_way in
     subst (λ (v : View). IsGiveTurn c.go_on.result operation c.go_on.new.self view v) (sym still)
     (went-on c.go_on.result operation c.go_on.new.self Bare (Locking taking) view mid c.go_on.ensures.more c.go_on.ensures.stage c.requires.stage (slot-step view mid kept.layer kept.slot stored)
@@ -56,11 +56,18 @@ returns-clause-turn c =
     (λ start before batch after begun at.
     let many = nodes-many kept batch begun.keeps in
     let some = c.if-self-eq0.false in
-    let sizes : c.config-lock.result ≡ start.config = c.config-lock.ensures.sizes ∙ (sym c.requires.of.sizes ∙ worked-sizes start view _ at.worked) in (
+    let named = c.pool_lock-lock.ensures ∙ ap (λ (s : Config). pool_lock s) (sym c.requires.of.sizes ∙ worked-sizes start view _ at.worked) in (
       more_nodes kept.node_count many some,
       slot-gone start before batch after kept begun view at mid stored,
-      subst (λ (s : Config). IsTaking (taking_of (pool_lock s) Write) mid taking mid) sizes goes,
+      subst (λ (l : ℕ). IsTaking (taking_of l Write) mid taking mid) named goes,
     )))
   where
     more_nodes : {n : ℕ} (count : ℕ) → n ≡ count → (count ≡ 0 → ⊥) → 0 < n
     more_nodes count same some = omega arith
+
+-- the lock of the pool is one of the world's
+pool-named : (lock : ℕ) (c : Config) → lock ≡ pool_lock c → lock < lock_count c
+pool-named lock c is = omega arith
+
+pub new-taking-requires-clause-named : goal.new-taking-requires-clause-named
+new-taking-requires-clause-named c = pool-named c.pool_lock-lock.result c.args.world.now.map c.pool_lock-lock.ensures

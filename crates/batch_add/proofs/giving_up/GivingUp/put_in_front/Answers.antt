@@ -7,7 +7,7 @@ use Rattle.free_list.specs.Pool.{GaveNode}
 use Rattle.batch_add.specs.declared.giving_up.GiveStage.TheVariants.{Next, Linked, Given}
 use Rattle.batch_add.specs.GivingUp.{IsPutting}
 use Rattle.batch_add.proofs.GiveTurns.{at-stage, went-on}
-use Rattle.batch_add.proofs.GiveNodes.{node-kept, node-less, node-loose, front-step, front-made, front-all, front-next}
+use Rattle.batch_add.proofs.GiveNodes.{node-kept, node-less, node-loose, front-step, front-made, front-all, front-next, has-pool}
 use Rattle.batch_add.proofs.giving_up.GivingUp.put_in_front.Goals as goal
 
 pub put_node_in_front-requires-clause-loose : goal.put_node_in_front-requires-clause-loose
@@ -76,3 +76,10 @@ returns-clause-turn c =
     subst (IsPutting start before batch after next free) (sym one)
     (front-next start before batch after operation.kept begun view free given at.0 next
     (subst (λ (n : ℕ). GaveNode view next n) (c.node.ensures.value ∙ node-kept operation.kept batch begun.keeps given at.0.at) gave) short))
+
+pub put_node_in_front-requires-clause-pool : goal.put_node_in_front-requires-clause-pool
+put_node_in_front-requires-clause-pool c =
+    let operation = c.args.self.now in
+    let view = view_of c.args.pass.now in
+    let now = at-stage operation (Linked c.args.free c.args.given) view c.requires.under_way c.requires.stage in
+    has-pool now.start now.before now.batch now.after operation.kept now.begun view c.args.given _ _ now.at.0.work

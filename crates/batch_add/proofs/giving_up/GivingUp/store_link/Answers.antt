@@ -6,7 +6,7 @@ use Rattle.free_list.specs.Pool.{LinkedNode}
 use Rattle.batch_add.specs.declared.giving_up.GiveStage.TheVariants.{Headed, Linked}
 use Rattle.batch_add.specs.WorkLater.{worked-sizes}
 use Rattle.batch_add.proofs.GiveTurns.{at-stage, went-on}
-use Rattle.batch_add.proofs.GiveNodes.{node-kept, node-loose, link-step, link-made, link-known}
+use Rattle.batch_add.proofs.GiveNodes.{node-kept, node-loose, link-step, link-made, link-known, has-pool}
 use Rattle.batch_add.proofs.giving_up.GivingUp.store_link.Goals as goal
 
 pub store_pool_link-requires-clause-below : goal.store_pool_link-requires-clause-below
@@ -41,3 +41,10 @@ returns-clause-turn c =
     (λ start before batch after begun at.
     link-known start before batch after operation.kept begun view free given at.0 next head
     (subst (λ (n : ℕ). LinkedNode view next n head) (c.node.ensures.value ∙ node-kept operation.kept batch begun.keeps given at.0.at) linked) at.1)
+
+pub store_pool_link-requires-clause-pool : goal.store_pool_link-requires-clause-pool
+store_pool_link-requires-clause-pool c =
+    let operation = c.args.self.now in
+    let view = view_of c.args.pass.now in
+    let now = at-stage operation (Headed c.args.free c.args.given c.args.head) view c.requires.under_way c.requires.stage in
+    has-pool now.start now.before now.batch now.after operation.kept now.begun view c.args.given _ _ now.at.0.work

@@ -1,6 +1,6 @@
-use Rattle.std.proofs.Common.{◌≡◌, ℕ, ◌<◌, length, ◌∙◌, sym, ap, subst, arith}
+use Rattle.std.proofs.Common.{◌≡◌, ℕ, ◌<◌, length, ◌∙◌, sym, ap, subst, arith, refl}
 use Rattle.word_map.specs.declared.config.Config.{Config}
-use Rattle.word_map.specs.Names.{stripe_of}
+use Rattle.word_map.specs.Names.{stripe_of, lock_count}
 use Rattle.core_state.specs.declared.view.Mode.TheVariants.{Write}
 use Rattle.pass_table.specs.declared.pass.Pass.{Pass}
 use Rattle.pass_table.specs.TakeTurns.{taking_of, IsTaking, turns_left}
@@ -10,7 +10,7 @@ use Rattle.batch_add.specs.declared.mark_op.MarkStage.TheVariants.{Taking, Leavi
 use Rattle.batch_add.specs.Marking.{marks_of, current, IsMarkTurn}
 use Rattle.batch_add.specs.WorkLater.{worked-sizes}
 use Rattle.batch_add.proofs.MarkTurns.{went-on}
-use Rattle.batch_add.proofs.MarkEnds.{going-at, none-held, then-next, done-turn}
+use Rattle.batch_add.proofs.MarkEnds.{going-at, none-held, then-next, done-turn, may-let_go}
 use Rattle.batch_add.proofs.mark_op.Marking.leave.Goals as goal
 
 pub returns-then-self-len-clause-turn : goal.returns-then-self-len-clause-turn
@@ -50,3 +50,28 @@ returns-clause-turn c =
     let sizes = sym c.requires.of.sizes ∙ worked-sizes start view _ at.0.worked in
     then-next start before batch operation.layer operation.slot (marks_of operation) begun view next stripe _ at.0 go more taking
     (subst (λ (l : ℕ). IsTaking (taking_of l Write) next taking next) (c.stripe-next.ensures.value ∙ ap (λ (s : Config). stripe_of s (current (marks_of operation)).index) sizes) begun_now)))
+
+-- a stripe is one of the locks of a world
+stripe-named : (c d : Config) (stripe : ℕ) → c ≡ d → stripe < c.stripes → stripe < lock_count d
+stripe-named c d stripe same below = let stripes = ap (λ (s : Config). s.stripes) same in omega arith
+
+pub release-requires-clause-named : goal.release-requires-clause-named
+release-requires-clause-named c =
+    let view = view_of c.args.pass.now in
+    let operation = c.args.self.now in
+    let way = c.requires.under_way in
+    let goes = way.goes.goes in
+    let at = going-at operation (Leaving c.args.stripe) way.start view goes c.requires.stage in
+    stripe-named way.start.config c.args.world.now.map c.args.stripe (sym (worked-sizes way.start view _ at.0.worked) ∙ c.requires.of.sizes) at.1
+
+pub release-requires-clause-may : goal.release-requires-clause-may
+release-requires-clause-may c =
+    let view = view_of c.args.pass.now in
+    let operation = c.args.self.now in
+    let way = c.requires.under_way in
+    let goes = way.goes.goes in
+    let at = going-at operation (Leaving c.args.stripe) way.start view goes c.requires.stage in
+    may-let_go way.start goes.before goes.batch operation.layer operation.slot (marks_of operation) goes.begun view c.args.stripe at.0
+
+pub new-taking-requires-clause-named : goal.new-taking-requires-clause-named
+new-taking-requires-clause-named c = stripe-named c.args.world.now.map c.args.world.now.map c.stripe-next.result refl c.stripe-next.ensures.below

@@ -22,8 +22,8 @@ step_15-state-requires-clause-asks c =
     may-load operation.layer operation.slot way.start goes.before goes.batch (marks_of operation) goes.begun view
     (going-at operation Striped way.start view goes c.requires.stage) (State c.index.result) (c.index.ensures.value ∙ ap (λ (i : Id). i.index) c.id-id.ensures)
 
-pub returns-then-state-from-clause-turn : goal.returns-then-state-from-clause-turn
-returns-then-state-from-clause-turn c =
+pub returns-then-state-to_word-clause-turn : goal.returns-then-state-to_word-clause-turn
+returns-then-state-to_word-clause-turn c =
     let view = view_of c.args.pass.now in
     let next = view_of c.step_15-state.new.pass in
     let operation = c.args.self.now in
@@ -34,7 +34,7 @@ returns-then-state-from-clause-turn c =
     (λ start before batch begun at.
     state-live operation.layer operation.slot start before batch (marks_of operation) begun view next state
     (subst (λ (n : ℕ). Stepped MayLoadBody load_body view (State n) 0 0 state next) (c.index.ensures.value ∙ ap (λ (i : Id). i.index) c.id-id.ensures) stepped) at
-    (c.if-state-from.true ∙ ap (λ (n : ℕ). 256 + n) (c.from.ensures ∙ (c.seq.ensures ∙ ap (λ (i : Id). i.seq) c.id-id.ensures))))
+    (c.if-state-to_word.true ∙ (c.to_word.ensures ∙ ap (λ (n : ℕ). 256 + n) (c.seq.ensures ∙ ap (λ (i : Id). i.seq) c.id-id.ensures))))
 
 pub returns-clause-turn : goal.returns-clause-turn
 returns-clause-turn c =
@@ -48,4 +48,4 @@ returns-clause-turn c =
     (λ start before batch begun at.
     state-gone operation.layer operation.slot start before batch (marks_of operation) begun view next state
     (subst (λ (n : ℕ). Stepped MayLoadBody load_body view (State n) 0 0 state next) (c.index.ensures.value ∙ ap (λ (i : Id). i.index) c.id-id.ensures) stepped) at
-    (λ says. c.if-state-from.false (says ∙ ap (λ (n : ℕ). 256 + n) (sym (c.from.ensures ∙ (c.seq.ensures ∙ ap (λ (i : Id). i.seq) c.id-id.ensures))))))
+    (λ says. c.if-state-to_word.false (says ∙ sym (c.to_word.ensures ∙ ap (λ (n : ℕ). 256 + n) (c.seq.ensures ∙ ap (λ (i : Id). i.seq) c.id-id.ensures)))))

@@ -19,8 +19,8 @@ step_19-requires-clause-asks c =
     let view = view_of c.args.pass.now in
     let operation = c.args.self.now in
     let index = c.index-index.ensures.value ∙ ap (λ (i : Id). i.index) c.id.ensures in
-    subst (λ (n : ℕ). MayMark view (Phase n) (2 + c.from.result) 0) (sym index)
-    (may-mark operation c.args.bounds view (2 + c.from.result) c.requires.under_way c.requires.stage (ap (λ (n : ℕ). 2 + n) c.from.ensures))
+    subst (λ (n : ℕ). MayMark view (Phase n) c.to_word.result 0) (sym index)
+    (may-mark operation c.args.bounds view c.to_word.result c.requires.under_way c.requires.stage c.to_word.ensures)
 
 pub note-requires-clause-fits : goal.note-requires-clause-fits
 note-requires-clause-fits c =
@@ -43,10 +43,10 @@ returns-clause-turn c =
     let number = c.number.result in
     let stripe = c.stripe-stripe.result in
     let bounds = c.args.bounds in
-    let value = 2 + c.from.result in
+    let value = c.to_word.result in
     let index = c.index-index.ensures.value ∙ ap (λ (i : Id). i.index) c.id.ensures in
     let pass : IsPass view number = ap (λ (v : View). number_of v) (sym c.step_19.ensures.step.1.leaves) ∙ c.number.ensures in
     let sizes = c.requires.of.sizes in
-    mark-turn operation new number bounds stripe (subst (λ (n : ℕ). Notes operation new number n bounds stripe) index c.note.ensures) view next value (ap (λ (n : ℕ). 2 + n) c.from.ensures)
+    mark-turn operation new number bounds stripe (subst (λ (n : ℕ). Notes operation new number n bounds stripe) index c.note.ensures) view next value c.to_word.ensures
     (subst (λ (n : ℕ). Stored MayMark mark view (Phase n) value next) index c.step_19.ensures.step) pass c.requires.stage
     (c.stripe-stripe.ensures.value ∙ ap (λ (s : Config). stripe_of s (current (marks_of operation)).index) (sym sizes)) (subst (λ (s : Config). stripe < s.stripes) (sym sizes) c.stripe-stripe.ensures.below) c.requires.under_way

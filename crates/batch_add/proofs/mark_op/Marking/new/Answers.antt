@@ -15,9 +15,8 @@ returns-clause-under_way c =
     let next = view_of c.new-taking.new.pass in
     let ids = c.args.ids.items in
     let sizes = c.requires.of.sizes in
-    let shape : c.config.result ≡ view.config = c.config.ensures.sizes ∙ sym sizes in
     let first = get_or_read ids 0 c.index.result.now c.requires.some c.index.ensures (record { index = 0; seq = 0 }) in
     let index = c.index-2.ensures.value ∙ ap (λ (i : Id). i.index) first in
     marking-begun _ view next c.args.pass.now.number c.new-taking.result refl refl c.args.pass.now.numbered c.requires.rest (ap view_of c.new-taking.ensures.pass) c.requires.some c.requires.room
     (subst (λ (s : Config). All (λ (id : Id). id.index < s.bodies) ids) (sym sizes) c.requires.below) c.requires.newest
-    (subst (λ (l : ℕ). IsTaking (taking_of l Write) view c.new-taking.result next) (λ i. stripe_of (shape i) (index i)) c.new-taking.ensures.under_way)
+    (subst (λ (l : ℕ). IsTaking (taking_of l Write) view c.new-taking.result next) (c.stripe_of-stripe.ensures.value ∙ (λ i. stripe_of ((sym sizes) i) (index i))) c.new-taking.ensures.under_way)

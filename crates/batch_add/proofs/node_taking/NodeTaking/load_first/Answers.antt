@@ -1,15 +1,18 @@
-use Rattle.std.proofs.Common.{◌≡◌, ◌≢◌, ℕ, suc, ◌-◌, ◌<◌, refl, subst, arith}
+use Rattle.std.proofs.Common.{◌≡◌, ◌≢◌, ℕ, suc, ◌-◌, ◌<◌, refl, subst, arith, ◌≤◌}
 use Rattle.word_map.specs.declared.config.Config.{Config}
 use Rattle.word_map.specs.declared.name.Name.TheVariants.{PoolHead}
 use Rattle.pass_table.specs.Passes.{view_of}
 use Rattle.batch_add.specs.declared.node_taking.NodeStage.TheVariants.{Next, First}
 use Rattle.batch_add.specs.TakingNodes.{AtNodes}
-use Rattle.batch_add.proofs.TakingNodes.{nodes-on, pool-step, pool-made, head-some, head-first}
+use Rattle.batch_add.proofs.TakingNodes.{nodes-on, pool-step, pool-made, head-some, head-first, taking-pool}
 use Rattle.batch_add.proofs.node_taking.NodeTaking.load_first.Goals as goal
 
 -- the head names this node
 names : (head : ℕ) → head ≢ 0 → head ≡ suc (head - 1)
 names head some = omega arith
+
+at_least : (head : ℕ) → head ≢ 0 → 1 ≤ head
+at_least head some = omega arith
 
 pub overflow_cast-self : goal.overflow_cast-self
 overflow_cast-self c =
@@ -35,3 +38,20 @@ returns-clause-turn c =
     nodes-on operation (record operation { stage = First (head - 1) }) Next view next c.requires.stage refl refl (pool-step view next PoolHead head loaded.step) (pool-made view next PoolHead head loaded.step) (omega arith)
     (λ first start under_way at.
     head-first start operation view next head (head - 1) under_way.rest loaded (names head (head-some start operation view next head under_way.rest loaded at)) at)
+
+pub load_pool_head-head-requires-clause-pool : goal.load_pool_head-head-requires-clause-pool
+load_pool_head-head-requires-clause-pool c =
+    let operation = c.args.self.now in
+    let view = view_of c.args.pass.now in
+    let way = c.requires.under_way in
+    let at = subst (AtNodes way.start operation view) c.requires.stage way.goes.stage in
+    taking-pool way.start view _ operation.taken way.goes.rest at.0.worked
+
+pub overflow_sub-self : goal.overflow_sub-self
+overflow_sub-self c =
+    let operation = c.args.self.now in
+    let view = view_of c.args.pass.now in
+    let way = c.requires.under_way in
+    let at = subst (AtNodes way.start operation view) c.requires.stage way.goes.stage in
+    let some = head-some way.start operation view (view_of c.load_pool_head-head.new.pass) c.load_pool_head-head.result way.goes.rest c.load_pool_head-head.ensures.loaded at in
+    at_least c.load_pool_head-head.result some

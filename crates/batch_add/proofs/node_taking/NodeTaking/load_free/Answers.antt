@@ -1,8 +1,9 @@
-use Rattle.std.proofs.Common.{Err, refl, arith}
+use Rattle.std.proofs.Common.{Err, refl, arith, subst}
 use Rattle.word_map.specs.declared.name.Name.TheVariants.{PoolFree}
 use Rattle.pass_table.specs.Passes.{view_of}
+use Rattle.batch_add.specs.TakingNodes.{AtNodes}
 use Rattle.batch_add.specs.declared.node_taking.NodeStage.TheVariants.{Locked, Next, Leaving}
-use Rattle.batch_add.proofs.TakingNodes.{nodes-on, pool-step, pool-made, free-few, free-enough}
+use Rattle.batch_add.proofs.TakingNodes.{nodes-on, pool-step, pool-made, free-few, free-enough, locked-pool}
 use Rattle.batch_add.proofs.node_taking.NodeTaking.load_free.Goals as goal
 
 pub returns-then-free-from-clause-turn : goal.returns-then-free-from-clause-turn
@@ -24,3 +25,11 @@ returns-clause-turn c =
     let loaded = c.load_count-free.ensures.loaded in
     nodes-on operation (record operation { free = free; stage = Next }) Locked view next c.requires.stage refl refl (pool-step view next PoolFree free loaded.step) (pool-made view next PoolFree free loaded.step)
     (omega arith) (λ first start under_way at. free-enough start operation view next free loaded at under_way.some (let enough = c.if-free-from.false in let is = c.from.ensures in omega arith))
+
+pub load_count-free-requires-clause-pool : goal.load_count-free-requires-clause-pool
+load_count-free-requires-clause-pool c =
+    let operation = c.args.self.now in
+    let view = view_of c.args.pass.now in
+    let way = c.requires.under_way in
+    let at = subst (AtNodes way.start operation view) c.requires.stage way.goes.stage in
+    locked-pool way.start view way.goes.rest at.0

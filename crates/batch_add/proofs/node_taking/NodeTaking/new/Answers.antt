@@ -8,5 +8,5 @@ use Rattle.batch_add.proofs.node_taking.NodeTaking.new.Goals as goal
 pub returns-clause-under_way : goal.returns-clause-under_way
 returns-clause-under_way c =
     nodes-begun c.new-taking.result c.args.count (view_of c.args.pass.now) (view_of c.new-taking.new.pass) _ c.args.pass.now.number _ c.args.pass.now.numbered
-    (ap (λ (sizes : Config). pool_lock sizes) (c.config-lock.ensures.sizes ∙ sym c.requires.of.sizes)) refl refl refl c.requires.nodes c.requires.some c.requires.preparing c.requires.rest (ap view_of c.new-taking.ensures.pass)
+    (c.pool_lock-lock.ensures ∙ ap (λ (sizes : Config). pool_lock sizes) (sym c.requires.of.sizes)) refl refl refl c.requires.nodes c.requires.some c.requires.preparing c.requires.rest (ap view_of c.new-taking.ensures.pass)
     c.new-taking.ensures.under_way

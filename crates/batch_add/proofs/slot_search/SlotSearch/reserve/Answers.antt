@@ -1,11 +1,12 @@
-use Rattle.std.proofs.Common.{ℕ, ◌+◌, ap}
+use Rattle.std.proofs.Common.{◌≡◌, ◌+◌, arith}
 use Rattle.pass_table.specs.Passes.{view_of}
 use Rattle.batch_add.proofs.Searching.{search-inside, noted-turn, reserve-step, reserve-missed, reserve-found, reserve-unmade, reserved-turn}
 use Rattle.batch_add.proofs.slot_search.SlotSearch.reserve.Goals as goal
 
 pub returns-in-Ok-clause-turn : goal.returns-in-Ok-clause-turn
 returns-in-Ok-clause-turn c =
-    reserved-turn c.args.self.now (view_of c.args.pass.now) (view_of c.step_18.new.pass) c.number.result _ c.number.ensures (ap (λ (n : ℕ). n + 1) c.from-own.ensures) c.in-Ok.ensures.step
+    let own : c.to_word-own.result ≡ c.number.result + 1 = (let word = c.to_word-own.ensures in omega arith) in
+    reserved-turn c.args.self.now (view_of c.args.pass.now) (view_of c.step_18.new.pass) c.number.result _ c.number.ensures own c.in-Ok.ensures.step
 
 pub returns-in-Err-clause-turn : goal.returns-in-Err-clause-turn
 returns-in-Err-clause-turn c =

@@ -1,4 +1,4 @@
-use Rattle.std.proofs.Common.{◌≡◌, ◌<◌, ℕ, ◌+◌, ◌*◌, sym, ◌∙◌, subst}
+use Rattle.std.proofs.Common.{◌≡◌, ◌<◌, ℕ, ap, sym, ◌∙◌, subst}
 use Rattle.word_map.specs.declared.name.Name.TheVariants.{LocA}
 use Rattle.word_map.specs.declared.config.Config.{Config}
 use Rattle.core_state.specs.Batches.{MayPlace}
@@ -24,7 +24,7 @@ step_23-requires-clause-asks c =
     let view = view_of c.args.pass.now in
     let under_way = c.requires.under_way in
     let at = subst (AtDraw (planned_of operation) under_way.start view) c.requires.stage under_way.goes.1 in
-    let is : 1 + (4 * c.from.result + c.from-2.result) ≡ place (node_at operation.nodes.items c.args.node) c.args.child = λ i. place ((c.from.ensures ∙ c.node.ensures) i) (c.from-2.ensures i) in
+    let is : c.to_word.result ≡ place (node_at operation.nodes.items c.args.node) c.args.child = c.to_word.ensures ∙ ap (λ (n : ℕ). place n c.args.child) c.node.ensures in
     subst (λ (w : ℕ). MayPlace view (LocA c.args.index) w 0) (sym is) (may-place (planned_of operation) under_way.start view c.args.node c.args.child c.args.index at)
 
 pub returns-clause-turn : goal.returns-clause-turn
@@ -34,4 +34,4 @@ returns-clause-turn c =
     let under_way = c.requires.under_way in
     let at = subst (AtDraw (planned_of operation) under_way.start view) c.requires.stage under_way.goes.1 in
     placing-turn c.go_on.result operation c.go_on.new.self view (view_of c.step_23.new.pass) c.args.pass.now.number c.args.pass.now.numbered c.next_child.result c.go_on.ensures.more c.go_on.ensures.stage
-    c.args.node c.args.child c.args.index (1 + (4 * c.from.result + c.from-2.result)) (λ i. place ((c.from.ensures ∙ c.node.ensures) i) (c.from-2.ensures i)) c.next_child.ensures c.requires.stage at.0.1 c.step_23.ensures.step
+    c.args.node c.args.child c.args.index c.to_word.result (c.to_word.ensures ∙ ap (λ (n : ℕ). place n c.args.child) c.node.ensures) c.next_child.ensures c.requires.stage at.0.1 c.step_23.ensures.step

@@ -19,3 +19,6 @@ returns-clause-rests c =
     let stripe = stripe_of c.args.world.now.map guard.id.index in
     let-go-rests (view_of c.args.pass.now) (view_of c.unlock.new.pass) stripe step.0 step.1
     (λ other apart. c.requires.good.only other (λ same. apart (same ∙ ap (λ (s : Config). stripe_of s guard.id.index) c.requires.of.sizes)))
+
+pub returns-clause-idle : goal.returns-clause-idle
+returns-clause-idle c = record { of = c.unlock.ensures.of; rest = (returns-clause-rests c).rest }

@@ -12,10 +12,10 @@ unreachable-requires c = some-stripe c.args.world.now.map c.args.ids.now c.strip
 
 pub returns-clause-under_way : goal.returns-clause-under_way
 returns-clause-under_way c =
-    let sizes = sym c.requires.of.sizes in
+    let sizes = sym c.requires.idle.of.sizes in
     let view = view_of c.args.pass.now in
     let are = subst (λ (s : Config). AreStripesOf s c.args.ids.now c.stripes_of-stripes.result.bits) sizes c.stripes_of-stripes.ensures in
     all-begun c.wanted_of.result c.mode_of-mode.result c.stripes_of-stripes.result c.new-2.result c.args.ids.now view (view_of c.new.new.pass) c.in-Some.stripe c.args.pass.now.number c.new.result
-    c.args.pass.now.numbered c.requires.rest (ap view_of c.new.ensures.pass) c.wanted_of.ensures c.requires.some c.requires.few
+    c.args.pass.now.numbered c.requires.idle.rest (ap view_of c.new.ensures.pass) c.wanted_of.ensures c.requires.some c.requires.few
     (subst (λ (s : Config). All (λ i. i.index < s.bodies) c.args.ids.now) sizes c.requires.below) are (stripes-within view.config c.args.ids.now c.stripes_of-stripes.result.bits (subst IsConfig sizes c.args.world.now.in_limits) are) c.new-2.ensures
     c.in-Some.ensures.some c.new.ensures.under_way

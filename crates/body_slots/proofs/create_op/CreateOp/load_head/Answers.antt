@@ -1,9 +1,10 @@
 use Rattle.std.proofs.Common.{◌≡◌, ℕ, suc, ◌-◌, ◌<◌, Err, subst, arith}
 use Rattle.word_map.specs.declared.config.Config.{Config}
 use Rattle.pass_table.specs.Passes.{view_of}
+use Rattle.body_slots.specs.Creating.{AtCreate}
 use Rattle.body_slots.specs.declared.create_op.CreateStage.TheVariants.{Locked, First, Leaving}
 use Rattle.body_slots.proofs.Stages.{went-on}
-use Rattle.body_slots.proofs.CreateTurns.{create_stages, head-step, head-made, head-first, head-none}
+use Rattle.body_slots.proofs.CreateTurns.{create_stages, head-step, head-made, head-first, head-none, has-list}
 use Rattle.body_slots.proofs.create_op.CreateOp.load_head.Goals as goal
 
 -- the head names this index
@@ -36,3 +37,10 @@ returns-clause-turn c =
     let loaded = c.load_head-head.ensures.loaded in
     went-on create_stages c.go_on-2.result c.args.self.now c.go_on-2.new.self Locked (First (head - 1)) view next c.go_on-2.ensures.more c.go_on-2.ensures.stage c.requires.stage
     (head-step view next head loaded) (head-made view next head loaded) (omega arith) (λ first start making at. head-first first start view next head loaded at (head - 1) (names head c.if-head-eq0.false))
+
+pub load_head-head-requires-clause-list : goal.load_head-head-requires-clause-list
+load_head-head-requires-clause-list c =
+    let view = view_of c.args.pass.now in
+    let way = c.requires.under_way in
+    let at = subst (AtCreate way.first way.start view) c.requires.stage way.goes.1 in
+    has-list way.start view way.goes.0.rest at

@@ -1,8 +1,11 @@
-use Rattle.std.proofs.Common.{arith}
+use Rattle.std.proofs.Common.{arith, subst, ◌<◌, sym, ◌∙◌}
 use Rattle.pass_table.specs.Passes.{view_of}
+use Rattle.word_map.specs.declared.config.Config.{Config}
+use Rattle.pass_table.proofs.Calling.{calling-sizes}
+use Rattle.body_slots.specs.Creating.{AtCreate}
 use Rattle.body_slots.specs.declared.create_op.CreateStage.TheVariants.{First, Linked}
 use Rattle.body_slots.proofs.Stages.{went-on}
-use Rattle.body_slots.proofs.CreateTurns.{create_stages, link-step, link-made, link-loaded}
+use Rattle.body_slots.proofs.CreateTurns.{create_stages, link-step, link-made, link-loaded, has-list}
 use Rattle.body_slots.proofs.create_op.CreateOp.load_link.Goals as goal
 
 pub returns-clause-turn : goal.returns-clause-turn
@@ -14,3 +17,17 @@ returns-clause-turn c =
     let loaded = c.load_link-link.ensures.loaded in
     went-on create_stages c.go_on.result c.args.self.now c.go_on.new.self (First index) (Linked index link) view next c.go_on.ensures.more c.go_on.ensures.stage c.requires.stage
     (link-step view next index link loaded) (link-made view next index link loaded) (omega arith) (λ first start making at. link-loaded first start view next index link making.0.rest loaded at)
+
+pub load_link-link-requires-clause-list : goal.load_link-link-requires-clause-list
+load_link-link-requires-clause-list c =
+    let view = view_of c.args.pass.now in
+    let way = c.requires.under_way in
+    let at = subst (AtCreate way.first way.start view) c.requires.stage way.goes.1 in
+    has-list way.start view way.goes.0.rest at.0
+
+pub load_link-link-requires-clause-below : goal.load_link-link-requires-clause-below
+load_link-link-requires-clause-below c =
+    let view = view_of c.args.pass.now in
+    let way = c.requires.under_way in
+    let at = subst (AtCreate way.first way.start view) c.requires.stage way.goes.1 in
+    subst (λ (s : Config). c.args.index < s.bodies) (sym (calling-sizes way.start view view _ _ _ at.0) ∙ c.requires.of.sizes) at.1

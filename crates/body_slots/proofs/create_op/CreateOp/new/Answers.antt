@@ -7,7 +7,7 @@ use Rattle.body_slots.proofs.create_op.CreateOp.new.Goals as goal
 
 pub returns-clause-under_way : goal.returns-clause-under_way
 returns-clause-under_way c =
-    let sizes = c.requires.of.sizes in
+    let sizes = c.requires.idle.of.sizes in
     creating-begun c.args.layer c.args.bounds c.args.user (view_of c.args.pass.now) (view_of c.new-taking.new.pass) c.new-taking.result _ c.args.pass.now.number
-    (ap index_lock (c.config-lock.ensures.sizes ∙ sym sizes)) c.args.pass.now.numbered
-    (subst (λ (s : Config). c.args.layer < s.layers) (sym sizes) c.requires.in_layers) c.ranges.user.fits c.requires.rest (ap view_of c.new-taking.ensures.pass) c.new-taking.ensures.under_way
+    (c.index_lock-lock.ensures ∙ ap index_lock (sym sizes)) c.args.pass.now.numbered
+    (subst (λ (s : Config). c.args.layer < s.layers) (sym sizes) c.requires.in_layers) c.ranges.user.fits c.requires.idle.rest (ap view_of c.new-taking.ensures.pass) c.new-taking.ensures.under_way

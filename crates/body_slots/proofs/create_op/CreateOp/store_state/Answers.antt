@@ -7,13 +7,13 @@ use Rattle.body_slots.proofs.CreateEnds.{may-create, create-turn}
 use Rattle.body_slots.proofs.create_op.CreateOp.store_state.Goals as goal
 
 -- the next sequence number, plus 256
-next-state : (state : ℕ) → (state % 256 + 1) % 256 + 256 ≡ created_state state
-next-state state = omega arith
+next-state : (state last word : ℕ) → last ≡ state % 256 → word ≡ 256 + (last + 1) % 256 → word ≡ created_state state
+next-state state last word is says = omega arith
 
 pub step_13-requires-clause-asks : goal.step_13-requires-clause-asks
 step_13-requires-clause-asks c =
     let under_way = c.requires.under_way in
-    may-create c.args.self.now under_way.first under_way.start (view_of c.args.pass.now) c.args.index c.args.state _ under_way.goes c.requires.stage (next-state c.args.state)
+    may-create c.args.self.now under_way.first under_way.start (view_of c.args.pass.now) c.args.index c.args.state _ under_way.goes c.requires.stage (next-state c.args.state _ _ c.sequence_of-sequence.ensures c.to_word-word.ensures)
 
 pub returns-clause-turn : goal.returns-clause-turn
 returns-clause-turn c =
@@ -22,4 +22,4 @@ returns-clause-turn c =
     let next = view_of c.step_13.new.pass in
     let pass : IsPass view c.number.result = ap (λ (v : View). number_of v) (sym c.step_13.ensures.step.1.leaves) ∙ c.number.ensures in
     create-turn c.args.self.now under_way.first under_way.start view next c.number.result c.args.index c.args.state _ c.new.result under_way.goes pass c.requires.stage
-    (next-state c.args.state) c.step_13.ensures.step c.new.ensures.index c.new.ensures.seq
+    (next-state c.args.state _ _ c.sequence_of-sequence.ensures c.to_word-word.ensures) c.step_13.ensures.step c.new.ensures.index (c.new.ensures.seq ∙ ap (λ (n : ℕ). (n + 1) % 256) c.sequence_of-sequence.ensures)

@@ -14,14 +14,14 @@ pub returns-clause-turn : goal.returns-clause-turn
 returns-clause-turn c =
     let view = view_of c.args.pass.now in
     let next = view_of c.release.new.pass in
-    let lock = c.config.result.stripes in
+    let lock = c.index_lock.result in
     let go = c.release.ensures.step in
     went-on destroy_stages c.go_on.result c.args.self.now c.go_on.new.self Destroyed (Leaving (Ok tt)) view next c.go_on.ensures.more c.go_on.ensures.stage c.requires.stage
     (released-step view next lock go.0 go.1) (released-made view next lock go.0 go.1 c.args.pass.now.number c.args.pass.now.numbered) (omega arith)
     (λ first start making at.
-    let named = ap (λ (sizes : Config). index_lock sizes) (c.config.ensures.sizes ∙ (sym c.requires.of.sizes ∙ calling-sizes start view view _ _ _ at.0)) in
+    let named = c.index_lock.ensures ∙ ap (λ (sizes : Config). index_lock sizes) (sym c.requires.of.sizes ∙ calling-sizes start view view _ _ _ at.0) in
     left-list first.id start view making.1 at next go.0 (subst (λ (l : ℕ). LetGo view l go.0 next) named go.1))
 
 pub release-requires-clause-may : goal.release-requires-clause-may
 release-requires-clause-may c =
-    may-leave-list c.args.self.now (view_of c.args.pass.now) c.config.result.stripes c.requires.under_way c.requires.stage (ap (λ (sizes : Config). index_lock sizes) (c.config.ensures.sizes ∙ sym c.requires.of.sizes))
+    may-leave-list c.args.self.now (view_of c.args.pass.now) c.index_lock.result c.requires.under_way c.requires.stage (c.index_lock.ensures ∙ ap (λ (sizes : Config). index_lock sizes) (sym c.requires.of.sizes))

@@ -22,8 +22,8 @@ step_15-state-requires-clause-asks c =
     let at = subst (AtDestroy id under_way.start view) c.requires.stage under_way.goes.2 in
     under_stripe id.index Write (c.index.ensures.value ∙ ap (λ (i : Id). i.index) under_way.goes.0) (stripe-held id under_way.start view _ _ under_way.goes.1.rest at)
 
-pub returns-then-state-from-clause-turn : goal.returns-then-state-from-clause-turn
-returns-then-state-from-clause-turn c =
+pub returns-then-state-to_word-clause-turn : goal.returns-then-state-to_word-clause-turn
+returns-then-state-to_word-clause-turn c =
     let view = view_of c.args.pass.now in
     let next = view_of c.step_15-state.new.pass in
     let state = c.step_15-state.result in
@@ -32,7 +32,7 @@ returns-then-state-from-clause-turn c =
     (body-load-step view next (State c.index.result) state stepped) (body-load-made view next (State c.index.result) state stepped) (omega arith)
     (λ first start making at.
     state-live first.id start view next state (subst (λ (n : ℕ). Stepped MayLoadBody load_body view (State n) 0 0 state next) (c.index.ensures.value ∙ ap (λ (i : Id). i.index) making.0) stepped)
-    (let says = c.if-state-from.true in let seq : c.from.result ≡ first.id.seq = c.from.ensures ∙ (c.seq.ensures ∙ ap (λ (i : Id). i.seq) making.0) in omega arith) at)
+    (let says = c.if-state-to_word.true in let word = c.to_word.ensures in let seq : c.seq.result ≡ first.id.seq = c.seq.ensures ∙ ap (λ (i : Id). i.seq) making.0 in omega arith) at)
 
 pub returns-clause-turn : goal.returns-clause-turn
 returns-clause-turn c =
@@ -44,4 +44,4 @@ returns-clause-turn c =
     (body-load-step view next (State c.index.result) state stepped) (body-load-made view next (State c.index.result) state stepped) (omega arith)
     (λ first start making at.
     state-gone first.id start view next state making.1 (subst (λ (n : ℕ). Stepped MayLoadBody load_body view (State n) 0 0 state next) (c.index.ensures.value ∙ ap (λ (i : Id). i.index) making.0) stepped)
-    (λ says. let seq : c.from.result ≡ first.id.seq = c.from.ensures ∙ (c.seq.ensures ∙ ap (λ (i : Id). i.seq) making.0) in c.if-state-from.false (omega arith)) at)
+    (λ says. let word = c.to_word.ensures in let seq : c.seq.result ≡ first.id.seq = c.seq.ensures ∙ ap (λ (i : Id). i.seq) making.0 in c.if-state-to_word.false (omega arith)) at)

@@ -1,9 +1,13 @@
-use Rattle.std.proofs.Common.{ℕ, suc, Option, None, refl, ap, sym, inr}
+use Rattle.std.proofs.Common.{ℕ, suc, Option, IfSome, None, refl, ap, sym, inr, subst}
+use Rattle.word_map.specs.declared.config.Config.{Config}
+use Rattle.word_map.specs.declared.name.Name.TheVariants.{Lock}
+use Rattle.word_map.specs.Names.{IsName}
 use Rattle.pass_table.specs.Passes.{view_of}
+use Rattle.pass_table.specs.Trying.{Excludes}
 use Rattle.pass_table.specs.TakeTurns.{turns_after}
 use Rattle.pass_table.proofs.Knowing.{step-alone, lock-step-quiet}
 use Rattle.pass_table.proofs.TakingTurns.{taking-on, taking-done}
-use Rattle.pass_table.proofs.Turning.{exchanged-step}
+use Rattle.pass_table.proofs.Turning.{exchanged-step, exchanged-made}
 use Rattle.pass_table.proofs.take_op.TakeOp.exchange.Goals as goal
 
 pub returns-in-Ok-clause-step : goal.returns-in-Ok-clause-step
@@ -33,3 +37,18 @@ returns-in-Err-clause-keeps c first start taking =
     let next = view_of c.exchange.new.pass in
     let missed = c.in-Err.ensures.exchanged in
     taking-on first start c.args.self.now view next None missed.left (lock-step-quiet _ _ view next _ _ _ _ missed.exchange.step _ refl) (step-alone _ _ view next _ _ _ _ missed.exchange.step) tt taking
+
+pub exchange-requires-clause-named : goal.exchange-requires-clause-named
+exchange-requires-clause-named c = subst (λ (d : Config). IsName d (Lock c.args.self.now.lock)) c.requires.of.sizes c.requires.under_way.goes.named
+
+pub exchange-requires-clause-free : goal.exchange-requires-clause-free
+exchange-requires-clause-free c = c.requires.under_way.goes.free
+
+pub exchange-requires-clause-open : goal.exchange-requires-clause-open
+exchange-requires-clause-open c = subst (λ (o : Option ℕ). IfSome o (λ word. ¬ Excludes c.args.self.now.mode word)) c.requires.second c.requires.under_way.goes.open_to
+
+pub returns-in-Ok-clause-made : goal.returns-in-Ok-clause-made
+returns-in-Ok-clause-made c = exchanged-made (view_of c.args.pass.now) (view_of c.exchange.new.pass) _ c.args.self.now.mode _ _ c.in-Ok.ensures.exchanged.exchange
+
+pub returns-in-Err-clause-made : goal.returns-in-Err-clause-made
+returns-in-Err-clause-made c = exchanged-made (view_of c.args.pass.now) (view_of c.exchange.new.pass) _ c.args.self.now.mode _ _ c.in-Err.ensures.exchanged.exchange

@@ -1,6 +1,0 @@
-use Rattle.std.proofs.Common.{◌≡◌, ◌<◌}
-use Rattle.lock_timing.specs.Idle.{IsIdle}
-use Rattle.lock_timing.proofs.work.rounds.Given as goal
-
-abbrev pub invariant-loop : goal.invariant-loop
-invariant-loop g l = IsIdle l.world l.pass × (l.world.map.bodies ≡ 65536) × (l.index < 65536)

@@ -1,5 +1,0 @@
-use Rattle.pass_timing.proofs.Pairs.{first_fresh}
-use Rattle.pass_timing.proofs.typed.open.Goals as goal
-
-pub returns : goal.returns
-returns c = first_fresh c.in-Ok.world c.in_ok-pass.pass _ _ c.in-Ok.ensures.passes c.in_ok-pass.ensures

@@ -8,7 +8,7 @@ use Rattle.word_map.specs.declared.name.Name.TheVariants.{Phase}
 use Rattle.word_map.specs.Names.{IsName}
 use Rattle.core_state.specs.View.{number_of}
 use Rattle.core_state.specs.Batches.{is_for, IsWholeTree}
-use Rattle.batch_add.specs.Work.{Tells}
+use Rattle.pass_table.specs.Work.{Tells}
 use Rattle.batch_add.specs.Parts.{stored_as}
 use Rattle.batch_add.specs.Shape.{tree_at}
 use Rattle.batch_add.proofs.Batches.{owns-batch_node, among-middle}
@@ -53,7 +53,7 @@ use Rattle.batch_add.proofs.Batches.{without-one, found-one}
 use Rattle.batch_add.proofs.Drawn.{node-among}
 use Rattle.batch_add.proofs.Whole.{drawn-whole}
 use Rattle.batch_add.proofs.Shape.{drawn-tree}
-use Rattle.batch_add.proofs.Working.{tells-refl, tells-stored}
+use Rattle.pass_table.proofs.Working.{tells-refl, tells-stored}
 
 -- ---- words of the nodes
 

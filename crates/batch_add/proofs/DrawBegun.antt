@@ -17,12 +17,12 @@ use Rattle.core_state.specs.View.{IsPass}
 use Rattle.core_batch.proofs.Lists.{contains_map, map_from}
 use Rattle.pass_table.specs.Holding.{IsAtRest}
 use Rattle.batch_add.specs.declared.tree_drawing.TreeDrawing.{TreeDrawing}
-use Rattle.batch_add.specs.Work.{begun, HasWorked}
+use Rattle.pass_table.specs.Work.{begun, HasWorked}
 use Rattle.batch_add.specs.Drawing.{IsMarkedAs, HasBodies}
 use Rattle.batch_add.specs.Parts.{IsNewest, marked_as, HasDrawn}
 use Rattle.batch_add.specs.DrawStages.{Planned, IsToDraw, IsBegun, before_child, IsDrawnFrom, HasDrawnUpTo, HasDrawnAll}
 use Rattle.batch_add.proofs.Levels.{node-there}
-use Rattle.batch_add.proofs.Working.{worked-begun}
+use Rattle.pass_table.proofs.Working.{worked-begun}
 
 -- ---- the bodies of the batch
 

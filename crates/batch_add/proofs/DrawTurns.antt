@@ -34,13 +34,13 @@ use Rattle.pass_table.proofs.Calling.{stores-word, stored-made, word-now, word-b
 use Rattle.batch_add.specs.declared.draw_stage.DrawStage.{DrawStage}
 use Rattle.batch_add.specs.declared.draw_stage.DrawStage.TheVariants.{Child, Side, Placing, Parent}
 use Rattle.batch_add.specs.declared.tree_drawing.TreeDrawing.{TreeDrawing}
-use Rattle.batch_add.specs.Work.{is_told, HasWorked}
+use Rattle.pass_table.specs.Work.{is_told, HasWorked}
 use Rattle.batch_add.specs.Drawing.{node_at, child_word, parent_word, SaysPlan, ArePlaced}
 use Rattle.batch_add.specs.Parts.{HasDrawn}
 use Rattle.batch_add.specs.DrawStages.{Planned, planned_of, Reached, before_child, reached, next_child, after_child, after_sides, after_side, SaysUpTo, ArePlacedUpTo, drawing_work, HasDrawnUpTo, AtDraw, stage_left, IsDrawTurn}
 use Rattle.batch_add.specs.DrawLater.{newest-among, drawn-nodes, node-inside, node-own, node-steady}
-use Rattle.batch_add.specs.WorkLater.{worked-pass, worked-sizes, worked-batches, worked-loose, worked-written}
-use Rattle.batch_add.proofs.Working.{worked-untold, worked-done}
+use Rattle.pass_table.proofs.WorkLater.{worked-pass, worked-sizes, worked-batches, worked-loose, worked-written}
+use Rattle.pass_table.proofs.Working.{worked-untold, worked-done}
 use Rattle.batch_add.proofs.DrawWords.{StoresBeside, child-said, side-said, parent-said, location-said, sides-passed}
 use Rattle.batch_add.proofs.DrawMarks.{placed_at, with_placed, placed-from, placed-bodies, body-placed, places-passed, batches-placed, others-apart}
 

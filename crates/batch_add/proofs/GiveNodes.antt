@@ -35,7 +35,7 @@ use Rattle.pass_table.proofs.Turning.{one-step, made-by-step}
 use Rattle.pass_table.proofs.Calling.{stepped-sizes, steady-now, stored-made, stored-gained, word-now, word-beside}
 use Rattle.free_list.specs.Pool.{taken_in, given_in, LoadedPoolHead, LoadedCount, LinkedNode, GaveNode, StoredCount}
 use Rattle.batch_add.specs.declared.kept_batch.KeptBatch.{KeptBatch}
-use Rattle.batch_add.specs.WorkLater.{worked-sizes, worked-batches, worked-loose, worked-written, worked-pass, worked-role}
+use Rattle.pass_table.proofs.WorkLater.{worked-sizes, worked-batches, worked-loose, worked-written, worked-pass, worked-role}
 use Rattle.batch_add.specs.Parts.{StoresFrom}
 use Rattle.batch_add.specs.Keeping.{node_of, IsKept, IsBegunFor}
 use Rattle.batch_add.specs.GivingUp.{WorksUnder, putting, giving_work, counted_work, IsAtNode, KnowsFree, IsPutting}

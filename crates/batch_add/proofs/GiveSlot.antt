@@ -20,8 +20,8 @@ use Rattle.pass_table.proofs.Turning.{one-step}
 use Rattle.pass_table.proofs.Calling.{stores-word, stored-made}
 use Rattle.free_list.proofs.Pool.{now-by}
 use Rattle.batch_add.specs.declared.kept_batch.KeptBatch.{KeptBatch}
-use Rattle.batch_add.specs.Work.{HasDone}
-use Rattle.batch_add.specs.WorkLater.{worked-batches, worked-loose, worked-written, worked-pass}
+use Rattle.pass_table.specs.Work.{HasDone}
+use Rattle.pass_table.proofs.WorkLater.{worked-batches, worked-loose, worked-written, worked-pass}
 use Rattle.batch_add.specs.Parts.{stored_as, StoresFrom, given_stores, HasGivenUp}
 use Rattle.batch_add.specs.Keeping.{IsBegunFor}
 use Rattle.batch_add.specs.GivingUp.{WorksFree, with_marks, unmark_entries, unmarking_work, giving_work, counted_work}

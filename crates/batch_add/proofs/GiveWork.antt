@@ -24,10 +24,10 @@ use Rattle.pass_table.specs.declared.take_op.TakeOp.{TakeOp}
 use Rattle.pass_table.specs.TakeTurns.{taking_of, IsTaking, HasTaken}
 use Rattle.pass_table.proofs.TakingTurns.{taking-anew}
 use Rattle.pass_table.specs.Calls.{StoresWord}
-use Rattle.batch_add.specs.Work.{is_told, Work, HasWorked, HasDone, outcome_of}
+use Rattle.pass_table.specs.Work.{is_told, Work, HasWorked, HasDone, outcome_of}
 use Rattle.batch_add.specs.Parts.{stored_as}
 use Rattle.batch_add.specs.GivingUp.{at_locks, WorksFree, WorksUnder}
-use Rattle.batch_add.proofs.Working.{worked-waited, worked-taken, worked-released, worked-told, worked-untold, worked-done}
+use Rattle.pass_table.proofs.Working.{worked-waited, worked-taken, worked-released, worked-told, worked-untold, worked-done}
 
 -- ---- locks
 

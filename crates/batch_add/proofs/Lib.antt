@@ -1,4 +1,3 @@
-pub mod Working
 pub mod Levels
 pub mod Drawn
 pub mod Bounds

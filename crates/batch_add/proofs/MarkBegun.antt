@@ -15,10 +15,10 @@ use Rattle.pass_table.specs.Holding.{IsAtRest}
 use Rattle.pass_table.specs.TakeTurns.{taking_of, IsTaking}
 use Rattle.batch_add.specs.declared.mark_op.MarkStage.TheVariants.{Taking}
 use Rattle.batch_add.specs.declared.mark_op.Marking.{Marking}
-use Rattle.batch_add.specs.Work.{HasWorked, begun as begun_work}
+use Rattle.pass_table.specs.Work.{HasWorked, begun as begun_work}
 use Rattle.batch_add.specs.Parts.{IsNewest}
 use Rattle.batch_add.specs.Marking.{marks_of, current, IsForNewest, AreFirst, marks_work, AtMark, IsMarking}
-use Rattle.batch_add.proofs.Working.{worked-begun}
+use Rattle.pass_table.proofs.Working.{worked-begun}
 
 -- nothing is marked yet
 none_first : (ids : List Id) (all : List (ℕ × FixBox)) (n : ℕ) → n ≡ 0 → AreFirst (record { ids = ids; marked = n; bodies = take n all })

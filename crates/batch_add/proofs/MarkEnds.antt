@@ -32,12 +32,12 @@ use Rattle.batch_add.specs.declared.mark_op.MarkRefused.{MarkRefused}
 use Rattle.batch_add.specs.declared.mark_op.MarkStage.{MarkStage}
 use Rattle.batch_add.specs.declared.mark_op.MarkStage.TheVariants.{Taking, Boxed, Leaving, Refusing}
 use Rattle.batch_add.specs.declared.mark_op.Marking.{Marking}
-use Rattle.batch_add.specs.Work.{HasWorked, HasDone}
+use Rattle.pass_table.specs.Work.{HasWorked, HasDone}
 use Rattle.batch_add.specs.Parts.{IsNewest, HasMarked, HasMarkedBefore, marks_outcome, IsMarkRefusedAt}
 use Rattle.batch_add.specs.Marking.{Marks, marks_of, marked_bodies, current, IsBegunFor, marks_work, HasStripe, AtMark, GoesOnFrom, IsMarking, Notes, mark_left, IsMarkTurn}
 use Rattle.batch_add.specs.MarkLater.{stripe-held}
-use Rattle.batch_add.specs.WorkLater.{worked-sizes, worked-mode}
-use Rattle.batch_add.proofs.Working.{worked-released, worked-done}
+use Rattle.pass_table.proofs.WorkLater.{worked-sizes, worked-mode}
+use Rattle.pass_table.proofs.Working.{worked-released, worked-done}
 use Rattle.batch_add.proofs.MarkLocks.{free-again}
 use Rattle.batch_add.proofs.Marked.{asks-mark, mark-step, mark-made, mark-leaves, marks-begun}
 

@@ -24,7 +24,7 @@ use Rattle.batch_add.specs.declared.mark_op.MarkStage.TheVariants.{Striped, Live
 use Rattle.batch_add.specs.Parts.{IsMarkRefusedAt}
 use Rattle.batch_add.specs.Marking.{Marks, current, IsBegunFor, IsAtBody, KnowsOut, AtMark}
 use Rattle.batch_add.specs.MarkLater.{body-held, body-below, body-guarded, out-later, join-later, body-later}
-use Rattle.batch_add.specs.WorkLater.{worked-sizes}
+use Rattle.pass_table.proofs.WorkLater.{worked-sizes}
 
 -- ---- the next body
 

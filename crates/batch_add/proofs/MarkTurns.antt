@@ -17,7 +17,7 @@ use Rattle.batch_add.specs.declared.mark_op.MarkStage.{MarkStage}
 use Rattle.batch_add.specs.declared.mark_op.MarkStage.TheVariants.{Taking, Striped}
 use Rattle.batch_add.specs.declared.mark_op.Marking.{Marking}
 use Rattle.batch_add.specs.Marking.{Marks, marks_of, current, IsBegunFor, AtMark, IsMarking, HasMadeMarks, stage_left, turns_each, bodies_left, IsMarkTurn}
-use Rattle.batch_add.proofs.Working.{worked-waited, worked-taken}
+use Rattle.pass_table.proofs.Working.{worked-waited, worked-taken}
 
 abbrev pub MarkTurn : Type 0
 MarkTurn = Turn (Result (Unit {0}) MarkRefused)

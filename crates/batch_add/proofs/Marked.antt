@@ -43,12 +43,12 @@ use Rattle.pass_table.proofs.Turning.{one-step}
 use Rattle.pass_table.proofs.LockedBodies.{live-steady}
 use Rattle.pass_table.proofs.Calling.{stepped-sizes, steady-now, stores-word, stored-made}
 use Rattle.batch_add.specs.declared.mark_op.MarkStage.TheVariants.{Boxed, Leaving}
-use Rattle.batch_add.specs.Work.{HasWorked}
+use Rattle.pass_table.specs.Work.{HasWorked}
 use Rattle.batch_add.specs.Parts.{marked_as}
 use Rattle.batch_add.specs.Marking.{Marks, current, AreFirst, IsBegunFor, marks_work, AtMark}
 use Rattle.batch_add.specs.MarkLater.{body-held, body-below}
-use Rattle.batch_add.specs.WorkLater.{worked-batches, worked-loose, worked-written}
-use Rattle.batch_add.proofs.Working.{worked-untold}
+use Rattle.pass_table.proofs.WorkLater.{worked-batches, worked-loose, worked-written}
+use Rattle.pass_table.proofs.Working.{worked-untold}
 
 -- ---- the newest batch
 

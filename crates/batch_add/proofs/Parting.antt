@@ -6,7 +6,7 @@ use Rattle.core_state.specs.declared.item.Item.{Item}
 use Rattle.core_state.specs.declared.view.View.{View}
 use Rattle.core_state.specs.Log.{word, IsPrefix}
 use Rattle.batch_add.specs.Parts.{StoresFrom}
-use Rattle.batch_add.specs.WorkLater.{same_pass}
+use Rattle.pass_table.proofs.WorkLater.{same_pass}
 
 -- what is stored in a later part is stored in the whole call
 pub from-from : (start mid next : View) (name : Name) (old new : ℕ) → mid.config ≡ start.config → mid.role ≡ start.role → IsPrefix start.known mid.known → StoresFrom mid next name old new

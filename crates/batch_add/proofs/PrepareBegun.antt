@@ -10,10 +10,10 @@ use Rattle.pass_table.proofs.Turning.{still-made}
 use Rattle.batch_add.specs.declared.answers.PrepareRefused.TheVariants.{Empty as NoBodies}
 use Rattle.batch_add.specs.declared.prepare_op.PrepareStage.TheVariants.{Empty, Searching}
 use Rattle.batch_add.specs.declared.prepare_op.PrepareOp.{PrepareOp}
-use Rattle.batch_add.specs.Work.{begun}
+use Rattle.pass_table.specs.Work.{begun}
 use Rattle.batch_add.specs.Searching.{IsSearching}
 use Rattle.batch_add.specs.Preparing.{ids_of, count_of, need_of, CanPlan, AtPrepare, IsPreparing, entry_at, IsPrepareTurn}
-use Rattle.batch_add.proofs.Working.{worked-begun, worked-done}
+use Rattle.pass_table.proofs.Working.{worked-begun, worked-done}
 
 -- with no bodies nothing is done
 pub empty-turn : (op : PrepareOp) (view : View) (number : ℕ) → IsPass view number → op.stage ≡ Empty → IsPrepareTurn (Done (Err NoBodies)) op op view view

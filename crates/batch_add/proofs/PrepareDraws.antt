@@ -26,14 +26,14 @@ use Rattle.batch_add.specs.declared.tree_drawing.TreeDrawing.{TreeDrawing}
 use Rattle.batch_add.specs.declared.prepare_op.PrepareStage.{PrepareStage}
 use Rattle.batch_add.specs.declared.prepare_op.PrepareStage.TheVariants.{Drawing}
 use Rattle.batch_add.specs.declared.prepare_op.PrepareOp.{PrepareOp}
-use Rattle.batch_add.specs.Work.{Outcome, HasDone, followed}
-use Rattle.batch_add.specs.WorkLater.{same_pass}
+use Rattle.pass_table.specs.Work.{Outcome, HasDone, followed}
+use Rattle.pass_table.proofs.WorkLater.{same_pass}
 use Rattle.batch_add.specs.Parts.{stored_as, StoresFrom, HasMarked, marked_as, reserved_outcome, nodes_outcome, marks_outcome, drawn_outcome}
 use Rattle.batch_add.specs.Prepared.{IsTheBatch}
 use Rattle.batch_add.specs.TakingNodes.{from-later}
 use Rattle.batch_add.specs.DrawStages.{IsDrawing, HasDrawnAll, draw_left}
 use Rattle.batch_add.specs.Preparing.{ids_of, need_of, prepared_outcome, HasPrepared, HasPreparedOr, HasSlotAndNodes, with_slot_nodes, with_marks, IsInPart, IsInSome, CameToDraw, AtPrepare, IsPreparing, part_left, stage_left, prepare_left, entry_at, entry_of, IsPrepareTurn}
-use Rattle.batch_add.proofs.Working.{done-then, done-prefix}
+use Rattle.pass_table.proofs.Working.{done-then, done-prefix}
 use Rattle.batch_add.proofs.DrawBegun.{IsDrawnNow, drawn-newest}
 use Rattle.batch_add.proofs.Parting.{from-from}
 use Rattle.batch_add.proofs.PartTurns.{part-more, part-again}

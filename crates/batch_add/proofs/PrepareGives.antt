@@ -30,12 +30,12 @@ use Rattle.batch_add.specs.declared.prepare_op.PrepareStage.{PrepareStage}
 use Rattle.batch_add.specs.declared.prepare_op.PrepareStage.TheVariants.{GivingUp as GivingUpStage}
 use Rattle.batch_add.specs.declared.prepare_op.PrepareOp.{PrepareOp}
 use Rattle.batch_add.specs.declared.giving_up.GivingUp.{GivingUp}
-use Rattle.batch_add.specs.Work.{Outcome, HasDone, followed, idle}
+use Rattle.pass_table.specs.Work.{Outcome, HasDone, followed, idle}
 use Rattle.batch_add.specs.Parts.{stored_as, StoresFrom, reserved_outcome, nodes_outcome, marks_outcome, marked_as, IsMarkRefusedAt, given_stores, given_outcome, HasGivenUp}
 use Rattle.batch_add.specs.GivingUp.{IsGivingUp, HasGiven, give_left}
 use Rattle.batch_add.specs.GivingLater.{from-later}
 use Rattle.batch_add.specs.Preparing.{ids_of, need_of, HadFewNodes, HadBadId, WasRefused, IsInPart, IsInSome, CameToGive, HasSlotAndNodes, HasFailed, AtPrepare, IsPreparing, with_slot_nodes, with_marks, refusal_of, refusal_of_mark, part_left, stage_left, prepare_left, entry_at, entry_of, IsPrepareTurn}
-use Rattle.batch_add.proofs.Working.{done-then, done-prefix, point-from}
+use Rattle.pass_table.proofs.Working.{done-then, done-prefix, point-from}
 use Rattle.batch_add.proofs.Parting.{from-from}
 use Rattle.batch_add.proofs.PartTurns.{part-more, part-again}
 

@@ -32,11 +32,11 @@ use Rattle.pass_table.proofs.Turning.{one-step, made-by-step, made-entry}
 use Rattle.pass_table.proofs.Calling.{point-now, loaded-word, stepped-sizes, stepped-stores}
 use Rattle.free_list.proofs.Pool.{now-by}
 use Rattle.batch_add.specs.declared.slot_search.SlotSearch.{SlotSearch}
-use Rattle.batch_add.specs.Work.{begun, HasWorked}
+use Rattle.pass_table.specs.Work.{begun, HasWorked}
 use Rattle.batch_add.specs.Parts.{StoresFrom, IsNewest, HasReserved, FoundNoSlot}
 use Rattle.batch_add.specs.Searching.{WasFound, WereFound, IsSearching, HasSearched, slot_turns, search_left, IsSearchTurn, HasNoted, searching-later}
-use Rattle.batch_add.specs.WorkLater.{worked-sizes, worked-batches, worked-loose, worked-written}
-use Rattle.batch_add.proofs.Working.{worked-told, worked-done}
+use Rattle.pass_table.proofs.WorkLater.{worked-sizes, worked-batches, worked-loose, worked-written}
+use Rattle.pass_table.proofs.Working.{worked-told, worked-done}
 
 -- ---- exchanges
 

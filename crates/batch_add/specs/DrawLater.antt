@@ -18,7 +18,7 @@ use Rattle.pass_table.proofs.Calling.{steady-more}
 use Rattle.batch_add.specs.declared.tree_drawing.TreeDrawing.{TreeDrawing}
 use Rattle.batch_add.specs.Drawing.{node_at}
 use Rattle.batch_add.specs.DrawStages.{Planned, Reached, HasDrawnUpTo, reached, IsDrawing}
-use Rattle.batch_add.specs.WorkLater.{worked-more, worked-batches}
+use Rattle.pass_table.proofs.WorkLater.{worked-more, worked-batches}
 
 -- ---- own nodes
 

@@ -24,7 +24,7 @@ use Rattle.pass_table.specs.Calls.{IsTurn}
 use Rattle.batch_add.specs.declared.draw_stage.DrawStage.{DrawStage}
 use Rattle.batch_add.specs.declared.draw_stage.DrawStage.TheVariants.{Child, Side, Placing, Parent}
 use Rattle.batch_add.specs.declared.tree_drawing.TreeDrawing.{TreeDrawing}
-use Rattle.batch_add.specs.Work.{Work, begun, HasWorked}
+use Rattle.pass_table.specs.Work.{Work, begun, HasWorked}
 use Rattle.batch_add.specs.Parts.{IsNewest, marked_as, HasDrawn}
 use Rattle.batch_add.specs.Drawing.{node_at, child_word, parent_word, HasBodies}
 

@@ -25,8 +25,8 @@ use Rattle.pass_table.proofs.Calling.{steady-more}
 use Rattle.batch_add.specs.declared.giving_up.GiveStage.{GiveStage}
 use Rattle.batch_add.specs.declared.giving_up.GiveStage.TheVariants.{Striping, Striped, Cleared, Unmarked, Bare, Locking, Locked, Next, Headed, Linked, Given, Counted}
 use Rattle.batch_add.specs.declared.giving_up.GivingUp.{GivingUp}
-use Rattle.batch_add.specs.Work.{Work}
-use Rattle.batch_add.specs.WorkLater.{worked-sizes, worked-mode, worked-more}
+use Rattle.pass_table.specs.Work.{Work}
+use Rattle.pass_table.proofs.WorkLater.{worked-sizes, worked-mode, worked-more}
 use Rattle.batch_add.specs.Parts.{StoresFrom}
 use Rattle.batch_add.specs.GivingUp.{WorksFree, WorksUnder, KnowsFree, IsPutting, AtGiving, IsGivingUp}
 

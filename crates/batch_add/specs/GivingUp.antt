@@ -21,7 +21,7 @@ use Rattle.batch_add.specs.declared.kept_batch.KeptBatch.{KeptBatch}
 use Rattle.batch_add.specs.declared.giving_up.GiveStage.{GiveStage}
 use Rattle.batch_add.specs.declared.giving_up.GiveStage.TheVariants.{Striping, Striped, Cleared, Unmarked, Bare, Locking, Locked, Next, Headed, Linked, Given, Counted}
 use Rattle.batch_add.specs.declared.giving_up.GivingUp.{GivingUp}
-use Rattle.batch_add.specs.Work.{Work, begun, HasWorked}
+use Rattle.pass_table.specs.Work.{Work, begun, HasWorked}
 use Rattle.batch_add.specs.Parts.{stored_as, StoresFrom, HasGivenUp}
 use Rattle.batch_add.specs.Keeping.{index_at, IsBegunFor}
 

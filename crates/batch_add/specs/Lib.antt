@@ -1,5 +1,3 @@
-pub mod Work
-pub mod WorkLater
 pub mod Drawing
 pub mod Parts
 pub mod Shape

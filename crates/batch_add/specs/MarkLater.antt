@@ -26,7 +26,7 @@ use Rattle.batch_add.specs.declared.mark_op.MarkStage.{MarkStage}
 use Rattle.batch_add.specs.declared.mark_op.MarkStage.TheVariants.{Taking, Striped, Live, Joining, Placed, Outside, Sides, Boxed, Leaving, Refusing}
 use Rattle.batch_add.specs.declared.mark_op.Marking.{Marking}
 use Rattle.batch_add.specs.Marking.{Marks, current, marks_of, IsBegunFor, HasStripe, IsAtBody, KnowsOut, KnowsHere, KnowsSides, KnowsJoin, AtMark, IsMarking}
-use Rattle.batch_add.specs.WorkLater.{worked-sizes, worked-pass, worked-mode, worked-more}
+use Rattle.pass_table.proofs.WorkLater.{worked-sizes, worked-pass, worked-mode, worked-more}
 
 -- ---- locks
 

@@ -25,7 +25,7 @@ use Rattle.batch_add.specs.declared.mark_op.MarkRefused.{MarkRefused}
 use Rattle.batch_add.specs.declared.mark_op.MarkStage.{MarkStage}
 use Rattle.batch_add.specs.declared.mark_op.MarkStage.TheVariants.{Taking, Striped, Live, Joining, Placed, Outside, Sides, Boxed, Leaving, Refusing}
 use Rattle.batch_add.specs.declared.mark_op.Marking.{Marking}
-use Rattle.batch_add.specs.Work.{Work, HasWorked}
+use Rattle.pass_table.specs.Work.{Work, HasWorked}
 use Rattle.batch_add.specs.Parts.{IsNewest, HasMarked, HasMarkedBefore, marks_outcome, IsMarkRefusedAt}
 
 -- ---- what is marked

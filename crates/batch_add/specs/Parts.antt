@@ -25,7 +25,7 @@ use Rattle.tree_plan.specs.Arranged.{AreApart}
 use Rattle.pass_table.specs.Calls.{AtPoint}
 use Rattle.batch_add.specs.declared.mark_op.MarkRefused.{MarkRefused}
 use Rattle.batch_add.specs.declared.mark_op.MarkRefused.TheVariants.{Gone, Held, AlreadyIn, WrongLayer}
-use Rattle.batch_add.specs.Work.{Outcome, HasDone, idle}
+use Rattle.pass_table.specs.Work.{Outcome, HasDone, idle}
 use Rattle.batch_add.specs.Drawing.{IsDrawn}
 
 -- ---- stores

@@ -5,8 +5,8 @@ use Rattle.pass_table.specs.Knowing.{KnowsMore}
 use Rattle.batch_add.specs.declared.prepare_op.PrepareStage.{PrepareStage}
 use Rattle.batch_add.specs.declared.prepare_op.PrepareStage.TheVariants.{Empty, Searching, TakingNodes, Marking as MarkingStage, Drawing, GivingUp as GivingUpStage}
 use Rattle.batch_add.specs.declared.prepare_op.PrepareOp.{PrepareOp}
-use Rattle.batch_add.specs.Work.{begun}
-use Rattle.batch_add.specs.WorkLater.{worked-more}
+use Rattle.pass_table.specs.Work.{begun}
+use Rattle.pass_table.proofs.WorkLater.{worked-more}
 use Rattle.batch_add.specs.Searching.{IsSearching, searching-later}
 use Rattle.batch_add.specs.TakingNodes.{IsTakingNodes, taking_nodes-later}
 use Rattle.batch_add.specs.Marking.{IsMarking}

@@ -21,7 +21,7 @@ use Rattle.core_state.specs.Guards.{scene_at}
 use Rattle.tree_plan.specs.Plan.{Plan}
 use Rattle.pass_table.specs.Calls.{Adds, MakesAt}
 use Rattle.batch_add.specs.declared.prepared.Prepared.{Prepared}
-use Rattle.batch_add.specs.Work.{Tells}
+use Rattle.pass_table.specs.Work.{Tells}
 use Rattle.batch_add.specs.Parts.{stored_as, IsAmong}
 use Rattle.batch_add.specs.Drawing.{node_at, IsDrawn}
 use Rattle.batch_add.specs.Shape.{tree_at}

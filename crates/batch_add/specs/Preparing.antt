@@ -36,7 +36,7 @@ use Rattle.batch_add.specs.declared.prepare_op.PrepareStage.{PrepareStage}
 use Rattle.batch_add.specs.declared.prepare_op.PrepareStage.TheVariants.{Empty, Searching, TakingNodes, Marking as MarkingStage, Drawing, GivingUp as GivingUpStage}
 use Rattle.batch_add.specs.declared.prepare_op.PrepareOp.{PrepareOp}
 use Rattle.batch_add.specs.declared.prepare_op.Plans.{Plans}
-use Rattle.batch_add.specs.Work.{Outcome, HasWorked, HasDone, begun, idle}
+use Rattle.pass_table.specs.Work.{Outcome, HasWorked, HasDone, begun, idle}
 use Rattle.batch_add.specs.Parts.{stored_as, StoresFrom, HasReserved, FoundNoSlot, with_nodes, HasNodes, FoundFewNodes, marked_as, HasMarked, HasMarkedBefore, IsMarkRefusedAt}
 use Rattle.batch_add.specs.Prepared.{IsGood}
 use Rattle.batch_add.specs.Searching.{IsSearching, search_left}

@@ -10,9 +10,9 @@ use Rattle.pass_table.specs.Knowing.{KnowsMore}
 use Rattle.pass_table.specs.Calls.{AtPoint, IsTurn}
 use Rattle.pass_table.proofs.Calling.{point-later}
 use Rattle.batch_add.specs.declared.slot_search.SlotSearch.{SlotSearch}
-use Rattle.batch_add.specs.Work.{begun, HasWorked}
+use Rattle.pass_table.specs.Work.{begun, HasWorked}
 use Rattle.batch_add.specs.Parts.{HasReserved, FoundNoSlot}
-use Rattle.batch_add.specs.WorkLater.{worked-more}
+use Rattle.pass_table.proofs.WorkLater.{worked-more}
 
 -- ---- what is found
 

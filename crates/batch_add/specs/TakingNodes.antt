@@ -30,8 +30,8 @@ use Rattle.pass_table.proofs.Calling.{point-later, steady-more}
 use Rattle.batch_add.specs.declared.node_taking.NodeStage.{NodeStage}
 use Rattle.batch_add.specs.declared.node_taking.NodeStage.TheVariants.{Locking, Locked, Next, First, Linked, Taken, Leaving}
 use Rattle.batch_add.specs.declared.node_taking.NodeTaking.{NodeTaking}
-use Rattle.batch_add.specs.Work.{Work, begun, with_lock, HasWorked}
-use Rattle.batch_add.specs.WorkLater.{worked-sizes, worked-mode, worked-more}
+use Rattle.pass_table.specs.Work.{Work, begun, with_lock, HasWorked}
+use Rattle.pass_table.proofs.WorkLater.{worked-sizes, worked-mode, worked-more}
 use Rattle.batch_add.specs.Parts.{stored_as, StoresFrom, IsNewest, with_nodes, HasNodes, FoundFewNodes}
 
 -- ---- how far it is

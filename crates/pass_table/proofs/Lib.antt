@@ -14,4 +14,6 @@ pub mod Turning
 pub mod Resting
 pub mod TakingTurns
 pub mod Calling
+pub mod WorkLater
+pub mod Working
 pub mod Between

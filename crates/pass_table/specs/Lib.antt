@@ -12,3 +12,5 @@ pub mod Passes
 pub mod Opened
 pub mod Numbered
 pub mod Calls
+pub mod Work
+pub mod Belongings

@@ -9,7 +9,7 @@ use Rattle.pass_table.specs.Passes.{view_of}
 use Rattle.pass_table.proofs.Knowing.{known-more}
 use Rattle.pass_table.proofs.Calling.{released-step, released-made}
 use Rattle.batch_add.specs.declared.giving_up.GiveStage.TheVariants.{Counted}
-use Rattle.batch_add.specs.WorkLater.{worked-sizes}
+use Rattle.pass_table.proofs.WorkLater.{worked-sizes}
 use Rattle.batch_add.specs.GivingLater.{under-lock, from-later}
 use Rattle.batch_add.proofs.GiveTurns.{at-stage, ended}
 use Rattle.batch_add.proofs.GiveWork.{under-released}

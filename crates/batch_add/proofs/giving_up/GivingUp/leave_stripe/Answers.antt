@@ -5,7 +5,7 @@ use Rattle.pass_table.specs.Holding.{MayLetGo, LetGo}
 use Rattle.pass_table.specs.Passes.{view_of}
 use Rattle.pass_table.proofs.Calling.{released-step, released-made}
 use Rattle.batch_add.specs.declared.giving_up.GiveStage.TheVariants.{Unmarked}
-use Rattle.batch_add.specs.WorkLater.{worked-sizes}
+use Rattle.pass_table.proofs.WorkLater.{worked-sizes}
 use Rattle.batch_add.specs.GivingUp.{ComesNext, IsGiveTurn}
 use Rattle.batch_add.specs.GivingLater.{free-lock, under-lock}
 use Rattle.batch_add.proofs.GiveTurns.{at-stage, went-on, next-less}

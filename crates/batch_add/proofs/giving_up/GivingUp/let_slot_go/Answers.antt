@@ -6,7 +6,7 @@ use Rattle.core_state.specs.declared.view.View.{View}
 use Rattle.pass_table.specs.TakeTurns.{taking_of, IsTaking}
 use Rattle.pass_table.specs.Passes.{view_of}
 use Rattle.batch_add.specs.declared.giving_up.GiveStage.TheVariants.{Bare, Locking}
-use Rattle.batch_add.specs.WorkLater.{worked-sizes}
+use Rattle.pass_table.proofs.WorkLater.{worked-sizes}
 use Rattle.batch_add.specs.GivingUp.{IsGiveTurn}
 use Rattle.batch_add.specs.GivingLater.{free-lock}
 use Rattle.batch_add.proofs.GiveTurns.{at-stage, went-on, ended, few-left}

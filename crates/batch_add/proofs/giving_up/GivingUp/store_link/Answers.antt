@@ -4,7 +4,7 @@ use Rattle.std.specs.Prelude.{Contains}
 use Rattle.pass_table.specs.Passes.{view_of}
 use Rattle.free_list.specs.Pool.{LinkedNode}
 use Rattle.batch_add.specs.declared.giving_up.GiveStage.TheVariants.{Headed, Linked}
-use Rattle.batch_add.specs.WorkLater.{worked-sizes}
+use Rattle.pass_table.proofs.WorkLater.{worked-sizes}
 use Rattle.batch_add.proofs.GiveTurns.{at-stage, went-on}
 use Rattle.batch_add.proofs.GiveNodes.{node-kept, node-loose, link-step, link-made, link-known, has-pool}
 use Rattle.batch_add.proofs.giving_up.GivingUp.store_link.Goals as goal

@@ -4,7 +4,7 @@ use Rattle.core_state.specs.Batches.{MayTakeBack, take_back}
 use Rattle.pass_table.specs.Stepping.{Stored}
 use Rattle.pass_table.specs.Passes.{view_of}
 use Rattle.batch_add.specs.declared.giving_up.GiveStage.TheVariants.{Striped, Cleared}
-use Rattle.batch_add.specs.WorkLater.{worked-sizes}
+use Rattle.pass_table.proofs.WorkLater.{worked-sizes}
 use Rattle.batch_add.proofs.GiveTurns.{at-stage, went-on}
 use Rattle.batch_add.proofs.GiveBodies.{body-index, body-room, index-named, back-step, back-made, asks-back, back-taken}
 use Rattle.batch_add.proofs.giving_up.GivingUp.take_back.Goals as goal

@@ -8,7 +8,7 @@ use Rattle.pass_table.specs.Stepping.{Stored}
 use Rattle.pass_table.specs.declared.turn.Turn.TheVariants.{More}
 use Rattle.pass_table.specs.Passes.{view_of}
 use Rattle.batch_add.specs.declared.giving_up.GiveStage.TheVariants.{Cleared, Unmarked}
-use Rattle.batch_add.specs.WorkLater.{worked-sizes}
+use Rattle.pass_table.proofs.WorkLater.{worked-sizes}
 use Rattle.batch_add.proofs.GiveTurns.{at-stage, at_stage, went-on-made}
 use Rattle.batch_add.proofs.GiveBodies.{body-index, body-room, index-named, unmark-step, unmark-made, asks-unmark, unmarked-work}
 use Rattle.batch_add.proofs.giving_up.GivingUp.unmark.Goals as goal

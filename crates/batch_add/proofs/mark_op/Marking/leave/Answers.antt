@@ -8,7 +8,7 @@ use Rattle.pass_table.specs.Passes.{view_of}
 use Rattle.pass_table.proofs.Calling.{released-step, released-made}
 use Rattle.batch_add.specs.declared.mark_op.MarkStage.TheVariants.{Taking, Leaving}
 use Rattle.batch_add.specs.Marking.{marks_of, current, IsMarkTurn}
-use Rattle.batch_add.specs.WorkLater.{worked-sizes}
+use Rattle.pass_table.proofs.WorkLater.{worked-sizes}
 use Rattle.batch_add.proofs.MarkTurns.{went-on}
 use Rattle.batch_add.proofs.MarkEnds.{going-at, none-held, then-next, done-turn, may-let_go}
 use Rattle.batch_add.proofs.mark_op.Marking.leave.Goals as goal

@@ -8,7 +8,7 @@ use Rattle.pass_table.specs.Passes.{view_of}
 use Rattle.pass_table.proofs.Bodies.{body-load-step, body-load-made}
 use Rattle.batch_add.specs.declared.mark_op.MarkStage.TheVariants.{Joining, Placed}
 use Rattle.batch_add.specs.Marking.{marks_of}
-use Rattle.batch_add.specs.WorkLater.{worked-sizes}
+use Rattle.pass_table.proofs.WorkLater.{worked-sizes}
 use Rattle.batch_add.proofs.MarkTurns.{went-on}
 use Rattle.batch_add.proofs.MarkLoads.{may-load, layer-below, layer-placed}
 use Rattle.batch_add.proofs.MarkEnds.{going-at}

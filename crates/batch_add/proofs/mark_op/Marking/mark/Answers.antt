@@ -10,7 +10,7 @@ use Rattle.pass_table.specs.Stepping.{Stored}
 use Rattle.pass_table.specs.Passes.{view_of}
 use Rattle.batch_add.specs.declared.mark_op.MarkStage.TheVariants.{Boxed}
 use Rattle.batch_add.specs.Marking.{marks_of, current, Notes}
-use Rattle.batch_add.specs.WorkLater.{worked-sizes}
+use Rattle.pass_table.proofs.WorkLater.{worked-sizes}
 use Rattle.batch_add.proofs.MarkEnds.{marked-few, going-at, may-mark, mark-turn}
 use Rattle.batch_add.proofs.mark_op.Marking.mark.Goals as goal
 

@@ -15,7 +15,7 @@ use Rattle.core_state.specs.View.{number_in, IsPass, mode_of, mode_after}
 use Rattle.pass_table.specs.Knowing.{KnowsMore, StoresAlone, more-alone}
 use Rattle.pass_table.specs.Holding.{IsAtRest}
 use Rattle.pass_table.proofs.Calling.{adds-more}
-use Rattle.batch_add.specs.Work.{is_told, told_store, told_stores, Tells, Work, HasWorked}
+use Rattle.pass_table.specs.Work.{is_told, told_store, told_stores, Tells, Work, HasWorked}
 
 -- ---- stores that are told
 

@@ -30,8 +30,8 @@ use Rattle.pass_table.specs.TakeTurns.{taking_of, HasTaken}
 use Rattle.pass_table.specs.Calls.{own_entry, Adds, AtPoint, StoresWord}
 use Rattle.pass_table.proofs.Knowing.{step-alone}
 use Rattle.pass_table.proofs.Calling.{Adds-refl, adds-made, released-made, released-left, released-task}
-use Rattle.batch_add.specs.WorkLater.{same_pass, none-told, tells_on, tells-alone, worked-role, worked-pass, worked-mode}
-use Rattle.batch_add.specs.Work.{is_told, told_store, told_stores, Tells, Work, begun, with_lock, HasWorked, Outcome, HasDone, followed, outcome_of, idle}
+use Rattle.pass_table.proofs.WorkLater.{same_pass, none-told, tells_on, tells-alone, worked-role, worked-pass, worked-mode}
+use Rattle.pass_table.specs.Work.{is_told, told_store, told_stores, Tells, Work, begun, with_lock, HasWorked, Outcome, HasDone, followed, outcome_of, idle}
 
 -- ---- stores that are told
 

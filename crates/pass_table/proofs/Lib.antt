@@ -8,6 +8,7 @@ pub mod Seating
 pub mod Knowing
 pub mod Bodies
 pub mod LockedBodies
+pub mod Current
 pub mod Ruling
 pub mod Trying
 pub mod Turning

@@ -1,4 +1,4 @@
-//! What holds in every run of the kinds of step that are built. No call here does anything.
+//! What holds in every run of the kinds of step that are built, and of every pass. No call here does anything.
 ghost use Rattle.word_map.specs.declared.config.Config.{Config};
 ghost use Rattle.word_map.specs.Limits.{IsConfig};
 ghost use Rattle.core_state.specs.Core.{Core, opening};
@@ -8,6 +8,11 @@ ghost use Rattle.core_state.specs.Guards.{GuardsHold};
 ghost use Rattle.core_state.specs.Nodes.{Nodes};
 ghost use Rattle.core_state.specs.TreesSound.{BoundsOnlyWiden};
 ghost use Rattle.core_state.specs.Invariants.{Invariants};
+ghost use Rattle.pass_table.specs.Knowing.{KnowsLawful};
+ghost use Rattle.pass_table.specs.Bodies.{IsCurrent};
+ghost use Rattle.pass_table.specs.Passes.{view_of};
+
+use crate::pass::Pass;
 
 /// Each event of the kinds that are built leads from a core that meets all invariants to one that does, and no event
 /// stores a word that another pass has for itself. So all cores of all runs meet them, and in every run what a pass has
@@ -22,4 +27,11 @@ pub fn events_keep_all()
 /// Bounds of trees only widen: every event of the kinds that are built leaves each bound as wide as it was.
 pub fn bounds_only_widen()
     ensures { (before after : Core) (h : Invariants before) → Event before after → BoundsOnlyWiden h.nodes before after }
+{}
+
+/// What a pass knows was the whole log when it made its last step, in a core that meets all invariants; so the history
+/// that it has seen is lawful.
+pub fn passes_are_current(pass: &Pass)
+    ensures current { ∥ IsCurrent (view_of pass.now) ∥₁ }
+    ensures lawful { KnowsLawful (view_of pass.now) }
 {}

@@ -1,12 +1,12 @@
 //! Looking at the log, and meeting.
 ghost use Rattle.std.specs.Prelude.{◌≡◌};
-ghost use Rattle.core_state.specs.Seats.{joined_view};
 ghost use Rattle.pass_table.specs.Knowing.{Looked, MeetsWith};
 ghost use Rattle.pass_table.specs.Passes.{view_of, IsOf};
 
 use crate::kinds::Look;
 use crate::pass::Pass;
 use crate::seats::{Meet, Visit};
+use crate::step;
 use crate::world::World;
 use word_map::Name;
 
@@ -32,21 +32,10 @@ impl Pass {
         ensures other_view { view_of other.new ≡ view_of other.old }
         ensures meets { MeetsWith (view_of self.old) (view_of other.old) (view_of self.new) }
     {
-        self.join(world, other);
-        self.look(world);
-    }
-
-    /// The two steps of a meeting that change seats.
-    fn join(&mut self, world: &World, other: &mut Pass)
-        requires of { IsOf world.now self.old }
-        requires other_of { IsOf world.now other.old }
-        ensures of { IsOf world.now self.new }
-        ensures other_of { IsOf world.now other.new }
-        ensures other_view { view_of other.new ≡ view_of other.old }
-        ensures joined { view_of self.new ≡ joined_view (view_of self.old) (view_of other.old) }
-    {
         let words = &world.table.shared;
         let visitor = words.split_seat::<Visit>(&mut other.seat);
         words.join_seat::<Meet>(&mut self.seat, visitor);
+        let place = world.map.place(Name::Update);
+        step::load::<Look>(words, &mut self.seat, place);
     }
 }

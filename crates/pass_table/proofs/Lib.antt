@@ -18,3 +18,5 @@ pub mod Calling
 pub mod WorkLater
 pub mod Working
 pub mod Between
+pub mod Telling
+pub mod Several

@@ -147,11 +147,6 @@ module _ (view next : View) (lock : ℕ) (mode : Mode) (number : ℕ) (pass : Is
   tried-tells (Busy of word) tried = more-tells view next number pass (busy-more view next lock mode of word tried)
   tried-tells (Lost loaded found) tried = more-tells view next number pass (lost-more view next lock mode loaded found tried)
 
-pub tried-keeps : (view next : View) (lock : ℕ) (mode : Mode) (result : Take) → Tried view next lock mode result → belongings_of next ≡ belongings_of view
-tried-keeps view next lock mode Taken tried = ap belongings_of tried.left.rest
-tried-keeps view next lock mode (Busy of word) tried = ap belongings_of tried.left.rest
-tried-keeps view next lock mode (Lost loaded found) tried = ap belongings_of tried.left.rest
-
 -- ---- a lock was let go
 
 module _ (view next : View) (lock found number : ℕ) (pass : IsPass view number) (go : LetGo view lock found next) where

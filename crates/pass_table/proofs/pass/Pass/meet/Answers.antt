@@ -7,6 +7,7 @@ use Rattle.pass_table.proofs.Bodies.{stepped-current}
 use Rattle.pass_table.proofs.Knowing.{met-look, looked, meets-with}
 use Rattle.pass_table.proofs.Leaving.{may-step, number-left, walk-left, still-held, sizes-left}
 use Rattle.pass_table.proofs.Seating.{visits-allowed, joins-allowed, words-some}
+use Rattle.pass_table.proofs.Telling.{more-adds, more-tells, more-keeps}
 use Rattle.pass_table.proofs.pass.Pass.meet.Goals as goal
 
 pub split_seat-visitor-requires : goal.split_seat-visitor-requires
@@ -92,3 +93,30 @@ returns-clause-meets c =
     let step = met-look _ world.map pass.seat.me.0 other.seat.me.0 _ _ c.load.new.seat.me.0 c.place-place.result c.load.result world.sized.0 c.place-place.ensures.name
     (ap (λ me. me.0) c.split_seat-visitor.ensures.4) (ap (λ me. me.0) c.join_seat.ensures.2) c.load.ensures.step in
     meets-with pass.seat.me.0 other.seat.me.0 _ (looked (joined_view pass.seat.me.0 other.seat.me.0) _ _ step)
+
+pub returns-clause-adds : goal.returns-clause-adds
+returns-clause-adds c =
+    let world = c.args.world.now in
+    let pass = c.args.self.now in
+    let other = c.args.other.now in
+    let step = met-look _ world.map pass.seat.me.0 other.seat.me.0 _ _ c.load.new.seat.me.0 c.place-place.result c.load.result world.sized.0 c.place-place.ensures.name
+    (ap (λ me. me.0) c.split_seat-visitor.ensures.4) (ap (λ me. me.0) c.join_seat.ensures.2) c.load.ensures.step in
+    more-adds pass.seat.me.0 _ pass.number pass.numbered (meets-with pass.seat.me.0 other.seat.me.0 _ (looked (joined_view pass.seat.me.0 other.seat.me.0) _ _ step)).more
+
+pub returns-clause-tells : goal.returns-clause-tells
+returns-clause-tells c =
+    let world = c.args.world.now in
+    let pass = c.args.self.now in
+    let other = c.args.other.now in
+    let step = met-look _ world.map pass.seat.me.0 other.seat.me.0 _ _ c.load.new.seat.me.0 c.place-place.result c.load.result world.sized.0 c.place-place.ensures.name
+    (ap (λ me. me.0) c.split_seat-visitor.ensures.4) (ap (λ me. me.0) c.join_seat.ensures.2) c.load.ensures.step in
+    more-tells pass.seat.me.0 _ pass.number pass.numbered (meets-with pass.seat.me.0 other.seat.me.0 _ (looked (joined_view pass.seat.me.0 other.seat.me.0) _ _ step)).more
+
+pub returns-clause-keeps : goal.returns-clause-keeps
+returns-clause-keeps c =
+    let world = c.args.world.now in
+    let pass = c.args.self.now in
+    let other = c.args.other.now in
+    let step = met-look _ world.map pass.seat.me.0 other.seat.me.0 _ _ c.load.new.seat.me.0 c.place-place.result c.load.result world.sized.0 c.place-place.ensures.name
+    (ap (λ me. me.0) c.split_seat-visitor.ensures.4) (ap (λ me. me.0) c.join_seat.ensures.2) c.load.ensures.step in
+    more-keeps pass.seat.me.0 _ (meets-with pass.seat.me.0 other.seat.me.0 _ (looked (joined_view pass.seat.me.0 other.seat.me.0) _ _ step)).more

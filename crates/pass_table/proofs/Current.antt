@@ -6,12 +6,12 @@ use Rattle.std.proofs.lemmas.Bool.{false≢true}
 use Rattle.std.proofs.lemmas.Option.{none-some}
 use Rattle.core_guard.proofs.Seats.{KeepsNumber, each-seat, seen_of}
 use Rattle.scene_model.specs.declared.body_view.Phase.{Phase}
-use Rattle.scene_model.specs.declared.body_view.Phase.TheVariants.{Out, Held, In}
+use Rattle.scene_model.specs.declared.body_view.Phase.TheVariants.{Out, In}
 use Rattle.scene_model.specs.declared.entry.Entry.{Entry}
 use Rattle.scene_model.specs.declared.entry.Entry.TheVariants.{Create, Destroy, Mark, Unmark, Join, Remove, Move, SetUser}
 use Rattle.scene_model.specs.declared.entry.Made.{Made}
-use Rattle.scene_model.specs.Scene.{Scene, Record}
-use Rattle.scene_model.specs.Step.{HasBody, IsPossible, IsWithinLayers, IsLawful, after_entry}
+use Rattle.scene_model.specs.Scene.{Scene}
+use Rattle.scene_model.specs.Step.{IsPossible, IsWithinLayers, after_entry}
 use Rattle.scene_model.specs.History.{IsLawfulFrom, IsLawfulHistory}
 use Rattle.word_map.specs.declared.config.Config.{Config}
 use Rattle.core_state.specs.declared.item.Item.{Item}

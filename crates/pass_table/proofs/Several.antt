@@ -1,7 +1,7 @@
 -- What passes of one world know of one another's entries, where they meet after each call.
 use Rattle.std.specs.Prelude.{option_map, All}
 use Rattle.std.specs.List.{cons_option}
-use Rattle.std.proofs.Common.{◌≡◌, ◌≢◌, ℕ, ◌+◌, ◌<◌, inl, inr, List, [], ◌∷◌, ◌++◌, Bool, Option, Some, None, cond, get_or, length, append_assoc, refl, ap, sym, ◌∙◌, subst, arith}
+use Rattle.std.proofs.Common.{◌≡◌, ◌≢◌, ℕ, ◌+◌, ◌<◌, inl, inr, List, [], ◌∷◌, ◌++◌, Bool, Option, Some, None, cond, get_or, append_assoc, refl, ap, sym, ◌∙◌, subst, arith}
 use Rattle.std.proofs.Props.{props}
 use mathlib.Core.Logic.{∥∥₁_elim}
 use Rattle.std.proofs.lemmas.Bool.{cases_eq, eq-eqb}
@@ -22,7 +22,7 @@ use Rattle.core_state.specs.Seats.{joined_view}
 use Rattle.core_state.specs.Formed.{IsSoundItem, HasNumbers}
 use Rattle.core_state.proofs.Forming.{pass_role, unspent_pass}
 use Rattle.pass_table.specs.Bodies.{IsCurrent}
-use Rattle.pass_table.specs.Knowing.{KnowsMore, MeetsWith}
+use Rattle.pass_table.specs.Knowing.{MeetsWith}
 use Rattle.pass_table.specs.Calls.{own_entry, own_entries, Adds}
 use Rattle.pass_table.specs.Several.{made_by_pass, KnowsOwn, SeesJust, MeetInTurn}
 use Rattle.pass_table.proofs.Keeping.{All-second}

@@ -1,6 +1,6 @@
 -- What calls tell that make no entry and store no word that is told: looks and meetings, and steps on locks.
 use Rattle.std.specs.Prelude.{option_to_list}
-use Rattle.std.proofs.Common.{◌≡◌, ◌≢◌, ◌⊎◌, inl, inr, ℕ, List, [], ◌∷◌, ◌++◌, None, Option, Some, All, eqb, append_assoc, refl, ap, sym, ◌∙◌, subst}
+use Rattle.std.proofs.Common.{◌≡◌, ◌≢◌, ◌⊎◌, inl, inr, ℕ, List, [], ◌++◌, None, Option, eqb, append_assoc, refl, ap, sym, ◌∙◌, subst}
 use Rattle.std.proofs.lemmas.Bool.{ne_eqb}
 use Rattle.std.proofs.lemmas.List.{append-nil}
 use Rattle.std.proofs.lemmas.List.Elements.{All-append}
@@ -12,17 +12,16 @@ use Rattle.core_state.specs.declared.view.View.{View}
 use Rattle.core_state.specs.View.{number_in, IsPass}
 use Rattle.core_state.specs.Kind.{gained_by}
 use Rattle.core_state.specs.Locking.{MayLoadLock, load_lock, take, MayRelease, release}
-use Rattle.core_state.specs.Quietly.{KnowsQuietly}
 use Rattle.core_state.proofs.Quiet.{KnowsQuietly-trans}
 use Rattle.core_state.proofs.Steps.{gained-unstored}
-use Rattle.pass_table.specs.Stepping.{step_by, Stepped}
+use Rattle.pass_table.specs.Stepping.{step_by}
 use Rattle.pass_table.specs.Belongings.{belongings_of}
 use Rattle.pass_table.specs.Calls.{Adds}
 use Rattle.pass_table.specs.Work.{Tells}
 use Rattle.pass_table.specs.Holding.{LetGo}
 use Rattle.pass_table.specs.Knowing.{KnowsMore, StoresAlone, alone-trans, more-alone}
 use Rattle.pass_table.specs.TakeTurns.{taking_of, HasTaken, more-quiet}
-use Rattle.pass_table.specs.Trying.{Leaves, with_taken, LoadedLock, MayTake, ExchangedLock, Tried, WasTaken, WasBusy, WasLost}
+use Rattle.pass_table.specs.Trying.{with_taken, LoadedLock, MayTake, ExchangedLock, Tried, WasBusy, WasLost}
 use Rattle.pass_table.specs.Turning.{MadeBy}
 use Rattle.pass_table.specs.declared.taking.Take.{Take}
 use Rattle.pass_table.specs.declared.taking.Take.TheVariants.{Taken, Busy, Lost}

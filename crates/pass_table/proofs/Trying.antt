@@ -1,6 +1,6 @@
 -- What the steps of a try tell together.
 use Rattle.std.specs.Prelude.{Result, MatchResult}
-use Rattle.std.proofs.Common.{Ok, Err, ◌⊎◌, inl, inr, ◌≡◌, ◌≢◌, ℕ, ◌+◌, ◌^◌, ◌<◌, List, ◌++◌, Bool, true, false, eqb, cond, None, append_assoc, refl, ap, sym, ◌∙◌, subst}
+use Rattle.std.proofs.Common.{Ok, Err, ◌≡◌, ◌≢◌, ℕ, ◌+◌, ◌^◌, ◌<◌, List, ◌++◌, Bool, true, false, eqb, cond, None, append_assoc, refl, ap, sym, ◌∙◌, subst}
 use Rattle.std.proofs.lemmas.Bool.{eq-eqb, ne_eqb}
 use Rattle.word_map.specs.declared.name.Name.{Name}
 use Rattle.word_map.specs.declared.name.Name.TheVariants.{Lock}
@@ -18,9 +18,7 @@ use Rattle.core_state.specs.Operation.{stores}
 use Rattle.core_state.specs.Kind.{Kind, Asking, Step, found_by, gained_by, log_after, view_after}
 use Rattle.core_state.proofs.Prefixes.{IsPrefix-refl, IsPrefix-trans}
 use Rattle.pass_table.specs.Stepping.{step_by, Stepped}
-use Rattle.pass_table.specs.declared.taking.Take.{Take}
-use Rattle.pass_table.specs.declared.taking.Take.TheVariants.{Busy, Lost}
-use Rattle.pass_table.specs.Trying.{Leaves, HadWord, with_taken, MayTake, Exchanged, Tried, Waited}
+use Rattle.pass_table.specs.Trying.{Leaves, HadWord, with_taken, MayTake, Exchanged, Waited}
 use Rattle.pass_table.proofs.Knowing.{IsPlain, known-more, knows-more}
 
 module _ (asks : Asking) (kind : Kind) (view next : View) (name : Name) (first second found : ℕ) (stepped : Stepped asks kind view name first second found next) where
@@ -148,17 +146,8 @@ Waited-more view mid next waited left = record {
       (λ i. record view { known = next.known; joined = sym (ap (λ (v : View). v.joined) left.rest) i }));
 }
 
--- a try that did not take the lock leaves it
-pub tried-waits : (view next : View) (lock : ℕ) (mode : Mode) (take : Take) → ((of : ℕ) × (word : ℕ) × (take ≡ Busy of word)) ⊎ ((loaded : ℕ) × (found : ℕ) × (take ≡ Lost loaded found))
-    → Tried view next lock mode take → Leaves view next view.locks
-tried-waits view next lock mode take (inl t) tried = let busy = subst (Tried view next lock mode) t.2 tried in busy.left
-tried-waits view next lock mode take (inr t) tried = let lost = subst (Tried view next lock mode) t.2 tried in lost.left
-
 pub Waited-taken : (view mid next : View) (lock : ℕ) (mode : Mode) → Waited view mid → Leaves mid next (with_taken mid lock mode) → Leaves view next (with_taken view lock mode)
 Waited-taken view mid next lock mode waited left = record {
   known = IsPrefix-trans view.known mid.known next.known waited.known left.known;
   rest = left.rest ∙ ap (λ (v : View). record v { known = next.known; joined = None; locks = with_taken v lock mode }) waited.rest;
 }
-
-pub Waited-free : (view mid : View) (lock : ℕ) → Waited view mid → HoldsNot view lock → HoldsNot mid lock
-Waited-free view mid lock waited free = ap (λ (v : View). mode_of v.locks lock) waited.rest ∙ free

@@ -1,4 +1,4 @@
-use Rattle.std.proofs.Common.{sym, ◌∙◌, ap}
+use Rattle.std.proofs.Common.{◌∙◌, ap}
 use Rattle.core_state.specs.View.{number_in}
 use Rattle.pass_table.specs.Passes.{view_of}
 use Rattle.pass_table.proofs.Several.{knows-own, sees-own}

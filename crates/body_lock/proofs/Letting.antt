@@ -67,6 +67,6 @@ module _ (view next : View) (lock found : ℕ) (go : LetGo view lock found next)
 -- a call that has let all go which it took is at rest again
 pub calling-rests : (start next : View) (steps : List LockStep) → IsAtRest start → IsCalling start next steps Nothing [] → ((lock : ℕ) → mode_of steps lock ≡ None) → RestsAgain start next
 calling-rests start next steps rest calling none = record {
-  rest = record { free = λ lock. calling-mode start next next steps Nothing [] calling rest lock ∙ none lock; done = calling.doing };
+  rest = record { free = λ lock. worked-mode start next _ calling rest lock ∙ none lock; done = calling.doing };
   left = calling.left ∙ (λ i. record start { known = next.known; joined = next.joined; locks = sym (ap (λ (v : View). v.locks) calling.left) i; call = next.call });
 }

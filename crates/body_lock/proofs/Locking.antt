@@ -45,10 +45,10 @@ no_mode = None
 module _ (id : Id) (mode : Mode) (start view : View) (rest : IsAtRest start) (stripe : HasStripe id mode start view) where
   -- how each lock is held
   stripe-mode : (lock : ℕ) → mode_of view.locks lock ≡ cond (eqb (stripe_of start.config id.index) lock) (Some mode) None
-  stripe-mode lock = calling-mode start view view (Taken (stripe_of start.config id.index) mode ∷ []) Nothing [] stripe rest lock
+  stripe-mode lock = worked-mode start view _ stripe rest lock
 
   stripe-sizes : view.config ≡ start.config
-  stripe-sizes = calling-sizes start view view (Taken (stripe_of start.config id.index) mode ∷ []) Nothing [] stripe
+  stripe-sizes = worked-sizes start view _ stripe
 
   pub stripe-held : Holds view (stripe_of view.config id.index) mode
   stripe-held =
@@ -87,7 +87,7 @@ module _ (id : Id) (mode : Mode) (start view : View) (rest : IsAtRest start) (st
 
   -- the load of the state word leaves the stripe
   pub stripe-loaded : (next : View) → KnowsMore view next → HasStripe id mode start next
-  stripe-loaded next more = calling-more start view next (Taken (stripe_of start.config id.index) mode ∷ []) Nothing [] stripe more
+  stripe-loaded next more = worked-more start view next _ stripe more
 
 -- ---- the turns
 
@@ -109,7 +109,7 @@ locking-begun id mode view next taking lock number same pass below rest still go
 pub stripe-taken : (id : Id) (mode : Mode) (start view next : View) → IsAtRest start → IsCalling start view [] Nothing [] → HasTaken (taking_of (stripe_of start.config id.index) mode) start next → MadeBy view next None
     → HasStripe id mode start next
 stripe-taken id mode start view next rest calling taken by = record {
-  adds = adds-none start view next [] (calling-role start view view [] Nothing [] calling) calling.adds by;
+  adds = adds-none start view next [] (worked-role start view _ calling) calling.adds by;
   doing = ap (λ (v : View). v.call.task) taken.left.rest ∙ rest.done;
   left =
       taken.left.rest
@@ -124,7 +124,7 @@ stripe-taken id mode start view next rest calling taken by = record {
 -- a turn that takes nothing yet
 pub stripe-tried : (start view next : View) → IsAtRest start → IsCalling start view [] Nothing [] → Waited start next → MadeBy view next None → IsCalling start next [] Nothing []
 stripe-tried start view next rest calling waited by = record {
-  adds = adds-none start view next [] (calling-role start view view [] Nothing [] calling) calling.adds by;
+  adds = adds-none start view next [] (worked-role start view _ calling) calling.adds by;
   doing = ap (λ (v : View). v.call.task) waited.rest ∙ rest.done;
   left =
       waited.rest
@@ -214,7 +214,7 @@ module _ (id : Id) (mode : Mode) (start view next : View) (rest : IsAtRest start
 
   pub other-gone : state ≢ live_state id.seq → FoundGone id mode start state next
   other-gone other =
-      let sizes : next.config ≡ start.config = calling-sizes start next next (Taken (stripe_of start.config id.index) mode ∷ []) Nothing [] after-load in
+      let sizes : next.config ≡ start.config = worked-sizes start next _ after-load in
       let gone : IsGoneAt next.config id state next.known =
       gone-now next loaded.now id (subst (λ (c : Config). id.index < c.bodies) (sym sizes) below) state loaded.word other
       in
@@ -311,7 +311,7 @@ module _ (operation : LockOp) (view : View) (c : Config) (sizes : view.config �
   leave-answers : (next : View) (found : ℕ) → LetGo view (stripe_of c operation.id.index) found next → (first : LockOp) (start : View) → IsLocking first start operation view → WasGone first.id start next state
   leave-answers next found go first start locking =
       let gone = leaves-from first start locking in
-      let start_sizes : view.config ≡ start.config = calling-sizes start view view (Taken (stripe_of start.config first.id.index) first.mode ∷ []) Nothing [] gone.calling in
+      let start_sizes : view.config ≡ start.config = worked-sizes start view _ gone.calling in
       gone-leaves first.id first.mode start view next state found locking.rest gone
       (subst (λ (l : ℕ). LetGo view l found next) (λ i. stripe_of ((sym sizes ∙ start_sizes) i) (ap (λ (k : Id). k.index) locking.id i)) go)
 

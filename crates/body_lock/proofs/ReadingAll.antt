@@ -138,7 +138,7 @@ module _ (operation : LockMultiOp) (view : View) (stage : operation.stage ≡ He
   holds-now = holds-more reading.held view first.stripes.bits first.mode reading.holds.since reading.holds.all
 
   sizes : view.config ≡ start.config
-  sizes = calling-sizes start view view locking.steps Nothing [] locking.calling
+  sizes = worked-sizes start view _ locking.calling
 
   -- the next body
   pub more-wanted : length operation.bodies.items < length operation.wanted.items
@@ -189,7 +189,7 @@ module _ (operation : LockMultiOp) (view : View) (stage : operation.stage ≡ He
     since = held-later first.stripes.bits first.mode start reading.held view next more reading.holds
 
     pub next-calling : IsCalling start next locking.steps Nothing []
-    next-calling = calling-more start view next locking.steps Nothing [] locking.calling more
+    next-calling = worked-more start view next _ locking.calling more
 
     right : (entry : MultiEntry) → SaysEntry wanted.seq found.state entry → IsReachRight locking.number first.mode reading.held next wanted entry
     right Reached says = record {

@@ -116,11 +116,11 @@ IsLockTurn turn before after view next =
 stage-later : (id : Id) (mode : Mode) (start : View) (stage : LockStage) (view next : View) → KnowsMore view next → IsAtStage id mode start stage view → IsAtStage id mode start stage next
 stage-later id mode start (Taking taking) view next more at = record {
   goes = taking-later (taking_of (stripe_of start.config id.index) mode) start taking view next more at.goes;
-  calling = calling-more start view next [] Nothing [] at.calling more;
+  calling = worked-more start view next _ at.calling more;
 }
-stage-later id mode start Held view next more at = calling-more start view next (Taken (stripe_of start.config id.index) mode ∷ []) Nothing [] at more
+stage-later id mode start Held view next more at = worked-more start view next _ at more
 stage-later id mode start (Leaving state) view next more at = record {
-  calling = calling-more start view next (Taken (stripe_of start.config id.index) mode ∷ []) Nothing [] at.calling more;
+  calling = worked-more start view next _ at.calling more;
   gone = point-later start view next (IsGoneAt start.config id state) (more.since, more.known) at.gone;
 }
 

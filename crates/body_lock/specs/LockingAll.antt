@@ -198,6 +198,6 @@ locking_all-later first start operation view next more locking = record {
   number = locking.number;
   pass = locking.pass;
   steps = locking.steps;
-  calling = calling-more start view next locking.steps Nothing [] locking.calling more;
+  calling = worked-more start view next _ locking.calling more;
   stage = multi-later locking.number first.stripes.bits first.mode first.wanted.items operation.bodies.items start operation.stage view next more locking.stage;
 }

@@ -15,10 +15,11 @@ use Rattle.body_lock.specs.declared.multi_guard.LockedBody.{LockedBody}
 use Rattle.body_lock.specs.declared.multi_guard.MultiGuard.{MultiGuard}
 use Rattle.pass_table.specs.Bodies.{IsGuarding, IsCurrent}
 use Rattle.pass_table.proofs.LockedBodies.{guarding-more}
+use Rattle.pass_table.specs.Work.{Tells}
 use Rattle.body_lock.specs.Seeing.{IsSeenAt, HasSetUser}
 use Rattle.body_lock.specs.Stripes.{HoldsAll}
 use Rattle.body_lock.specs.Multi.{IsReachGood, IsEntryGood, IsMultiGood, SeesBody}
-use Rattle.body_lock.proofs.Standing.{guarding-adds, user-guarding}
+use Rattle.body_lock.proofs.Standing.{guarding-adds, guarding-tells, user-guarding}
 use Rattle.body_lock.proofs.Staying.{guarded-stays}
 
 -- the locks of a set are held as before
@@ -54,6 +55,9 @@ module _ (guard : MultiGuard) (view : View) (good : IsMultiGood guard view) (k :
 
   pub reached-adds : (next : View) → KnowsMore view next → Adds view next []
   reached-adds next more = guarding-adds guard.number body.id guard.mode view reached-guarding next more
+
+  pub reached-tells : (next : View) → KnowsMore view next → Tells view next []
+  reached-tells next more = guarding-tells guard.number body.id guard.mode view reached-guarding next more
 
   pub reached-sees : (next : View) (shown : BodyView) → KnowsMore view next → IsCurrent next → AtPoint view next (IsSeenAt view.config view.known body.id shown)
       → (past : LockedBody) → ((get_or guard.bodies.items k past).entry ≡ Reached) × SeesBody (get_or guard.bodies.items k past).id view next shown

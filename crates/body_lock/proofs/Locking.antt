@@ -1,6 +1,6 @@
 -- The turns of locking a body.
-use Rattle.std.proofs.Common.{◌≡◌, ◌≢◌, inl, inr, ℕ, suc, ◌<◌, List, [], ◌∷◌, Bool, true, false, eqb, cond, Option, Some, None, refl, ap, sym, ◌∙◌, subst, arith}
-use Rattle.std.specs.Prelude.{Ok, Err}
+use Rattle.std.proofs.Common.{◌≡◌, ◌≢◌, inl, inr, ℕ, suc, ◌<◌, List, [], Bool, true, false, eqb, cond, Option, Some, None, refl, ap, sym, ◌∙◌, subst, arith}
+use Rattle.std.specs.Prelude.{Ok, Err, Result}
 use Rattle.std.proofs.lemmas.Bool.{eq-eqb, ne_eqb}
 use Rattle.std.proofs.lemmas.List.{append-nil}
 use Rattle.body_ident.specs.Id.{Id}
@@ -10,32 +10,38 @@ use Rattle.word_map.specs.Names.{stripe_of}
 use Rattle.core_state.specs.declared.view.Mode.{Mode}
 use Rattle.core_state.specs.declared.view.Mode.TheVariants.{Read, Write}
 use Rattle.core_state.specs.declared.view.LockStep.{LockStep}
-use Rattle.core_state.specs.declared.view.LockStep.TheVariants.{Taken, Released}
 use Rattle.core_state.specs.declared.view.Task.TheVariants.{Nothing}
 use Rattle.core_state.specs.declared.view.View.{View}
 use Rattle.core_state.specs.View.{mode_of, Holds, HoldsNot, IsPass, number_of, known_word}
 use Rattle.core_state.specs.Lives.{MayLoadBody, under_stripe, load_body}
 use Rattle.core_state.specs.Event.{loads_body, of_bodies}
 use Rattle.pass_table.specs.Stepping.{Stepped}
-use Rattle.pass_table.specs.Knowing.{KnowsMore}
+use Rattle.pass_table.specs.Knowing.{KnowsMore, StoresAlone}
 use Rattle.pass_table.specs.Holding.{MayLetGo, LetGo, IsAtRest}
 use Rattle.pass_table.specs.Turning.{IsUnderWay, Turned, LostLock, IsHeldUp, AtMostOneStep, MadeBy}
 use Rattle.pass_table.specs.declared.turn.Turn.TheVariants.{Done, More, Again}
 use Rattle.pass_table.specs.Trying.{Waited, with_taken}
 use Rattle.pass_table.specs.TakeTurns.{taking_of, IsTaking, HasTaken, turns_left}
 use Rattle.pass_table.specs.declared.take_op.TakeOp.{TakeOp}
-use Rattle.pass_table.specs.Calls.{IsCalling}
 use Rattle.pass_table.proofs.Turning.{one-step, made-by-step}
-use Rattle.pass_table.proofs.Calling.{some-left, calling-begun, adds-none, point-now, point-later, calling-role, calling-sizes, calling-more, calling-mode}
+use Rattle.pass_table.proofs.Calling.{some-left, adds-none, point-now, point-later}
 use Rattle.pass_table.proofs.Knowing.{known-more}
+use Rattle.pass_table.specs.Calls.{Adds}
+use Rattle.body_lock.specs.declared.gone.Gone.{Gone}
+use Rattle.body_lock.specs.declared.body_read.BodyRead.{BodyRead}
+use Rattle.body_lock.specs.declared.body_write.BodyWrite.{BodyWrite}
 use Rattle.body_lock.specs.Guarding.{IsAlone}
 use Rattle.pass_table.specs.Bodies.{live_state, IsCurrent, Loaded, IsGoneAt}
 use Rattle.pass_table.proofs.Bodies.{loaded-body, gone-now}
+use Rattle.pass_table.proofs.WorkLater.{worked-role, worked-sizes, worked-mode, worked-more, worked-keeps, tells-alone}
+use Rattle.pass_table.proofs.Working.{worked-begun, worked-released, worked-done, done-keeps, tells-refl}
+use Rattle.pass_table.specs.Work.{IsCalling, Tells}
+use Rattle.pass_table.specs.Belongings.{belongings_of}
 use Rattle.body_lock.specs.declared.lock_op.LockOp.{LockOp}
 use Rattle.body_lock.specs.declared.lock_op.LockStage.{LockStage}
 use Rattle.body_lock.specs.declared.lock_op.LockStage.TheVariants.{Taking, Held, Leaving}
-use Rattle.body_lock.specs.Locking.{turns_from, lock_left, HasStripe, TakesStripe, FoundGone, IsAtStage, IsLocking, IsLockingSo, HasLocked, HasReadLock, HasWriteLock, WasGone, IsLockTurn}
-use Rattle.body_lock.proofs.Letting.{let-go-step, let-go-made, let-go-calling, calling-rests}
+use Rattle.body_lock.specs.Locking.{turns_from, lock_left, HasStripe, TakesStripe, FoundGone, IsAtStage, IsLocking, IsLockingSo, HasLocked, HasReadLock, HasWriteLock, WasGone, ReadAnswers, WriteAnswers, IsLockTurn}
+use Rattle.body_lock.proofs.Letting.{let-go-step, let-go-made}
 
 -- ---- one lock
 
@@ -45,10 +51,10 @@ no_mode = None
 module _ (id : Id) (mode : Mode) (start view : View) (rest : IsAtRest start) (stripe : HasStripe id mode start view) where
   -- how each lock is held
   stripe-mode : (lock : ℕ) → mode_of view.locks lock ≡ cond (eqb (stripe_of start.config id.index) lock) (Some mode) None
-  stripe-mode lock = calling-mode start view view (Taken (stripe_of start.config id.index) mode ∷ []) Nothing [] stripe rest lock
+  stripe-mode lock = worked-mode start view _ stripe rest lock
 
   stripe-sizes : view.config ≡ start.config
-  stripe-sizes = calling-sizes start view view (Taken (stripe_of start.config id.index) mode ∷ []) Nothing [] stripe
+  stripe-sizes = worked-sizes start view _ stripe
 
   pub stripe-held : Holds view (stripe_of view.config id.index) mode
   stripe-held =
@@ -87,7 +93,7 @@ module _ (id : Id) (mode : Mode) (start view : View) (rest : IsAtRest start) (st
 
   -- the load of the state word leaves the stripe
   pub stripe-loaded : (next : View) → KnowsMore view next → HasStripe id mode start next
-  stripe-loaded next more = calling-more start view next (Taken (stripe_of start.config id.index) mode ∷ []) Nothing [] stripe more
+  stripe-loaded next more = worked-more start view next _ stripe more
 
 -- ---- the turns
 
@@ -101,7 +107,7 @@ locking-begun id mode view next taking lock number same pass below rest still go
   rest = rest;
   stage = record {
     goes = subst (λ (l : ℕ). IsTaking (taking_of l mode) view taking next) same goes;
-    calling = subst (λ (v : View). IsCalling view v [] Nothing []) (sym still) (calling-begun view number pass rest);
+    calling = subst (λ (v : View). IsCalling view v [] Nothing []) (sym still) (worked-begun view number pass rest);
   };
 }
 
@@ -109,7 +115,9 @@ locking-begun id mode view next taking lock number same pass below rest still go
 pub stripe-taken : (id : Id) (mode : Mode) (start view next : View) → IsAtRest start → IsCalling start view [] Nothing [] → HasTaken (taking_of (stripe_of start.config id.index) mode) start next → MadeBy view next None
     → HasStripe id mode start next
 stripe-taken id mode start view next rest calling taken by = record {
-  adds = adds-none start view next [] (calling-role start view view [] Nothing [] calling) calling.adds by;
+  adds = adds-none start view next [] (worked-role start view _ calling) calling.adds by;
+  tells =
+      tells-alone start start next [] (Lock (stripe_of start.config id.index)) refl (tells-refl start calling.adds.number calling.adds.pass) taken.alone refl;
   doing = ap (λ (v : View). v.call.task) taken.left.rest ∙ rest.done;
   left =
       taken.left.rest
@@ -122,9 +130,11 @@ stripe-taken id mode start view next rest calling taken by = record {
 }
 
 -- a turn that takes nothing yet
-pub stripe-tried : (start view next : View) → IsAtRest start → IsCalling start view [] Nothing [] → Waited start next → MadeBy view next None → IsCalling start next [] Nothing []
-stripe-tried start view next rest calling waited by = record {
-  adds = adds-none start view next [] (calling-role start view view [] Nothing [] calling) calling.adds by;
+pub stripe-tried : (start view next : View) (lock : ℕ) → IsAtRest start → IsCalling start view [] Nothing [] → Waited start next → StoresAlone start next (Lock lock) → MadeBy view next None
+    → IsCalling start next [] Nothing []
+stripe-tried start view next lock rest calling waited alone by = record {
+  adds = adds-none start view next [] (worked-role start view _ calling) calling.adds by;
+  tells = tells-alone start start next [] (Lock lock) refl (tells-refl start calling.adds.number calling.adds.pass) alone refl;
   doing = ap (λ (v : View). v.call.task) waited.rest ∙ rest.done;
   left =
       waited.rest
@@ -143,7 +153,7 @@ module _ (operation : LockOp) (taking : TakeOp) (view next : View) (stage : oper
         mode = locking.mode;
         below = locking.below;
         rest = locking.rest;
-        stage = record { goes = goes; calling = stripe-tried start view next locking.rest at.calling goes.waited by };
+        stage = record { goes = goes; calling = stripe-tried start view next (stripe_of start.config first.id.index) locking.rest at.calling goes.waited goes.alone by };
       }
 
   pub take-done : ((first : TakeOp) (start : View) → IsTaking first start taking view → HasTaken first start next)
@@ -214,7 +224,7 @@ module _ (id : Id) (mode : Mode) (start view next : View) (rest : IsAtRest start
 
   pub other-gone : state ≢ live_state id.seq → FoundGone id mode start state next
   other-gone other =
-      let sizes : next.config ≡ start.config = calling-sizes start next next (Taken (stripe_of start.config id.index) mode ∷ []) Nothing [] after-load in
+      let sizes : next.config ≡ start.config = worked-sizes start next _ after-load in
       let gone : IsGoneAt next.config id state next.known =
       gone-now next loaded.now id (subst (λ (c : Config). id.index < c.bodies) (sym sizes) below) state loaded.word other
       in
@@ -228,12 +238,9 @@ pub gone-leaves : (id : Id) (mode : Mode) (start view next : View) (state found 
     → WasGone id start next state
 gone-leaves id mode start view next state found rest gone go =
     let stripe = stripe_of start.config id.index in
-    let steps : List LockStep = Taken stripe mode ∷ Released stripe ∷ [] in
-    let calling : IsCalling start next steps Nothing [] = let-go-calling view next stripe found go start (Taken stripe mode ∷ []) gone.calling in
     record {
       gone = point-later start view next (IsGoneAt start.config id state) (known-more _ _ view next (Lock stripe) go.0 0 found go.1) gone.gone;
-      adds = calling.adds;
-      rests = calling-rests start next steps rest calling (λ lock. none (eqb stripe lock));
+      done = worked-done start next _ (worked-released start view next _ gone.calling stripe found go refl) rest refl (λ lock. none (eqb stripe lock));
     }
   where
     none : (t : Bool) → cond t no_mode (cond t (Some mode) no_mode) ≡ no_mode
@@ -311,7 +318,7 @@ module _ (operation : LockOp) (view : View) (c : Config) (sizes : view.config �
   leave-answers : (next : View) (found : ℕ) → LetGo view (stripe_of c operation.id.index) found next → (first : LockOp) (start : View) → IsLocking first start operation view → WasGone first.id start next state
   leave-answers next found go first start locking =
       let gone = leaves-from first start locking in
-      let start_sizes : view.config ≡ start.config = calling-sizes start view view (Taken (stripe_of start.config first.id.index) first.mode ∷ []) Nothing [] gone.calling in
+      let start_sizes : view.config ≡ start.config = worked-sizes start view _ gone.calling in
       gone-leaves first.id first.mode start view next state found locking.rest gone
       (subst (λ (l : ℕ). LetGo view l found next) (λ i. stripe_of ((sym sizes ∙ start_sizes) i) (ap (λ (k : Id). k.index) locking.id i)) go)
 
@@ -351,3 +358,26 @@ write-locked operation first start view next number pass so locked =
       now = here.now;
       calling = here.calling;
     }
+
+-- ---- what both answers tell
+
+-- The call has added nothing and stored no word that is told, and all that the pass has beside its locks and its task is as
+-- it was
+pub record AddsNone (start next : View) : Type 0 where
+  pub adds : Adds start next []
+  pub tells : Tells start next []
+  pub keeps : belongings_of next ≡ belongings_of start
+
+held-adds_none : (start next : View) (steps : List LockStep) → IsCalling start next steps Nothing [] → AddsNone start next
+held-adds_none start next steps calling = record { adds = calling.adds; tells = calling.tells; keeps = worked-keeps start next _ calling }
+
+gone-adds_none : (id : Id) (start next : View) (state : ℕ) → WasGone id start next state → AddsNone start next
+gone-adds_none id start next state gone = record { adds = gone.done.adds; tells = gone.done.tells; keeps = done-keeps start next _ gone.done }
+
+pub read-adds_none : (id : Id) (start next : View) (answer : Result BodyRead Gone) → ReadAnswers id start next answer → AddsNone start next
+read-adds_none id start next (Ok guard) locked = held-adds_none start next _ locked.calling
+read-adds_none id start next (Err refused) gone = gone-adds_none id start next refused.state gone
+
+pub write-adds_none : (id : Id) (start next : View) (answer : Result BodyWrite Gone) → WriteAnswers id start next answer → AddsNone start next
+write-adds_none id start next (Ok guard) locked = held-adds_none start next _ locked.calling
+write-adds_none id start next (Err refused) gone = gone-adds_none id start next refused.state gone

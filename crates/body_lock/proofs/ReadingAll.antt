@@ -13,6 +13,7 @@ use Rattle.word_map.proofs.Stripes.{stripes-range}
 use Rattle.std.proofs.Math.Nat.{mod-lt}
 use Rattle.word_map.specs.Names.{stripe_of}
 use Rattle.core_state.specs.declared.view.Mode.{Mode}
+use Rattle.core_state.specs.declared.view.LockStep.{LockStep}
 use Rattle.core_state.specs.declared.view.Task.TheVariants.{Nothing}
 use Rattle.core_state.specs.declared.view.View.{View}
 use Rattle.core_state.specs.View.{Holds, IsPass, number_of, mode_of}
@@ -24,9 +25,7 @@ use Rattle.pass_table.specs.Stepping.{Stepped}
 use Rattle.pass_table.specs.Turning.{AtMostOneStep}
 use Rattle.pass_table.specs.Holding.{IsAtRest}
 use Rattle.pass_table.specs.Knowing.{KnowsMore}
-use Rattle.pass_table.specs.Calls.{IsCalling}
 use Rattle.pass_table.proofs.Turning.{one-step}
-use Rattle.pass_table.proofs.Calling.{calling-more, calling-sizes}
 use Rattle.body_lock.specs.declared.multi_guard.MultiEntry.{MultiEntry}
 use Rattle.body_lock.specs.declared.multi_guard.MultiEntry.TheVariants.{Reached, Gone}
 use Rattle.body_lock.specs.declared.multi_guard.LockedBody.{LockedBody}
@@ -38,13 +37,16 @@ use Rattle.body_lock.specs.declared.stripe_set.StripeSet.{StripeSet}
 use Rattle.arrayvec.specs.ArrayVec.{ArrayVec}
 use Rattle.pass_table.specs.Bodies.{IsGuarding, Loaded, IsGoneAt}
 use Rattle.pass_table.proofs.Bodies.{loaded-body, gone-now}
+use Rattle.pass_table.proofs.WorkLater.{worked-sizes, worked-more}
+use Rattle.pass_table.proofs.Working.{worked-begun}
+use Rattle.pass_table.specs.Work.{IsCalling}
 use Rattle.body_lock.specs.Stripes.{has_stripe, IsNext, HasNone, AreStripesOf, HoldsAll}
 use Rattle.body_lock.specs.Multi.{IsReachGood, IsEntryGood}
 use Rattle.body_lock.specs.Settled.{IsEntrySettled}
-use Rattle.body_lock.specs.LockingAll.{wanted_ids, body_ids, turns_of, multi_left, IsEntryRight, IsReachRight, HeldSince, ReadsStates, IsAtMulti, IsLockingAll, HasMultiLock, SaysEntry, MayLoadState, ReadsEntry, entries-later, held-later}
+use Rattle.body_lock.specs.LockingAll.{wanted_ids, body_ids, turns_of, multi_left, IsEntryRight, IsReachRight, takes_below, taken_to, HeldSince, ReadsStates, IsAtMulti, IsLockingAll, HasMultiLock, SaysEntry, MayLoadState, ReadsEntry, entries-later, held-later}
 use Rattle.body_lock.proofs.Guards.{holds-more}
+use Rattle.body_lock.proofs.TakingAll.{takes-none}
 use Rattle.body_lock.proofs.Settling.{entry-settled}
-use Rattle.pass_table.proofs.Calling.{calling-begun}
 
 -- ---- the beginning
 
@@ -91,8 +93,7 @@ all-begun wanted mode stripes bodies ids view next stripe number taking pass res
       };
       number = number;
       pass = pass;
-      steps = [];
-      calling = calling-begun view number pass rest;
+      calling = subst (λ (l : List LockStep). IsCalling view view l Nothing []) (sym (takes-none stripes.bits stripe mode first)) (worked-begun view number pass rest);
       stage = record {
         goes = subst (IsTaking (taking_of stripe mode) view taking) still goes;
         has = first.has;
@@ -138,7 +139,7 @@ module _ (operation : LockMultiOp) (view : View) (stage : operation.stage ≡ He
   holds-now = holds-more reading.held view first.stripes.bits first.mode reading.holds.since reading.holds.all
 
   sizes : view.config ≡ start.config
-  sizes = calling-sizes start view view locking.steps Nothing [] locking.calling
+  sizes = worked-sizes start view _ locking.calling
 
   -- the next body
   pub more-wanted : length operation.bodies.items < length operation.wanted.items
@@ -188,8 +189,8 @@ module _ (operation : LockMultiOp) (view : View) (stage : operation.stage ≡ He
     since : HeldSince first.stripes.bits first.mode start reading.held next
     since = held-later first.stripes.bits first.mode start reading.held view next more reading.holds
 
-    pub next-calling : IsCalling start next locking.steps Nothing []
-    next-calling = calling-more start view next locking.steps Nothing [] locking.calling more
+    pub next-calling : IsCalling start next (takes_below first.stripes.bits first.mode (taken_to operation.stage)) Nothing []
+    next-calling = worked-more start view next _ locking.calling more
 
     right : (entry : MultiEntry) → SaysEntry wanted.seq found.state entry → IsReachRight locking.number first.mode reading.held next wanted entry
     right Reached says = record {
@@ -245,7 +246,6 @@ module _ (operation : LockMultiOp) (view : View) (stage : operation.stage ≡ He
       begun = locking.begun;
       number = locking.number;
       pass = locking.pass;
-      steps = locking.steps;
       calling = next-calling;
       stage =
           subst (λ (s : MultiStage). IsAtMulti locking.number first.stripes.bits first.mode first.wanted.items bodies.items start s next) (sym stage)
@@ -290,8 +290,7 @@ module _ (operation : LockMultiOp) (view : View) (stage : operation.stage ≡ He
               (λ b. entry-settled start reading.held next since.reached found.loaded.now (same_sizes ∙ sizes) held_sizes (since.since.since, since.since.known) locking.number first.mode b)
               bodies.items (all-right bodies.items is);
           now = found.loaded.now;
-          steps = locking.steps;
-          calling = next-calling;
+          calling = subst (λ (s : MultiStage). IsCalling start next (takes_below first.stripes.bits first.mode (taken_to s)) Nothing []) stage next-calling;
         } in
         subst (λ (m : Mode). HasMultiLock first start next (record { number = number; mode = m; stripes = operation.stripes; bodies = bodies })) (sym locking.mode)
         (subst (λ (s : StripeSet). HasMultiLock first start next (record { number = number; mode = first.mode; stripes = s; bodies = bodies })) (sym locking.stripes) good)

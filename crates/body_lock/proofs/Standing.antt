@@ -1,5 +1,5 @@
 -- A guarded body and the guards of it: while others act, and when the pass gives it another user number.
-use Rattle.std.proofs.Common.{◌≡◌, ℕ, ◌<◌, List, [], ◌∷◌, Some, None, refl, ap, sym, ◌∙◌, subst}
+use Rattle.std.proofs.Common.{◌≡◌, ℕ, ◌<◌, List, [], ◌∷◌, ◌++◌, Some, None, append_assoc, refl, ap, sym, ◌∙◌, subst}
 use Rattle.std.proofs.lemmas.Option.{same_Some}
 use Rattle.body_ident.specs.Id.{Id}
 use Rattle.word_map.specs.declared.config.Config.{Config}
@@ -13,7 +13,8 @@ use Rattle.core_state.specs.declared.view.Mode.{Mode}
 use Rattle.core_state.specs.declared.view.View.{View}
 use Rattle.core_state.specs.View.{IsPass, mode_of, number_of}
 use Rattle.core_state.specs.Lives.{IsOfBody, MayLoadBody, under_stripe, MaySetUser, set_user}
-use Rattle.pass_table.specs.Knowing.{KnowsMore}
+use Rattle.core_state.proofs.Quiet.{in_first, in_second, append_cut, one_cut}
+use Rattle.pass_table.specs.Knowing.{KnowsMore, StoresAlone}
 use Rattle.pass_table.specs.Stepping.{Stepped}
 use Rattle.pass_table.specs.Calls.{Adds, Advances}
 use Rattle.pass_table.proofs.Turning.{made-entry}
@@ -22,6 +23,10 @@ use Rattle.body_lock.specs.Guarding.{IsAlone}
 use Rattle.pass_table.specs.Bodies.{IsGuarding}
 use Rattle.pass_table.proofs.LockedBodies.{live-steady, guarding-more}
 use Rattle.pass_table.proofs.Bodies.{stepped-current}
+use Rattle.pass_table.proofs.WorkLater.{tells-alone, tells-more}
+use Rattle.pass_table.proofs.Working.{tells-refl}
+use Rattle.pass_table.specs.Work.{Tells}
+use Rattle.pass_table.specs.Belongings.{belongings_of}
 use Rattle.body_lock.specs.Seeing.{user_item, HasSetUser}
 
 module _ (number : ℕ) (id : Id) (mode : Mode) (view : View) (guarding : IsGuarding number id mode view) where
@@ -29,9 +34,16 @@ module _ (number : ℕ) (id : Id) (mode : Mode) (view : View) (guarding : IsGuar
   pub guarding-adds : (next : View) → KnowsMore view next → Adds view next []
   guarding-adds next more = adds-more view view next [] refl (Adds-refl view number guarding.pass) more
 
+  pub guarding-tells : (next : View) → KnowsMore view next → Tells view next []
+  guarding-tells next more = tells-more view view next [] refl (tells-refl view number guarding.pass) more
+
   -- a word of the body may be loaded
   pub may-load : (name : Name) → IsOfBody id.index name → MayLoadBody view name 0 0
   may-load name of_body = under_stripe id.index mode of_body guarding.stripe
+
+-- and all that the pass has beside its locks and its task is as it was
+pub more-keeps : (view next : View) → KnowsMore view next → belongings_of next ≡ belongings_of view
+more-keeps view next more = ap belongings_of more.rest
 
 pub alone-more : (number : ℕ) (id : Id) (mode : Mode) (view next : View) → IsAlone number id mode view → KnowsMore view next → IsAlone number id mode next
 alone-more number id mode view next alone more = record {
@@ -79,6 +91,26 @@ module _ (number : ℕ) (id : Id) (mode : Mode) (view next : View) (pass index u
   -- and the pass has added the new number
   pub user-adds : Adds view next (SetUser index user ∷ [])
   user-adds = adds-made view view next [] (Some (record { pass = pass; entry = SetUser index user })) refl (Adds-refl view number old.pass) set.made
+
+  -- it has stored that word alone
+  user-stored : StoresAlone view next (User index)
+  user-stored =
+      let stored = set.stored in
+      record {
+        since = stored.since ++ user_item pass index user ∷ [];
+        known = stored.known ∙ append_assoc view.known stored.since (user_item pass index user ∷ []);
+        own = λ early later item parts mine.
+            elim (append_cut stored.since (user_item pass index user ∷ []) early later item parts) [
+              | in_first rest p ↦ absurd ((stored.others early rest item p).foreign mine)
+              | in_second front p q ↦ ap (λ (it : Item). it.name) (one_cut (user_item pass index user) item front later q)
+            ];
+      }
+
+  pub user-tells : Tells view next []
+  user-tells = tells-alone view view next [] (User index) refl (tells-refl view number old.pass) user-stored refl
+
+pub user-keeps : (view next : View) (pass index user : ℕ) → HasSetUser view next pass index user → belongings_of next ≡ belongings_of view
+user-keeps view next pass index user set = ap belongings_of set.rest
 
 pub user-alone : (number : ℕ) (id : Id) (view next : View) (user : ℕ) → IsAlone number id Write view → HasSetUser view next number id.index user → IsAlone number id Write next
 user-alone number id view next user alone set = record {

@@ -11,11 +11,12 @@ use Rattle.core_state.specs.declared.view.View.{View}
 use Rattle.core_state.specs.View.{mode_of, IsPass}
 use Rattle.word_map.specs.declared.config.Config.{Config}
 use Rattle.pass_table.specs.Holding.{MayLetGo, LetGo}
-use Rattle.pass_table.specs.Calls.{IsCalling, RestsAgain}
 use Rattle.pass_table.proofs.LockSets.{put-bit}
 use Rattle.pass_table.proofs.Calling.{Adds-refl}
+use Rattle.pass_table.proofs.Working.{worked-released, tells-refl}
+use Rattle.pass_table.specs.Work.{IsCalling, HasDone, idle}
 use Rattle.body_lock.specs.Stripes.{has_stripe, HasNone, TakesFirst, HoldsAll}
-use Rattle.body_lock.proofs.Letting.{let-go-mode, let-go-view, let-go-calling}
+use Rattle.body_lock.proofs.Letting.{let-go-mode, let-go-view}
 use Rattle.std.proofs.lemmas.List.{append-nil}
 
 -- ---- bits
@@ -44,7 +45,7 @@ pub release-begun : (view : View) (bits number : ℕ) (mode : Mode) → IsPass v
     → HasReleased view view bits mode
 release-begun view bits number mode pass holds within done = record {
   steps = [];
-  calling = record { adds = Adds-refl view number pass; doing = done; left = λ i. record view { locks = sym (append-nil view.locks) i } };
+  calling = record { adds = Adds-refl view number pass; tells = tells-refl view number pass; doing = done; left = λ i. record view { locks = sym (append-nil view.locks) i } };
   holds = holds;
   within = within;
 }
@@ -74,7 +75,7 @@ module _ (start view next : View) (bits rest stripe : ℕ) (mode : Mode) (takes 
       in
       record {
         steps = released.steps ++ Released stripe ∷ [];
-        calling = let-go-calling view next stripe found go start released.steps released.calling;
+        calling = worked-released start view next _ released.calling stripe found go refl;
         holds = record {
           held = λ lock has. elim (cases_eq stripe lock) [
             | inl same ↦ absurd (false≢true (sym (taken lock same) ∙ has))
@@ -88,9 +89,11 @@ module _ (start view next : View) (bits rest stripe : ℕ) (mode : Mode) (takes 
         within = λ lock has. subst (λ (c : Config). lock < c.stripes) (sym (ap (λ (v : View). v.config) (let-go-view view next stripe found go))) (released.within lock (had lock has));
       }
 
--- when none is left the pass is at rest
-pub release-ends : (start next : View) (bits : ℕ) (mode : Mode) → HasNone bits 0 → HasReleased start next bits mode → RestsAgain start next
+-- when none is left the pass is at rest, and has what it had
+pub release-ends : (start next : View) (bits : ℕ) (mode : Mode) → HasNone bits 0 → HasReleased start next bits mode → HasDone start next (idle start)
 release-ends start next bits mode none released = record {
+  adds = released.calling.adds;
+  tells = released.calling.tells;
   rest = record { free = λ lock. released.holds.others lock (none lock (omega arith)); done = released.calling.doing };
   left =
       released.calling.left

@@ -1,13 +1,15 @@
 -- The turns of locking several bodies.
-use Rattle.std.proofs.Common.{◌≡◌, ◌≢◌, inl, inr, ℕ, suc, ◌+◌, ◌-◌, ◌*◌, ◌<◌, ◌≤◌, List, [], ◌∷◌, ◌++◌, length, take, Bool, true, false, eqb, cond, Option, Some, None, refl, ap, sym, ◌∙◌, subst, arith}
-use Rattle.std.specs.Prelude.{All}
+use Rattle.std.proofs.Common.{◌≡◌, ◌≢◌, inl, inr, ℕ, zero, suc, ◌+◌, ◌-◌, ◌*◌, ◌<◌, ◌≤◌, List, [], ◌∷◌, ◌++◌, length, take, Bool, true, false, eqb, cond, Option, Some, None, refl, ap, sym, ◌∙◌, subst, arith}
+use Rattle.std.specs.Prelude.{All, map}
 use Rattle.std.proofs.lemmas.Bool.{cases_eq, cases_lt, eq-eqb, ne_eqb, false≢true}
+use Rattle.std.proofs.lemmas.List.{append-nil, map-append}
 use Rattle.std.proofs.lemmas.List.Elements.{All-nil, Contains-append_left, Contains-push, Contains-push_cases}
 use Rattle.std.proofs.lemmas.List.Sums.{fold-append}
 use Rattle.body_ident.specs.Id.{Id}
 use Rattle.word_map.specs.declared.config.Config.{Config}
 use Rattle.word_map.specs.Names.{stripe_of}
 use Rattle.core_state.specs.declared.view.Mode.{Mode}
+use Rattle.core_state.specs.declared.view.LockStep.{LockStep}
 use Rattle.core_state.specs.declared.view.LockStep.TheVariants.{Taken}
 use Rattle.core_state.specs.declared.view.Task.TheVariants.{Nothing}
 use Rattle.core_state.specs.declared.view.View.{View}
@@ -18,18 +20,19 @@ use Rattle.pass_table.specs.TakeTurns.{taking_of, IsTaking, HasTaken, turns_afte
 use Rattle.pass_table.specs.Trying.{Leaves, with_taken}
 use Rattle.pass_table.specs.Turning.{IsUnderWay, Turned, LostLock, IsHeldUp, AtMostOneStep, MadeBy}
 use Rattle.pass_table.specs.declared.turn.Turn.TheVariants.{More, Again}
-use Rattle.pass_table.specs.Calls.{IsCalling}
 use Rattle.pass_table.proofs.TakingTurns.{taking-anew}
-use Rattle.pass_table.proofs.Calling.{some-left, calling-made, calling-on}
+use Rattle.pass_table.proofs.Calling.{some-left}
 use Rattle.pass_table.proofs.Between.{more-refl}
+use Rattle.pass_table.proofs.Working.{worked-taken, worked-waited}
+use Rattle.pass_table.specs.Work.{IsCalling}
 use Rattle.body_lock.specs.declared.multi_guard.LockedBody.{LockedBody}
 use Rattle.body_lock.specs.declared.multi_op.Wanted.{Wanted}
 use Rattle.body_lock.specs.declared.multi_op.MultiStage.{MultiStage}
 use Rattle.body_lock.specs.declared.multi_op.MultiStage.TheVariants.{Taking, Held}
 use Rattle.body_lock.specs.declared.multi_op.LockMultiOp.{LockMultiOp}
 use Rattle.body_lock.specs.declared.stripe_set.StripeSet.{StripeSet}
-use Rattle.body_lock.specs.Stripes.{has_stripe, IsNext, HasNone, AreStripesOf, HoldsBelow, HoldsAll}
-use Rattle.body_lock.specs.LockingAll.{wanted_ids, body_ids, turns_of, multi_left, IsEntryRight, TakesNext, IsAtMulti, IsLockingAll, IsMultiTurn, ComesAfter}
+use Rattle.body_lock.specs.Stripes.{has_stripe, stripes_below, IsNext, HasNone, AreStripesOf, HoldsBelow, HoldsAll}
+use Rattle.body_lock.specs.LockingAll.{wanted_ids, body_ids, turns_of, multi_left, IsEntryRight, takes_below, taken_to, TakesNext, IsAtMulti, IsLockingAll, IsMultiTurn, ComesAfter}
 
 -- ---- the stripes of ids
 
@@ -102,6 +105,37 @@ holds-whole view bits mode from holds none = record {
   others = holds.others;
 }
 
+-- ---- the steps on them
+
+-- from a stripe up to one below which there are none, the list stays
+below-raised : (bits from end : ℕ) → from ≤ end → ((other : ℕ) → from ≤ other → other < end → has_stripe bits other ≡ false) → stripes_below bits end ≡ stripes_below bits from
+unfolding stripes_below
+below-raised bits from zero least none = let same : 0 ≡ from = omega arith in ap (stripes_below bits) same
+below-raised bits from (suc end) least none =
+    elim (cases_lt from (suc end)) [
+      | inl low ↦
+          ap (λ (t : Bool). stripes_below bits end ++ cond t (end ∷ []) []) (none end (omega arith) (omega arith))
+          ∙ (append-nil (stripes_below bits end) ∙ below-raised bits from end (omega arith) (λ other above below. none other above (omega arith)))
+      | inr high ↦ let same : suc end ≡ from = omega arith in ap (stripes_below bits) same
+    ]
+
+-- none is taken below the first one
+pub takes-none : (bits stripe : ℕ) (mode : Mode) → IsNext bits 0 stripe → takes_below bits mode stripe ≡ []
+unfolding stripes_below
+takes-none bits stripe mode next = ap (map (λ (s : ℕ). Taken s mode)) (below-raised bits 0 stripe next.above next.first)
+
+-- one more is
+takes-one : (bits stripe : ℕ) (mode : Mode) → has_stripe bits stripe ≡ true → takes_below bits mode (suc stripe) ≡ takes_below bits mode stripe ++ Taken stripe mode ∷ []
+unfolding stripes_below
+takes-one bits stripe mode has =
+    ap (λ (t : Bool). map (λ (s : ℕ). Taken s mode) (stripes_below bits stripe ++ cond t (stripe ∷ []) [])) has
+    ∙ map-append (λ (s : ℕ). Taken s mode) (stripes_below bits stripe) (stripe ∷ [])
+
+-- up to the next one, or all
+takes-after : (bits from : ℕ) (mode : Mode) (next : View) (after : MultiStage) → from ≤ 64 → ComesAfter bits mode from next after → takes_below bits mode from ≡ takes_below bits mode (taken_to after)
+takes-after bits from mode next (Taking s t) low comes = ap (map (λ (k : ℕ). Taken k mode)) (sym (below-raised bits from s comes.0.above comes.0.first))
+takes-after bits from mode next Held low comes = ap (map (λ (k : ℕ). Taken k mode)) (sym (below-raised bits from 64 low (λ other above below. comes other above)))
+
 -- ---- the turns that take stripes
 
 -- a lock takes two turns at most
@@ -113,6 +147,9 @@ module _ (operation : LockMultiOp) (stripe : ℕ) (taking : TakeOp) (view next :
   at-taking : (first : LockMultiOp) (start : View) → IsLockingAll first start operation view → TakesNext first.stripes.bits first.mode operation.bodies.items stripe taking view
   at-taking first start locking =
       subst (λ (s : MultiStage). IsAtMulti locking.number first.stripes.bits first.mode first.wanted.items operation.bodies.items start s view) stage locking.stage
+
+  taken-so-far : (first : LockMultiOp) (start : View) → IsLockingAll first start operation view → IsCalling start view (takes_below first.stripes.bits first.mode stripe) Nothing []
+  taken-so-far first start locking = subst (λ (s : MultiStage). IsCalling start view (takes_below first.stripes.bits first.mode (taken_to s)) Nothing []) stage locking.calling
 
   -- a turn that takes nothing yet
   pub all-keeps : (after : TakeOp) → ((first : TakeOp) (start : View) → IsTaking first start taking view → IsTaking first start after next)
@@ -128,11 +165,7 @@ module _ (operation : LockMultiOp) (stripe : ℕ) (taking : TakeOp) (view next :
         begun = locking.begun;
         number = locking.number;
         pass = locking.pass;
-        steps = locking.steps;
-        calling =
-            calling-on start view next locking.steps Nothing [] locking.calling Nothing by
-            (goes.waited.rest ∙ (λ i. record view { known = next.known; joined = next.joined; call = sym (ap (λ (v : View). v.call) goes.waited.rest) i }))
-            (ap (λ (v : View). v.call.task) goes.waited.rest ∙ locking.calling.doing);
+        calling = worked-waited start view next _ (taken-so-far first start locking) stripe goes.waited by goes.alone;
         stage = record {
           goes = taking-anew (taking_of stripe first.mode) view after next goes;
           has = at.has;
@@ -179,19 +212,13 @@ module _ (operation : LockMultiOp) (stripe : ℕ) (taking : TakeOp) (view next :
   all-done answers after last same comes first start locking =
       let at = at-taking first start locking in
       let taken = answers (taking_of stripe first.mode) view at.goes in
-      let calling : IsCalling start next (locking.steps ++ Taken stripe first.mode ∷ []) Nothing [] =
-      calling-made start view next locking.steps Nothing [] locking.calling None (Taken stripe first.mode ∷ []) Nothing by
-      (taken.left.rest
-      ∙ (λ i. record view {
-        known = next.known;
-        joined = sym (ap (λ (v : View). v.joined) taken.left.rest) i;
-        locks = with_taken view stripe first.mode;
-        call = sym (ap (λ (v : View). v.call) taken.left.rest) i;
-      }))
-      (ap (λ (v : View). v.call.task) taken.left.rest ∙ locking.calling.doing)
-      in
       let comes_first : ComesAfter first.stripes.bits first.mode (suc stripe) next after =
       subst (λ (s : StripeSet). ComesAfter s.bits first.mode (suc stripe) next after) locking.stripes (subst (λ (m : Mode). ComesAfter operation.stripes.bits m (suc stripe) next after) locking.mode comes)
+      in
+      let calling : IsCalling start next (takes_below first.stripes.bits first.mode (taken_to after)) Nothing [] =
+      subst (λ (l : List LockStep). IsCalling start next l Nothing [])
+      (sym (takes-one first.stripes.bits stripe first.mode at.has) ∙ takes-after first.stripes.bits (suc stripe) first.mode next after at.low comes_first)
+      (worked-taken start view next _ (taken-so-far first start locking) stripe first.mode taken by)
       in
       subst (IsLockingAll first start (record operation { stage = after })) (sym same)
       (record {
@@ -201,7 +228,6 @@ module _ (operation : LockMultiOp) (stripe : ℕ) (taking : TakeOp) (view next :
         begun = locking.begun;
         number = locking.number;
         pass = locking.pass;
-        steps = locking.steps ++ Taken stripe first.mode ∷ [];
         calling = calling;
         stage =
             stage-after locking.number first.stripes.bits first.mode first.wanted.items operation.bodies.items start after (ap (λ (v : View). v.joined) taken.left.rest)

@@ -14,8 +14,10 @@ use Rattle.pass_table.specs.declared.take_op.TakeOp.{TakeOp}
 use Rattle.pass_table.specs.TakeTurns.{taking_of, IsTaking, turns_left, taking-later}
 use Rattle.pass_table.specs.Knowing.{KnowsMore}
 use Rattle.pass_table.specs.Holding.{IsAtRest}
-use Rattle.pass_table.specs.Calls.{Adds, AtPoint, IsCalling, RestsAgain, IsTurn}
-use Rattle.pass_table.proofs.Calling.{calling-more, point-later}
+use Rattle.pass_table.specs.Calls.{AtPoint, IsTurn}
+use Rattle.pass_table.specs.Work.{IsCalling, HasDone, idle}
+use Rattle.pass_table.proofs.Calling.{point-later}
+use Rattle.pass_table.proofs.WorkLater.{worked-more}
 use Rattle.body_lock.specs.declared.gone.Gone.{Gone}
 use Rattle.body_lock.specs.declared.lock_op.LockOp.{LockOp}
 use Rattle.body_lock.specs.declared.lock_op.LockStage.{LockStage}
@@ -79,8 +81,7 @@ pub record HasLocked (id : Id) (mode : Mode) (start next : View) : Type 0 where
 -- it was gone at a point: the pass is at rest again, and has added nothing
 pub record WasGone (id : Id) (start next : View) (state : ℕ) : Type 0 where
   pub gone : AtPoint start next (IsGoneAt start.config id state)
-  pub adds : Adds start next []
-  pub rests : RestsAgain start next
+  pub done : HasDone start next (idle start)
 
 -- the guards that are then handed out
 pub record HasReadLock (id : Id) (start next : View) (guard : BodyRead) : Type 0 where
@@ -116,11 +117,11 @@ IsLockTurn turn before after view next =
 stage-later : (id : Id) (mode : Mode) (start : View) (stage : LockStage) (view next : View) → KnowsMore view next → IsAtStage id mode start stage view → IsAtStage id mode start stage next
 stage-later id mode start (Taking taking) view next more at = record {
   goes = taking-later (taking_of (stripe_of start.config id.index) mode) start taking view next more at.goes;
-  calling = calling-more start view next [] Nothing [] at.calling more;
+  calling = worked-more start view next _ at.calling more;
 }
-stage-later id mode start Held view next more at = calling-more start view next (Taken (stripe_of start.config id.index) mode ∷ []) Nothing [] at more
+stage-later id mode start Held view next more at = worked-more start view next _ at more
 stage-later id mode start (Leaving state) view next more at = record {
-  calling = calling-more start view next (Taken (stripe_of start.config id.index) mode ∷ []) Nothing [] at.calling more;
+  calling = worked-more start view next _ at.calling more;
   gone = point-later start view next (IsGoneAt start.config id state) (more.since, more.known) at.gone;
 }
 

@@ -3,6 +3,7 @@ use Rattle.std.specs.Prelude.{◌≡◌, ◌≢◌, ℕ, ◌+◌, ◌-◌, ◌*�
 use Rattle.body_ident.specs.Id.{Id}
 use Rattle.core_state.specs.declared.view.Mode.{Mode}
 use Rattle.core_state.specs.declared.view.LockStep.{LockStep}
+use Rattle.core_state.specs.declared.view.LockStep.TheVariants.{Taken}
 use Rattle.core_state.specs.declared.view.Task.TheVariants.{Nothing}
 use Rattle.core_state.specs.declared.view.View.{View}
 use Rattle.core_state.specs.Log.{IsPrefix}
@@ -12,12 +13,14 @@ use Rattle.pass_table.specs.declared.take_op.TakeOp.{TakeOp}
 use Rattle.pass_table.specs.TakeTurns.{taking_of, IsTaking, turns_left}
 use Rattle.pass_table.specs.Knowing.{KnowsMore}
 use Rattle.pass_table.specs.Holding.{IsAtRest}
-use Rattle.pass_table.specs.Calls.{AtPoint, IsCalling, IsTurn}
+use Rattle.pass_table.specs.Calls.{AtPoint, IsTurn}
+use Rattle.pass_table.specs.Work.{IsCalling}
 use Rattle.std.proofs.Common.{ap, ◌∙◌}
 use Rattle.std.proofs.lemmas.List.Elements.{All-weaker}
 use Rattle.pass_table.specs.TakeTurns.{taking-later}
 use Rattle.pass_table.proofs.TakingTurns.{taking-anew}
-use Rattle.pass_table.proofs.Calling.{calling-more, point-later}
+use Rattle.pass_table.proofs.Calling.{point-later}
+use Rattle.pass_table.proofs.WorkLater.{worked-more}
 use Rattle.pass_table.proofs.Between.{more-trans}
 use Rattle.pass_table.proofs.LockedBodies.{guarding-more}
 use Rattle.pass_table.specs.Bodies.{live_state, IsGuarding, IsCurrent, Loaded, IsGoneAt}
@@ -32,7 +35,7 @@ use Rattle.body_lock.specs.declared.multi_op.Wanted.{Wanted}
 use Rattle.body_lock.specs.declared.multi_op.MultiStage.{MultiStage}
 use Rattle.body_lock.specs.declared.multi_op.MultiStage.TheVariants.{Taking, Held}
 use Rattle.body_lock.specs.declared.multi_op.LockMultiOp.{LockMultiOp}
-use Rattle.body_lock.specs.Stripes.{has_stripe, IsNext, HasNone, AreStripesOf, HoldsBelow, HoldsAll}
+use Rattle.body_lock.specs.Stripes.{has_stripe, stripes_below, IsNext, HasNone, AreStripesOf, HoldsBelow, HoldsAll}
 use Rattle.body_lock.specs.Multi.{IsMultiGood}
 use Rattle.body_lock.specs.Settled.{IsEntrySettled}
 
@@ -85,6 +88,15 @@ abbrev pub IsAtMulti : ℕ → ℕ → Mode → List Wanted → List LockedBody 
 IsAtMulti number bits mode wanted bodies start (Taking stripe taking) view = TakesNext bits mode bodies stripe taking view
 IsAtMulti number bits mode wanted bodies start Held view = ReadsStates number bits mode wanted bodies start view
 
+-- the steps that take the stripes of the set below this one: each once, ascending
+abbrev pub takes_below : ℕ → Mode → ℕ → List LockStep
+takes_below bits mode end = map (λ stripe. Taken stripe mode) (stripes_below bits end)
+
+-- the stripes of the set below this one are taken
+abbrev pub taken_to : MultiStage → ℕ
+taken_to (Taking stripe taking) = stripe
+taken_to Held = 64
+
 -- the pass was at rest, and the bodies are those of the world
 pub record IsWanted (first : LockMultiOp) (start : View) : Type 0 where
   pub some : 0 < length first.wanted.items
@@ -102,12 +114,12 @@ pub record IsLockingAll (first : LockMultiOp) (start : View) (operation : LockMu
   pub begun : IsWanted first start
   pub number : ℕ
   pub pass : IsPass start number
-  pub steps : List LockStep
-  pub calling : IsCalling start view steps Nothing []
+  pub calling : IsCalling start view (takes_below first.stripes.bits first.mode (taken_to operation.stage)) Nothing []
   pub stage : IsAtMulti number first.stripes.bits first.mode first.wanted.items operation.bodies.items start operation.stage view
 
--- All bodies are locked: their stripes were all held at one point, each once, and are since; what was found of each body
--- is right; at one point, that at which the call ends, it is so of all of them; and the pass has added nothing
+-- All bodies are locked: their stripes were taken in ascending order, each once, were all held at one point and are since;
+-- what was found of each body is right; at one point, that at which the call ends, it is so of all of them; and the pass has
+-- added nothing
 pub record HasMultiLock (first : LockMultiOp) (start next : View) (guard : MultiGuard) : Type 0 where
   pub good : IsMultiGood guard next
   pub mode : guard.mode ≡ first.mode
@@ -118,8 +130,7 @@ pub record HasMultiLock (first : LockMultiOp) (start next : View) (guard : Multi
   pub each : All (IsEntryRight guard.number guard.mode held next) guard.bodies.items
   pub settled : All (IsEntrySettled start.config start.known next.known) guard.bodies.items
   pub now : IsCurrent next
-  pub steps : List LockStep
-  pub calling : IsCalling start next steps Nothing []
+  pub calling : IsCalling start next (takes_below guard.stripes.bits guard.mode 64) Nothing []
 
 -- what a turn of it owes
 abbrev pub IsMultiTurn : Turn MultiGuard → LockMultiOp → LockMultiOp → View → View → Type 0
@@ -197,7 +208,6 @@ locking_all-later first start operation view next more locking = record {
   begun = locking.begun;
   number = locking.number;
   pass = locking.pass;
-  steps = locking.steps;
-  calling = calling-more start view next locking.steps Nothing [] locking.calling more;
+  calling = worked-more start view next _ locking.calling more;
   stage = multi-later locking.number first.stripes.bits first.mode first.wanted.items operation.bodies.items start operation.stage view next more locking.stage;
 }

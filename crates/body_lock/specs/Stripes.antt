@@ -1,5 +1,5 @@
 -- Sets of stripes as bits, and the locks of a pass that holds the stripes of a set.
-use Rattle.std.specs.Prelude.{◌≡◌, ℕ, ◌<◌, ◌≤◌, ◌==◌, Bool, true, false, if◌then◌else◌, List, Contains}
+use Rattle.std.specs.Prelude.{◌≡◌, ℕ, zero, suc, ◌<◌, ◌≤◌, ◌==◌, Bool, true, false, if◌then◌else◌, List, [], ◌∷◌, ◌++◌, Contains}
 use Rattle.std.specs.Int.{bit_at}
 use Rattle.body_ident.specs.Id.{Id}
 use Rattle.word_map.specs.declared.config.Config.{Config}
@@ -28,6 +28,11 @@ pub record TakesFirst (bits rest stripe : ℕ) : Type 0 where
   pub first : IsNext bits 0 stripe
   pub less : rest < bits
   pub left : (other : ℕ) → has_stripe rest other ≡ if stripe == other then false else has_stripe bits other
+
+-- the stripes of the set below this one: each once, ascending
+unfoldable pub stripes_below : ℕ → ℕ → List ℕ
+stripes_below bits zero = []
+stripes_below bits (suc end) = stripes_below bits end ++ (if has_stripe bits end then end ∷ [] else [])
 
 -- the set has the stripes of these ids, and no others
 pub record AreStripesOf (c : Config) (ids : List Id) (bits : ℕ) : Type 0 where

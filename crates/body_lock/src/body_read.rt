@@ -1,7 +1,9 @@
 //! The guard of a body that is locked to read.
 ghost use Rattle.std.specs.Prelude.{◌≡◌, []};
 ghost use Rattle.pass_table.specs.Knowing.{KnowsMore};
-ghost use Rattle.pass_table.specs.Calls.{Adds, AtPoint, RestsAgain};
+ghost use Rattle.pass_table.specs.Calls.{Adds, AtPoint};
+ghost use Rattle.pass_table.specs.Work.{Tells};
+ghost use Rattle.pass_table.specs.Belongings.{belongings_of};
 ghost use Rattle.pass_table.specs.Passes.{view_of, IsOf, IsIdle};
 ghost use Rattle.body_lock.specs.Guarding.{IsReading};
 ghost use Rattle.pass_table.specs.Bodies.{IsCurrent};
@@ -42,6 +44,8 @@ impl BodyRead {
         ensures more { KnowsMore (view_of pass.old) (view_of pass.new) }
         ensures stays { BodyStays self.now.id.index (view_of pass.old) (view_of pass.new) }
         ensures adds { Adds (view_of pass.old) (view_of pass.new) [] }
+        ensures tells { Tells (view_of pass.old) (view_of pass.new) [] }
+        ensures keeps { belongings_of (view_of pass.new) ≡ belongings_of (view_of pass.old) }
         ensures seen { AtPoint (view_of pass.old) (view_of pass.new) (IsSeenAt (view_of pass.old).config (view_of pass.old).known self.now.id result) }
     {
         read_body(world, pass, self.id)
@@ -53,7 +57,8 @@ impl BodyRead {
         requires good { IsReading self (view_of pass.old) }
         ensures idle { IsIdle world.now pass.new }
         ensures adds { Adds (view_of pass.old) (view_of pass.new) [] }
-        ensures rests { RestsAgain (view_of pass.old) (view_of pass.new) }
+        ensures tells { Tells (view_of pass.old) (view_of pass.new) [] }
+        ensures keeps { belongings_of (view_of pass.new) ≡ belongings_of (view_of pass.old) }
     {
         let BodyRead {
             number: _number,

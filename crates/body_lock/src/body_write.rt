@@ -2,7 +2,9 @@
 ghost use Rattle.std.specs.Prelude.{◌≡◌, [], ◌∷◌};
 ghost use Rattle.scene_model.specs.declared.entry.Entry.TheVariants.{SetUser};
 ghost use Rattle.pass_table.specs.Knowing.{KnowsMore};
-ghost use Rattle.pass_table.specs.Calls.{Adds, AtPoint, RestsAgain};
+ghost use Rattle.pass_table.specs.Calls.{Adds, AtPoint};
+ghost use Rattle.pass_table.specs.Work.{Tells};
+ghost use Rattle.pass_table.specs.Belongings.{belongings_of};
 ghost use Rattle.pass_table.specs.Passes.{view_of, IsOf, IsIdle};
 ghost use Rattle.body_lock.specs.Guarding.{IsWriting};
 ghost use Rattle.pass_table.specs.Bodies.{IsCurrent};
@@ -43,6 +45,8 @@ impl BodyWrite {
         ensures more { KnowsMore (view_of pass.old) (view_of pass.new) }
         ensures stays { BodyStays self.now.id.index (view_of pass.old) (view_of pass.new) }
         ensures adds { Adds (view_of pass.old) (view_of pass.new) [] }
+        ensures tells { Tells (view_of pass.old) (view_of pass.new) [] }
+        ensures keeps { belongings_of (view_of pass.new) ≡ belongings_of (view_of pass.old) }
         ensures seen { AtPoint (view_of pass.old) (view_of pass.new) (IsSeenAt (view_of pass.old).config (view_of pass.old).known self.now.id result) }
     {
         read_body(world, pass, self.id)
@@ -56,6 +60,8 @@ impl BodyWrite {
         ensures of { IsOf world.now pass.new }
         ensures good { IsWriting self.new (view_of pass.new) }
         ensures adds { Adds (view_of pass.old) (view_of pass.new) (SetUser self.old.id.index user ∷ []) }
+        ensures tells { Tells (view_of pass.old) (view_of pass.new) [] }
+        ensures keeps { belongings_of (view_of pass.new) ≡ belongings_of (view_of pass.old) }
         ensures set { HasSetUser (view_of pass.old) (view_of pass.new) self.old.number self.old.id.index user }
     {
         store_user(world, pass, self.id, user);
@@ -67,7 +73,8 @@ impl BodyWrite {
         requires good { IsWriting self (view_of pass.old) }
         ensures idle { IsIdle world.now pass.new }
         ensures adds { Adds (view_of pass.old) (view_of pass.new) [] }
-        ensures rests { RestsAgain (view_of pass.old) (view_of pass.new) }
+        ensures tells { Tells (view_of pass.old) (view_of pass.new) [] }
+        ensures keeps { belongings_of (view_of pass.new) ≡ belongings_of (view_of pass.old) }
     {
         let BodyWrite {
             number: _number,

@@ -1,6 +1,9 @@
 //! Locking a body in one call.
-ghost use Rattle.std.specs.Prelude.{◌≡◌, ◌<◌, ◌≤◌, false, length, All, OnErr};
+ghost use Rattle.std.specs.Prelude.{◌≡◌, ◌<◌, ◌≤◌, [], false, length, All, OnErr};
 ghost use Rattle.pass_table.specs.Trying.{mode_if};
+ghost use Rattle.pass_table.specs.Calls.{Adds};
+ghost use Rattle.pass_table.specs.Work.{Tells};
+ghost use Rattle.pass_table.specs.Belongings.{belongings_of};
 ghost use Rattle.pass_table.specs.Passes.{view_of, IsOf, IsIdle};
 ghost use Rattle.body_lock.specs.LockingAll.{LocksAll};
 ghost use Rattle.body_lock.specs.Locking.{ReadAnswers, WriteAnswers};
@@ -29,6 +32,9 @@ pub fn lock_read<R: Wait>(
     requires below { id.index < world.now.map.bodies }
     ensures of { IsOf world.now pass.new }
     ensures idle { OnErr result (IsIdle world.now pass.new) }
+    ensures adds { Adds (view_of pass.old) (view_of pass.new) [] }
+    ensures tells { Tells (view_of pass.old) (view_of pass.new) [] }
+    ensures keeps { belongings_of (view_of pass.new) ≡ belongings_of (view_of pass.old) }
     ensures answers { ReadAnswers id (view_of pass.old) (view_of pass.new) result }
 {
     let mut locking = LockReadOp::new(world, pass, id);
@@ -48,6 +54,9 @@ pub fn lock_write<R: Wait>(
     requires below { id.index < world.now.map.bodies }
     ensures of { IsOf world.now pass.new }
     ensures idle { OnErr result (IsIdle world.now pass.new) }
+    ensures adds { Adds (view_of pass.old) (view_of pass.new) [] }
+    ensures tells { Tells (view_of pass.old) (view_of pass.new) [] }
+    ensures keeps { belongings_of (view_of pass.new) ≡ belongings_of (view_of pass.old) }
     ensures answers { WriteAnswers id (view_of pass.old) (view_of pass.new) result }
 {
     let mut locking = LockWriteOp::new(world, pass, id);
@@ -69,6 +78,9 @@ pub fn lock_multi<R: Wait>(
     requires few { length ids.now ≤ 64 }
     requires below { All (λ id. id.index < world.now.map.bodies) ids.now }
     ensures of { IsOf world.now pass.new }
+    ensures adds { Adds (view_of pass.old) (view_of pass.new) [] }
+    ensures tells { Tells (view_of pass.old) (view_of pass.new) [] }
+    ensures keeps { belongings_of (view_of pass.new) ≡ belongings_of (view_of pass.old) }
     ensures locked { LocksAll ids.now (mode_if write) (view_of pass.old) (view_of pass.new) result }
 {
     let mut locking = LockMultiOp::new(world, pass, ids, write);

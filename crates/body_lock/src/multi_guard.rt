@@ -4,7 +4,9 @@ ghost use Rattle.scene_model.specs.declared.entry.Entry.TheVariants.{SetUser};
 ghost use Rattle.core_state.specs.declared.view.Mode.{Mode};
 ghost use Rattle.core_state.specs.declared.view.Mode.TheVariants.{Write};
 ghost use Rattle.core_state.specs.declared.view.Task.TheVariants.{Nothing};
-ghost use Rattle.pass_table.specs.Calls.{Adds, RestsAgain};
+ghost use Rattle.pass_table.specs.Calls.{Adds};
+ghost use Rattle.pass_table.specs.Work.{Tells, HasDone, idle};
+ghost use Rattle.pass_table.specs.Belongings.{belongings_of};
 ghost use Rattle.pass_table.specs.Passes.{view_of, IsOf, IsIdle};
 ghost use Rattle.body_lock.specs.declared.multi_guard.LockedBody.{LockedBody};
 ghost use Rattle.body_lock.specs.declared.multi_guard.MultiEntry.TheVariants.{Reached};
@@ -100,6 +102,8 @@ impl MultiGuard {
         ensures of { IsOf world.now pass.new }
         ensures good { IsMultiGood self.now (view_of pass.new) }
         ensures adds { Adds (view_of pass.old) (view_of pass.new) [] }
+        ensures tells { Tells (view_of pass.old) (view_of pass.new) [] }
+        ensures keeps { belongings_of (view_of pass.new) ≡ belongings_of (view_of pass.old) }
         ensures sees { (past : LockedBody) → SeesEntry (slice_index_or self.now.bodies.items k past) (view_of pass.old) (view_of pass.new) result }
     {
         let body = self.body(k);
@@ -120,6 +124,8 @@ impl MultiGuard {
         ensures of { IsOf world.now pass.new }
         ensures good { IsMultiGood self.new (view_of pass.new) }
         ensures adds { (past : LockedBody) → Adds (view_of pass.old) (view_of pass.new) (SetUser (slice_index_or self.old.bodies.items k past).id.index user ∷ []) }
+        ensures tells { Tells (view_of pass.old) (view_of pass.new) [] }
+        ensures keeps { belongings_of (view_of pass.new) ≡ belongings_of (view_of pass.old) }
         ensures set { (past : LockedBody) → HasSetUser (view_of pass.old) (view_of pass.new) self.old.number (slice_index_or self.old.bodies.items k past).id.index user }
     {
         let body = self.body(k);
@@ -132,7 +138,8 @@ impl MultiGuard {
         requires good { IsMultiGood self (view_of pass.old) }
         ensures idle { IsIdle world.now pass.new }
         ensures adds { Adds (view_of pass.old) (view_of pass.new) [] }
-        ensures rests { RestsAgain (view_of pass.old) (view_of pass.new) }
+        ensures tells { Tells (view_of pass.old) (view_of pass.new) [] }
+        ensures keeps { belongings_of (view_of pass.new) ≡ belongings_of (view_of pass.old) }
     {
         let MultiGuard {
             number: _number,
@@ -151,8 +158,7 @@ fn release_all(world: &World, pass: &mut Pass, stripes: StripeSet)
     requires within { (stripe : ℕ) → has_stripe stripes.bits stripe ≡ true → stripe < (view_of pass.old).config.stripes }
     requires done { (view_of pass.old).call.task ≡ Nothing }
     ensures of { IsOf world.now pass.new }
-    ensures adds { Adds (view_of pass.old) (view_of pass.new) [] }
-    ensures rests { RestsAgain (view_of pass.old) (view_of pass.new) }
+    ensures done { HasDone (view_of pass.old) (view_of pass.new) (idle (view_of pass.old)) }
 {
     let mut held = stripes;
     while let Some(stripe) = held.take_first() {

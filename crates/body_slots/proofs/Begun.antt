@@ -7,10 +7,10 @@ use Rattle.core_state.specs.declared.view.Task.TheVariants.{Nothing}
 use Rattle.core_state.specs.declared.view.View.{View}
 use Rattle.core_state.specs.View.{IsPass}
 use Rattle.pass_table.specs.declared.take_op.TakeOp.{TakeOp}
-use Rattle.pass_table.specs.Calls.{IsCalling}
 use Rattle.pass_table.specs.Holding.{IsAtRest}
 use Rattle.pass_table.specs.TakeTurns.{taking_of, IsTaking}
-use Rattle.pass_table.proofs.Calling.{calling-begun}
+use Rattle.pass_table.proofs.Working.{worked-begun}
+use Rattle.pass_table.specs.Work.{IsCalling}
 use Rattle.body_slots.specs.declared.create_op.CreateOp.{CreateOp}
 use Rattle.body_slots.specs.declared.create_op.CreateStage.TheVariants.{Taking}
 use Rattle.body_ident.specs.Id.{Id}
@@ -28,7 +28,7 @@ module _ (layer : ℕ) (bounds : FixBox) (user : ℕ) (view next : View) (taking
   creating-begun lock number same pass below fits rest still goes = (
     record { layer_as = refl; bounds_as = refl; user_as = refl; in_layers = below; fits = fits; rest = rest },
     (
-      subst (λ (v : View). IsCalling view v [] Nothing []) (sym still) (calling-begun view number pass rest),
+      subst (λ (v : View). IsCalling view v [] Nothing []) (sym still) (worked-begun view number pass rest),
       subst (λ (v : View). IsTaking (taking_of (index_lock view.config) Write) v taking next) (sym still) (subst (λ (l : ℕ). IsTaking (taking_of l Write) view taking next) same goes),
     ),
   )
@@ -43,7 +43,7 @@ module _ (id : Id) (view next : View) (taking : TakeOp) where
     refl,
     record { below = below; striped = subst (λ (l : ℕ). l < index_lock view.config) same apart; rest = rest },
     (
-      subst (λ (v : View). IsCalling view v [] Nothing []) (sym still) (calling-begun view number pass rest),
+      subst (λ (v : View). IsCalling view v [] Nothing []) (sym still) (worked-begun view number pass rest),
       subst (λ (v : View). IsTaking (taking_of (stripe_of view.config id.index) Write) v taking next) (sym still) (subst (λ (l : ℕ). IsTaking (taking_of l Write) view taking next) same goes),
     ),
   )

@@ -36,11 +36,13 @@ use Rattle.pass_table.specs.TakeTurns.{taking_of, IsTaking, HasTaken}
 use Rattle.pass_table.specs.Turning.{AtMostOneStep, MadeBy}
 use Rattle.pass_table.specs.Holding.{MayLetGo, LetGo, IsAtRest}
 use Rattle.pass_table.specs.Turning.{IsUnderWay}
-use Rattle.pass_table.specs.Calls.{IsCalling}
-use Rattle.pass_table.proofs.Knowing.{known-more}
+use Rattle.pass_table.proofs.Knowing.{known-more, step-alone}
 use Rattle.pass_table.proofs.TakingTurns.{taking-anew}
 use Rattle.pass_table.proofs.Turning.{one-step}
-use Rattle.pass_table.proofs.Calling.{adds-none, stepped-sizes, stored-gained, stored-made, calling-role, calling-sizes, calling-entry, calling-lock, calling-pass, calling-ends, released-step, released-made, released-left, released-task, released-lawful, taken-calling, waiting-calling}
+use Rattle.pass_table.proofs.Calling.{adds-none, stepped-sizes, stored-gained, stored-made, released-step, released-made, released-lawful}
+use Rattle.pass_table.proofs.WorkLater.{worked-role, worked-sizes, worked-pass}
+use Rattle.pass_table.proofs.Working.{worked-made, worked-taken, worked-waited, worked-released, worked-done, done-keeps}
+use Rattle.pass_table.specs.Work.{IsCalling}
 use Rattle.body_slots.specs.declared.answers.Full.{Full}
 use Rattle.body_slots.specs.declared.create_op.CreateStage.{CreateStage}
 use Rattle.body_slots.specs.declared.create_op.CreateStage.TheVariants.{Taking, Locked, Filled, Leaving}
@@ -54,17 +56,17 @@ use Rattle.body_slots.proofs.CreateTurns.{is-creating}
 
 pub take-done : (first : CreateOp) (start view next : View) (taking : TakeOp) → HasTaken (taking_of (index_lock start.config) Write) view next → MadeBy view next None
     → AtCreate first start view (Taking taking) → AtCreate first start next Locked
-take-done first start view next taking taken by at = taken-calling start view next [] Nothing [] (index_lock start.config) Write at.0 taken by
+take-done first start view next taking taken by at = worked-taken start view next _ at.0 (index_lock start.config) Write taken by
 
 pub take-on : (first : CreateOp) (start view next : View) (taking after : TakeOp) → IsTaking (taking_of (index_lock start.config) Write) view after next → MadeBy view next None
     → AtCreate first start view (Taking taking) → AtCreate first start next (Taking after)
-take-on first start view next taking after goes by at = (waiting-calling start view next [] Nothing [] at.0 goes.waited by, taking-anew _ view after next goes)
+take-on first start view next taking after goes by at = (worked-waited start view next _ at.0 (index_lock start.config) goes.waited by goes.alone, taking-anew _ view after next goes)
 
 -- ---- creating the body
 
 module _ (first : CreateOp) (start view : View) (index state value : ℕ) (begun : IsBegun first start first.layer first.bounds first.user) (at : AtCreate first start view (Filled index state)) (is : value ≡ created_state state) where
   sizes_as : view.config ≡ start.config
-  sizes_as = calling-sizes start view view _ _ _ at.0.calling
+  sizes_as = worked-sizes start view _ at.0.calling
 
   -- the words are those of the body
   pub fields_of : HasFields view index first.bounds
@@ -122,7 +124,8 @@ module _ (first : CreateOp) (start view : View) (index state value : ℕ) (begun
     pub creation-calling : IsCalling start next (list_taken start.config) Nothing (entry ∷ [])
     creation-calling =
         let own = at.0.calling.adds.number in
-        calling-entry start view next _ _ _ at.0.calling (record { pass = own; entry = entry }) Nothing (creation-made own (calling-pass start view view _ _ _ at.0.calling)) creation_left
+        worked-made start view next _ at.0.calling (State index) _ Nothing refl (step-alone MayCreate create view next (State index) value 0 stored.0 stored.1)
+        (creation-made own (worked-pass start view _ at.0.calling)) creation_left
         (ap (λ (v : View). v.call.task) stored.1.leaves)
 
     -- what the log was just before
@@ -156,7 +159,7 @@ module _ (first : CreateOp) (start view : View) (index state value : ℕ) (begun
             item = item_of create creation value;
             later = [];
             parts = ap (λ (v : View). v.known) stored.1.leaves ∙ (λ i. log_before i ++ stored-gained MayCreate create view next (State index) value refl stored i);
-            pass = ap (λ (r : Role). number_in r) (sym (calling-role start view view _ _ _ at.0.calling)) ∙ stored.1.allowed.pass;
+            pass = ap (λ (r : Role). number_in r) (sym (worked-role start view _ at.0.calling)) ∙ stored.1.allowed.pass;
             makes = made_entry;
             holds = subst (λ (l : List Item). IsNextId (scene_at start.config l) (record { index = index; seq = (state % 256 + 1) % 256 })) log_before next_id;
           };
@@ -178,7 +181,7 @@ module _ (first : CreateOp) (start view : View) (answer : Result Id Full) (rest 
   pub may-leave : MayLetGo view (index_lock start.config)
   may-leave = record {
     mode = Write;
-    holds = subst (λ (c : Config). Holds view (index_lock c) Write) (calling-sizes start view view _ _ _ at.1) (list-held start view _ _ rest at.1);
+    holds = subst (λ (c : Config). Holds view (index_lock c) Write) (worked-sizes start view _ at.1) (list-held start view _ _ rest at.1);
     done = at.1.doing;
   }
 
@@ -193,20 +196,22 @@ module _ (first : CreateOp) (start view : View) (answer : Result Id Full) (rest 
   pub has-left : (next : View) (found : ℕ) → LetGo view (index_lock start.config) found next → HasMade first start next answer
   has-left next found go =
       let lock = index_lock start.config in
-      let by = released-made view next lock found go at.1.adds.number (calling-pass start view view _ _ _ at.1) in
-      let calling = calling-lock start view next _ _ _ at.1 (Released lock) Nothing by (released-left view next lock found go) (released-task view next lock found go) in (
+      let by = released-made view next lock found go at.1.adds.number (worked-pass start view _ at.1) in
+      let done = worked-done start next _ (worked-released start view next _ at.1 lock found go refl) rest refl (none_held lock) in (
         record {
-          rests = calling-ends start next next _ _ _ calling rest refl (none_held lock);
+          rest = done.rest;
+          tells = done.tells;
+          keeps = done-keeps start next _ done;
           lawful = released-lawful view next lock found go;
         },
-        answer-later first.layer first.bounds first.user start view next answer (known-more MayRelease release view next (Lock lock) go.0 0 found go.1) (λ entries adds. adds-none start view next entries (calling-role start view view _ _ _ at.1) adds by) at.2,
+        answer-later first.layer first.bounds first.user start view next answer (known-more MayRelease release view next (Lock lock) go.0 0 found go.1) (λ entries adds. adds-none start view next entries (worked-role start view _ at.1) adds by) at.2,
       )
 
 -- the lock may be let go
 pub may-leave-list : (before : CreateOp) (answer : Result Id Full) (view : View) (lock : ℕ) → IsUnderWay IsMaking before view → before.stage ≡ Leaving answer → lock ≡ index_lock view.config → MayLetGo view lock
 may-leave-list before answer view lock way at same =
     let there = subst (AtCreate way.first way.start view) at way.goes.1 in
-    subst (MayLetGo view) (sym (same ∙ ap (λ (c : Config). index_lock c) (calling-sizes way.start view view _ _ _ there.1))) (may-leave way.first way.start view answer way.goes.0.rest there)
+    subst (MayLetGo view) (sym (same ∙ ap (λ (c : Config). index_lock c) (worked-sizes way.start view _ there.1))) (may-leave way.first way.start view answer way.goes.0.rest there)
 
 -- so is the last turn
 pub leave-turn : (before : CreateOp) (answer : Result Id Full) (view next : View) (number lock found : ℕ) → IsPass view number → before.stage ≡ Leaving answer → lock ≡ index_lock view.config → LetGo view lock found next
@@ -219,7 +224,7 @@ leave-turn before answer view next number lock found pass at same go = record {
   answered = λ first start making.
       let there = subst (AtCreate first start view) at making.1 in
       has-left first start view answer making.0.rest there next found
-      (subst (λ (l : ℕ). LetGo view l found next) (same ∙ ap (λ (c : Config). index_lock c) (calling-sizes start view view _ _ _ there.1)) go);
+      (subst (λ (l : ℕ). LetGo view l found next) (same ∙ ap (λ (c : Config). index_lock c) (worked-sizes start view _ there.1)) go);
 }
 
 -- what it was begun with

@@ -1,6 +1,6 @@
 -- What each turn of a creation leaves.
 use Rattle.std.specs.Prelude.{slice_index}
-use Rattle.std.proofs.Common.{◌≡◌, ◌≢◌, ℕ, zero, suc, ◌+◌, ◌^◌, ◌<◌, ◌≤◌, [], None, Err, Result, inl, inr, refl, ap, sym, ◌∙◌, subst, arith}
+use Rattle.std.proofs.Common.{◌≡◌, ◌≢◌, ℕ, zero, suc, ◌+◌, ◌^◌, ◌<◌, ◌≤◌, [], false, None, Err, Result, inl, inr, refl, ap, sym, ◌∙◌, subst, arith}
 use Rattle.std.proofs.lemmas.Bool.{cases_lt}
 use Rattle.fixed_box.specs.declared.fix_box.FixBox.{FixBox}
 use Rattle.fixed_box.specs.FixBox.{words_of}
@@ -19,10 +19,14 @@ use Rattle.core_state.specs.Lives.{MayLoadBody, load_body, IsCreating, IsFieldOf
 use Rattle.pass_table.specs.Stepping.{Stepped, Stored}
 use Rattle.pass_table.specs.Turning.{AtMostOneStep, MadeBy}
 use Rattle.pass_table.specs.Holding.{IsAtRest}
-use Rattle.pass_table.specs.Calls.{StoresWord, IsCalling}
+use Rattle.pass_table.specs.Calls.{StoresWord}
 use Rattle.pass_table.proofs.Turning.{one-step, made-by-step}
-use Rattle.pass_table.proofs.Calling.{point-now, stores-word, stored-made, word-now, word-beside, calling-sizes, calling-more, calling-on, calling-pass, steady-more}
+use Rattle.pass_table.proofs.Calling.{point-now, stores-word, stored-made, word-now, word-beside, steady-more}
 use Rattle.pass_table.proofs.Bodies.{loaded-body}
+use Rattle.pass_table.proofs.WorkLater.{worked-sizes, worked-pass, worked-more}
+use Rattle.pass_table.proofs.Working.{worked-made}
+use Rattle.pass_table.specs.Work.{IsCalling, is_told}
+use Rattle.pass_table.proofs.Knowing.{step-alone}
 use Rattle.free_list.specs.Heads.{LoadedHead, LoadedLink, IsDoing, TookOff}
 use Rattle.body_slots.specs.declared.answers.Full.{Full}
 use Rattle.body_slots.specs.declared.create_op.CreateStage.{CreateStage}
@@ -74,10 +78,10 @@ head-made view next head loaded = made-by-step MayLoadList load_list view next S
 
 module _ (first : CreateOp) (start view next : View) (head : ℕ) (loaded : LoadedHead view next head) (at : AtCreate first start view Locked) where
   head_calling : IsCalling start next (list_taken start.config) Nothing []
-  head_calling = calling-more start view next _ _ _ at loaded.more
+  head_calling = worked-more start view next _ at loaded.more
 
   head_sizes : next.config ≡ start.config
-  head_sizes = calling-sizes start next next _ _ _ head_calling
+  head_sizes = worked-sizes start next _ head_calling
 
   pub head-first : (index : ℕ) → head ≡ suc index → AtCreate first start next (First index)
   head-first index names = (head_calling, subst (λ (c : Config). index < c.bodies) head_sizes (loaded.some index names).below, loaded.is ∙ names)
@@ -104,7 +108,7 @@ link-made view next index link loaded = made-by-step MayLoadList load_list view 
 
 pub link-loaded : (first : CreateOp) (start view next : View) (index link : ℕ) → IsAtRest start → LoadedLink view next index link → AtCreate first start view (First index) → AtCreate first start next (Linked index link)
 link-loaded first start view next index link rest loaded at = (
-  calling-more start view next _ _ _ at.0 loaded.more,
+  worked-more start view next _ at.0 loaded.more,
   at.1,
   steady-more view next SlotHead loaded.more (listed-steady view SlotHead (list-held start view _ _ rest at.0) refl) ∙ at.2,
   loaded.is,
@@ -119,7 +123,8 @@ took-made view next number index link pass took = stored-made MayStoreHead store
 pub took-index : (first : CreateOp) (start view next : View) (index link : ℕ) → TookOff view next index link → AtCreate first start view (Linked index link) → AtCreate first start next (Taken index)
 took-index first start view next index link took at = record {
   calling =
-      calling-on start view next _ _ _ at.0 (Creating index) (took-made view next at.0.adds.number index link (calling-pass start view view _ _ _ at.0) took)
+      worked-made start view next _ at.0 SlotHead _ (Creating index) refl (step-alone MayStoreHead store_head view next SlotHead link 0 took.step.0 took.step.1)
+      (took-made view next at.0.adds.number index link (worked-pass start view _ at.0) took)
       (doing-left view next (Creating index) took.doing) (ap (λ (v : View). v.call.task) took.doing.rest);
   below = at.1;
 }
@@ -129,7 +134,7 @@ took-index first start view next index link took at = record {
 pub state-loaded : (first : CreateOp) (start view next : View) (index state : ℕ) → Stepped MayLoadBody load_body view (State index) 0 0 state next → AtCreate first start view (Taken index) → AtCreate first start next (Fields index state 0)
 state-loaded first start view next index state stepped at =
     let loaded = loaded-body view next (State index) state stepped in (
-      record { calling = calling-more start view next _ _ _ at.calling loaded.more; below = at.below },
+      record { calling = worked-more start view next _ at.calling loaded.more; below = at.below },
       loaded.word,
       omega arith,
       λ number below. absurd (omega arith),
@@ -165,7 +170,7 @@ may-field first operation start view index number begun taken below = record {
   creating = is-creating start view index begun.rest taken;
   field =
       is-field view.config operation.layer operation.bounds operation.user index number
-      (subst (λ (c : Config). operation.layer < c.layers) (sym (calling-sizes start view view _ _ _ taken.calling)) (subst (λ (l : ℕ). l < start.config.layers) (sym begun.layer_as) begun.in_layers))
+      (subst (λ (c : Config). operation.layer < c.layers) (sym (worked-sizes start view _ taken.calling)) (subst (λ (l : ℕ). l < start.config.layers) (sym begun.layer_as) begun.in_layers))
       (subst (λ (u : ℕ). u < 2 ^ 32) (sym begun.user_as) begun.fits) below;
 }
 
@@ -185,6 +190,11 @@ no-state : (index number : ℕ) → field_name index number ≢ State index
 no-state index zero same = absurd cc
 no-state index (suc zero) same = absurd cc
 no-state index (suc (suc side)) same = absurd cc
+
+field-untold : (index number : ℕ) → is_told (field_name index number) ≡ false
+field-untold index zero = refl
+field-untold index (suc zero) = refl
+field-untold index (suc (suc side)) = refl
 
 module _ (view next : View) (index number value : ℕ) (stored : Stored MayStoreField store_field view (field_name index number) value next) where
   pub field-step : AtMostOneStep view next
@@ -209,7 +219,8 @@ module _ (view next : View) (index number value : ℕ) (stored : Stored MayStore
     pub field-taken : IsTakenOff start next index
     field-taken = record {
       calling =
-          calling-on start view next _ _ _ at.0.calling (Creating index) (field-made at.0.calling.adds.number (calling-pass start view view _ _ _ at.0.calling))
+          worked-made start view next _ at.0.calling (field_name index number) _ (Creating index) (field-untold index number) (step-alone MayStoreField store_field view next (field_name index number) value 0 stored.0 stored.1)
+          (field-made at.0.calling.adds.number (worked-pass start view _ at.0.calling))
           (field_left ∙ (λ i. record view { known = next.known; joined = sym (ap (λ (v : View). v.joined) field_left) i; call = sym (ap (λ (v : View). v.call) field_left) i }))
           (ap (λ (v : View). v.call.task) field_left ∙ field_task);
       below = at.0.below;

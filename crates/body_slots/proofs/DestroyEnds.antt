@@ -33,13 +33,16 @@ use Rattle.pass_table.specs.Stepping.{step_by, Stored}
 use Rattle.pass_table.specs.Turning.{AtMostOneStep, MadeBy}
 use Rattle.pass_table.specs.Holding.{MayLetGo, LetGo}
 use Rattle.pass_table.specs.Turning.{IsUnderWay}
-use Rattle.pass_table.specs.Calls.{StoresWord, IsCalling}
-use Rattle.pass_table.proofs.Knowing.{known-more}
+use Rattle.pass_table.specs.Calls.{StoresWord}
+use Rattle.pass_table.proofs.Knowing.{known-more, step-alone}
 use Rattle.pass_table.proofs.Turning.{one-step}
-use Rattle.pass_table.proofs.Calling.{adds-none, stepped-sizes, steady-now, stored-gained, stored-made, word-beside, calling-role, calling-sizes, calling-mode, calling-more, calling-on, calling-entry, calling-lock, calling-pass, calling-ends, released-step, released-made, released-left, released-task, released-lawful}
+use Rattle.pass_table.proofs.Calling.{adds-none, stepped-sizes, steady-now, stored-gained, stored-made, word-beside, released-step, released-made, released-lawful}
 use Rattle.pass_table.specs.Bodies.{live_state}
 use Rattle.pass_table.proofs.Bodies.{live-at, has-body}
 use Rattle.pass_table.proofs.LockedBodies.{live-steady, phase-steady}
+use Rattle.pass_table.proofs.WorkLater.{worked-role, worked-sizes, worked-pass, worked-mode, worked-more}
+use Rattle.pass_table.proofs.Working.{worked-made, worked-released, worked-done, done-keeps}
+use Rattle.pass_table.specs.Work.{IsCalling}
 use Rattle.free_list.specs.Heads.{LoadedHead, LinkedTo, PutInFront}
 use Rattle.free_list.proofs.Popping.{is-linked}
 use Rattle.body_slots.specs.declared.answers.DestroyRefused.{DestroyRefused}
@@ -56,7 +59,7 @@ module _ (id : Id) (start view : View) (task : Task) (entries : List Entry) (beg
   -- the body may be put on the list
   pub out-body : KnowsOut id view → IsLiveAndOut view id.index
   out-body out = record {
-    below = subst (λ (c : Config). id.index < c.bodies) (sym (calling-sizes start view view _ _ _ calling)) begun.below;
+    below = subst (λ (c : Config). id.index < c.bodies) (sym (worked-sizes start view _ calling)) begun.below;
     stripe = both-stripe id start view task entries begun.rest calling;
     live = subst (λ (n : ℕ). 256 ≤ n) (sym out.0) (omega arith);
     out = out.1;
@@ -77,7 +80,7 @@ module _ (id : Id) (start view : View) (task : Task) (entries : List Entry) (beg
 
 pub head-loaded : (id : Id) (start view next : View) (head : ℕ) → IsBegunFor id start → LoadedHead view next head → AtDestroy id start view Locked → AtDestroy id start next (Headed head)
 head-loaded id start view next head begun loaded at =
-    (calling-more start view next _ _ _ at.0 loaded.more, out-more id view next loaded.more (both-stripe id start view _ _ begun.rest at.0) at.1, loaded.is)
+    (worked-more start view next _ at.0 loaded.more, out-more id view next loaded.more (both-stripe id start view _ _ begun.rest at.0) at.1, loaded.is)
 
 module _ (view next : View) (index head : ℕ) (linked : LinkedTo view next index head) where
   pub linked-step : AtMostOneStep view next
@@ -88,7 +91,8 @@ module _ (view next : View) (index head : ℕ) (linked : LinkedTo view next inde
 
 pub link-stored : (id : Id) (start view next : View) (head : ℕ) → IsBegunFor id start → LinkedTo view next id.index head → AtDestroy id start view (Headed head) → AtDestroy id start next Linked
 link-stored id start view next head begun linked at = (
-  calling-on start view next _ _ _ at.0 Nothing (linked-made view next id.index head linked at.0.adds.number (calling-pass start view view _ _ _ at.0))
+  worked-made start view next _ at.0 (SlotNext id.index) _ Nothing refl (step-alone MayStoreLink store_link view next (SlotNext id.index) head 0 linked.step.0 linked.step.1)
+      (linked-made view next id.index head linked at.0.adds.number (worked-pass start view _ at.0))
       (linked.rest ∙ (λ i. record view { known = next.known; joined = sym (ap (λ (v : View). v.joined) linked.rest) i; call = sym (ap (λ (v : View). v.call) linked.rest) i }))
       (ap (λ (v : View). v.call.task) linked.rest ∙ at.0.doing),
   out-beside id start view Nothing [] begun at.0 next (SlotNext id.index) head linked.stores (ap (λ (v : View). v.config) linked.rest) (λ same. absurd cc) (λ same. absurd cc) at.1,
@@ -104,7 +108,8 @@ module _ (view next : View) (index : ℕ) (put : PutInFront view next index) whe
 
 pub put-first : (id : Id) (start view next : View) → IsBegunFor id start → PutInFront view next id.index → AtDestroy id start view Linked → AtDestroy id start next InFront
 put-first id start view next begun put at = (
-  calling-on start view next _ _ _ at.0 (Destroying id.index) (put-made view next id.index put at.0.adds.number (calling-pass start view view _ _ _ at.0))
+  worked-made start view next _ at.0 SlotHead _ (Destroying id.index) refl (step-alone MayStoreHead store_head view next SlotHead (suc id.index) 0 put.step.0 put.step.1)
+      (put-made view next id.index put at.0.adds.number (worked-pass start view _ at.0))
       (doing-left view next (Destroying id.index) put.doing) (ap (λ (v : View). v.call.task) put.doing.rest),
   out-beside id start view Nothing [] begun at.0 next SlotHead (suc id.index) put.stores (ap (λ (v : View). v.config) put.doing.rest) (λ same. absurd cc) (λ same. absurd cc) at.1,
 )
@@ -138,7 +143,8 @@ module _ (id : Id) (start view : View) (value : ℕ) (begun : IsBegunFor id star
     pub destruction-calling : IsCalling start next (both_taken start.config id) Nothing (Destroy id.index ∷ [])
     destruction-calling =
         let own = at.0.adds.number in
-        calling-entry start view next _ _ _ at.0 (record { pass = own; entry = Destroy id.index }) Nothing (destruction-made own (calling-pass start view view _ _ _ at.0))
+        worked-made start view next _ at.0 (State id.index) _ Nothing refl (step-alone MayDestroy destroy view next (State id.index) value 0 stored.0 stored.1)
+        (destruction-made own (worked-pass start view _ at.0))
         (stored.1.leaves
         ∙ (λ i. record view {
           known = sym (ap (λ (v : View). v.known) stored.1.leaves) i;
@@ -152,7 +158,7 @@ module _ (id : Id) (start view : View) (value : ℕ) (begun : IsBegunFor id star
     log_before = stored.1.learns ∙ (ap (λ (l : List Item). l ++ stored.1.since) at.0.adds.known ∙ append_assoc start.known at.0.adds.since stored.1.since)
 
     sizes_before : start.config ≡ stored.1.before.config
-    sizes_before = sym (calling-sizes start view view _ _ _ at.0) ∙ stepped-sizes MayDestroy destroy view next (State id.index) value 0 stored.0 stored.1
+    sizes_before = sym (worked-sizes start view _ at.0) ∙ stepped-sizes MayDestroy destroy view next (State id.index) value 0 stored.0 stored.1
 
     -- the body was live and out
     was_out : HasIdBody (scene_at start.config stored.1.before.log) id (λ r. r.phase ≡ Out)
@@ -174,7 +180,7 @@ module _ (id : Id) (start view : View) (value : ℕ) (begun : IsBegunFor id star
         item = item_of destroy destruction value;
         later = [];
         parts = ap (λ (v : View). v.known) stored.1.leaves ∙ (λ i. log_before i ++ stored-gained MayDestroy destroy view next (State id.index) value refl stored i);
-        pass = ap (λ (r : Role). number_in r) (sym (calling-role start view view _ _ _ at.0)) ∙ stored.1.allowed.pass;
+        pass = ap (λ (r : Role). number_in r) (sym (worked-role start view _ at.0)) ∙ stored.1.allowed.pass;
         makes = refl;
         holds = subst (λ (l : List Item). HasIdBody (scene_at start.config l) id (λ r. r.phase ≡ Out)) log_before was_out;
       };
@@ -226,35 +232,35 @@ module _ (id : Id) (start view : View) (begun : IsBegunFor id start) (at : AtDes
   pub may-leave_list : MayLetGo view (index_lock start.config)
   may-leave_list = record {
     mode = Write;
-    holds = subst (λ (c : Config). Holds view (index_lock c) Write) (calling-sizes start view view _ _ _ at.0) (both-list id start view _ _ begun.rest at.0);
+    holds = subst (λ (c : Config). Holds view (index_lock c) Write) (worked-sizes start view _ at.0) (both-list id start view _ _ begun.rest at.0);
     done = at.0.doing;
   }
 
   pub left-list : (next : View) (found : ℕ) → LetGo view (index_lock start.config) found next → AtDestroy id start next (Leaving (Ok tt))
   left-list next found go =
       let lock = index_lock start.config in
-      let by = released-made view next lock found go at.0.adds.number (calling-pass start view view _ _ _ at.0) in (
+      let by = released-made view next lock found go at.0.adds.number (worked-pass start view _ at.0) in (
         both_taken start.config id ++ Released lock ∷ [],
         Destroy id.index ∷ [],
-        calling-lock start view next _ _ _ at.0 (Released lock) Nothing by (released-left view next lock found go) (released-task view next lock found go),
+        worked-released start view next _ at.0 lock found go refl,
         first-alone start.config id begun.striped,
-        destroyed-later id start view next (known-more MayRelease release view next (Lock lock) go.0 0 found go.1) (λ entries adds. adds-none start view next entries (calling-role start view view _ _ _ at.0) adds by) at.1,
+        destroyed-later id start view next (known-more MayRelease release view next (Lock lock) go.0 0 found go.1) (λ entries adds. adds-none start view next entries (worked-role start view _ at.0) adds by) at.1,
       )
 
 -- ---- letting the stripe go
 
 module _ (id : Id) (start view : View) (answer : Result (Unit {0}) DestroyRefused) (begun : IsBegunFor id start) (at : AtDestroy id start view (Leaving answer)) where
   pub may-leave : MayLetGo view (stripe_of start.config id.index)
-  may-leave = record { mode = Write; holds = calling-mode start view view _ _ _ at.2 begun.rest (stripe_of start.config id.index) ∙ at.3.held; done = at.2.doing }
+  may-leave = record { mode = Write; holds = worked-mode start view _ at.2 begun.rest (stripe_of start.config id.index) ∙ at.3.held; done = at.2.doing }
 
 module _ (first : DestroyOp) (start view : View) (answer : Result (Unit {0}) DestroyRefused) (begun : IsBegunFor first.id start) (at : AtDestroy first.id start view (Leaving answer)) where
   has_left : (next : View) (found : ℕ) → LetGo view (stripe_of start.config first.id.index) found next → HasUnmade first start next answer
   has_left next found go =
       let lock = stripe_of start.config first.id.index in
-      let by = released-made view next lock found go at.2.adds.number (calling-pass start view view _ _ _ at.2) in
-      let calling = calling-lock start view next _ _ _ at.2 (Released lock) Nothing by (released-left view next lock found go) (released-task view next lock found go) in (
-        record { rests = calling-ends start next next _ _ _ calling begun.rest refl at.3.alone; lawful = released-lawful view next lock found go },
-        answer-later first.id start view next answer (known-more MayRelease release view next (Lock lock) go.0 0 found go.1) (λ entries adds. adds-none start view next entries (calling-role start view view _ _ _ at.2) adds by) at.4,
+      let by = released-made view next lock found go at.2.adds.number (worked-pass start view _ at.2) in
+      let done = worked-done start next _ (worked-released start view next _ at.2 lock found go refl) begun.rest refl at.3.alone in (
+        record { rest = done.rest; tells = done.tells; keeps = done-keeps start next _ done; lawful = released-lawful view next lock found go },
+        answer-later first.id start view next answer (known-more MayRelease release view next (Lock lock) go.0 0 found go.1) (λ entries adds. adds-none start view next entries (worked-role start view _ at.2) adds by) at.4,
       )
 
 -- so is the last turn
@@ -268,17 +274,17 @@ leave-turn before answer view next number lock found pass at same go = record {
   answered = λ first start making.
       let there = subst (AtDestroy first.id start view) at making.2 in
       has_left first start view answer making.1 there next found
-      (subst (λ (l : ℕ). LetGo view l found next) (same ∙ (λ i. stripe_of (calling-sizes start view view _ _ _ there.2 i) (making.0 i).index)) go);
+      (subst (λ (l : ℕ). LetGo view l found next) (same ∙ (λ i. stripe_of (worked-sizes start view _ there.2 i) (making.0 i).index)) go);
 }
 
 -- both locks may be let go, each in its turn
 pub may-leave-list : (before : DestroyOp) (view : View) (lock : ℕ) → IsUnderWay IsUnmaking before view → before.stage ≡ Destroyed → lock ≡ index_lock view.config → MayLetGo view lock
 may-leave-list before view lock way at same =
     let there = subst (AtDestroy way.first.id way.start view) at way.goes.2 in
-    subst (MayLetGo view) (sym (same ∙ ap (λ (c : Config). index_lock c) (calling-sizes way.start view view _ _ _ there.0))) (may-leave_list way.first.id way.start view way.goes.1 there)
+    subst (MayLetGo view) (sym (same ∙ ap (λ (c : Config). index_lock c) (worked-sizes way.start view _ there.0))) (may-leave_list way.first.id way.start view way.goes.1 there)
 
 pub may-leave-stripe : (before : DestroyOp) (answer : Result (Unit {0}) DestroyRefused) (view : View) (lock : ℕ) → IsUnderWay IsUnmaking before view → before.stage ≡ Leaving answer
     → lock ≡ stripe_of view.config before.id.index → MayLetGo view lock
 may-leave-stripe before answer view lock way at same =
     let there = subst (AtDestroy way.first.id way.start view) at way.goes.2 in
-    subst (MayLetGo view) (sym (same ∙ (λ i. stripe_of (calling-sizes way.start view view _ _ _ there.2 i) (way.goes.0 i).index))) (may-leave way.first.id way.start view answer way.goes.1 there)
+    subst (MayLetGo view) (sym (same ∙ (λ i. stripe_of (worked-sizes way.start view _ there.2 i) (way.goes.0 i).index))) (may-leave way.first.id way.start view answer way.goes.1 there)

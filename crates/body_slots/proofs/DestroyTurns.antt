@@ -23,12 +23,14 @@ use Rattle.pass_table.specs.Stepping.{Stepped}
 use Rattle.pass_table.specs.TakeTurns.{taking_of, IsTaking, HasTaken}
 use Rattle.pass_table.specs.Turning.{MadeBy}
 use Rattle.pass_table.specs.Holding.{IsAtRest}
-use Rattle.pass_table.specs.Calls.{IsCalling}
 use Rattle.pass_table.specs.Bodies.{Loaded, live_state, KnowsLive, IsGoneAt, IsGuarded, IsTold}
 use Rattle.pass_table.proofs.TakingTurns.{taking-anew}
-use Rattle.pass_table.proofs.Calling.{point-now, calling-sizes, calling-mode, calling-more, calling-pass, taken-calling, waiting-calling}
+use Rattle.pass_table.proofs.Calling.{point-now}
 use Rattle.pass_table.proofs.Bodies.{loaded-body, loaded-slot, gone-now}
 use Rattle.pass_table.proofs.LockedBodies.{live-steady, phase-steady, guarded-more, phase-stays, layer-stays, guarded-tells, told-body, told-in, told-held, told-joined, slot-below, layer-below, phase-fits, layer-fits}
+use Rattle.pass_table.proofs.WorkLater.{worked-sizes, worked-pass, worked-mode, worked-more}
+use Rattle.pass_table.proofs.Working.{worked-taken, worked-waited}
+use Rattle.pass_table.specs.Work.{IsCalling}
 use Rattle.body_slots.specs.declared.answers.DestroyRefused.{DestroyRefused}
 use Rattle.body_slots.specs.declared.answers.DestroyRefused.TheVariants.{Gone, InUse}
 use Rattle.body_slots.specs.declared.destroy_op.DestroyStage.{DestroyStage}
@@ -67,7 +69,7 @@ pub list-free : (id : Id) (start view : View) → IsBegunFor id start → IsCall
 list-free id start view begun calling =
     let stripe = stripe_of start.config id.index in
     let list = index_lock start.config in
-    calling-mode start view view (stripe_taken start.config id) Nothing [] calling begun.rest list
+    worked-mode start view _ calling begun.rest list
     ∙ ap (λ (t : Bool). cond {A = Option Mode} t (Some Write) None) (ne_eqb stripe list (λ same. let below = begun.striped in omega arith))
 
 -- once it is taken, the list may be changed
@@ -77,7 +79,7 @@ has-list id start view rest calling = record { lock = both-list id start view No
 -- for a body that is live and out
 pub has-out : (id : Id) (start view : View) → IsBegunFor id start → IsCalling start view (both_taken start.config id) Nothing [] → KnowsOut id view → IsLiveAndOut view id.index
 has-out id start view begun calling out = record {
-  below = subst (λ (c : Config). id.index < c.bodies) (sym (calling-sizes start view view _ _ _ calling)) begun.below;
+  below = subst (λ (c : Config). id.index < c.bodies) (sym (worked-sizes start view _ calling)) begun.below;
   stripe = both-stripe id start view Nothing [] begun.rest calling;
   live = let live = out.0 in omega arith;
   out = out.1;
@@ -87,11 +89,11 @@ has-out id start view begun calling out = record {
 
 pub stripe-done : (id : Id) (start view next : View) (taking : TakeOp) → HasTaken (taking_of (stripe_of start.config id.index) Write) view next → MadeBy view next None
     → AtDestroy id start view (TakingStripe taking) → AtDestroy id start next Held
-stripe-done id start view next taking taken by at = taken-calling start view next [] Nothing [] (stripe_of start.config id.index) Write at.0 taken by
+stripe-done id start view next taking taken by at = worked-taken start view next _ at.0 (stripe_of start.config id.index) Write taken by
 
 pub stripe-on : (id : Id) (start view next : View) (taking after : TakeOp) → IsTaking (taking_of (stripe_of start.config id.index) Write) view after next → MadeBy view next None
     → AtDestroy id start view (TakingStripe taking) → AtDestroy id start next (TakingStripe after)
-stripe-on id start view next taking after goes by at = (waiting-calling start view next [] Nothing [] at.0 goes.waited by, taking-anew _ view after next goes)
+stripe-on id start view next taking after goes by at = (worked-waited start view next _ at.0 (stripe_of start.config id.index) goes.waited by goes.alone, taking-anew _ view after next goes)
 
 -- ---- taking the lock of the list
 
@@ -105,14 +107,14 @@ out-quiet id view next quiet sizes holds out = (
 pub list-done : (id : Id) (start view next : View) (taking : TakeOp) → IsAtRest start → HasTaken (taking_of (index_lock start.config) Write) view next → MadeBy view next None
     → AtDestroy id start view (TakingList taking) → AtDestroy id start next Locked
 list-done id start view next taking rest taken by at = (
-  taken-calling start view next (stripe_taken start.config id) Nothing [] (index_lock start.config) Write at.0 taken by,
+  worked-taken start view next _ at.0 (index_lock start.config) Write taken by,
   out-quiet id view next taken.quiet (ap (λ (v : View). v.config) taken.left.rest) (stripe-held id start view _ _ rest at.0) at.1,
 )
 
 pub list-on : (id : Id) (start view next : View) (taking after : TakeOp) → IsAtRest start → IsTaking (taking_of (index_lock start.config) Write) view after next → MadeBy view next None
     → AtDestroy id start view (TakingList taking) → AtDestroy id start next (TakingList after)
 list-on id start view next taking after rest goes by at = (
-  waiting-calling start view next (stripe_taken start.config id) Nothing [] at.0 goes.waited by,
+  worked-waited start view next _ at.0 (index_lock start.config) goes.waited by goes.alone,
   out-quiet id view next goes.quiet (ap (λ (v : View). v.config) goes.waited.rest) (stripe-held id start view _ _ rest at.0) at.1,
   taking-anew _ view after next goes,
 )
@@ -140,7 +142,7 @@ in-use id start next phase told calling is used =
       adds = calling.adds;
       at =
           point-now start next [] (IsInUseAt start.config id phase) calling.adds
-          (subst (λ (c : Config). IsInUseAt c id phase next.known) (calling-sizes start next next _ _ _ calling)
+          (subst (λ (c : Config). IsInUseAt c id phase next.known) (worked-sizes start next _ calling)
           (record {
             cause = told-body id next told (λ r. (r.phase ≡ HeldPhase) ⊎ (r.phase ≡ In)) (subst (λ (p : BodyPhase). (p ≡ HeldPhase) ⊎ (p ≡ In)) (sym is) used);
             is = told-body id next told (λ r. r.phase ≡ phase) is;
@@ -153,15 +155,15 @@ in-use id start next phase told calling is used =
 pub state-live : (id : Id) (start view next : View) (state : ℕ) → Stepped MayLoadBody load_body view (State id.index) 0 0 state next → state ≡ live_state id.seq → AtDestroy id start view Held → AtDestroy id start next Live
 state-live id start view next state stepped says at =
     let loaded = loaded-body view next (State id.index) state stepped in
-    (calling-more start view next _ _ _ at loaded.more, loaded.word ∙ says)
+    (worked-more start view next _ at loaded.more, loaded.word ∙ says)
 
 -- or that it is gone
 pub state-gone : (id : Id) (start view next : View) (state : ℕ) → IsBegunFor id start → Stepped MayLoadBody load_body view (State id.index) 0 0 state next → state ≢ live_state id.seq
     → AtDestroy id start view Held → AtDestroy id start next (Leaving (Err (Gone state)))
 state-gone id start view next state begun stepped other at =
     let loaded = loaded-body view next (State id.index) state stepped in
-    let calling = calling-more start view next _ _ _ at loaded.more in
-    let sizes = calling-sizes start next next _ _ _ calling in
+    let calling = worked-more start view next _ at loaded.more in
+    let sizes = worked-sizes start next _ calling in
     let below = subst (λ (c : Config). id.index < c.bodies) (sym sizes) begun.below in
     leaving id start next (Err (Gone state)) calling
     (record {
@@ -177,9 +179,9 @@ is-guarded id start view begun calling live = (
   calling.adds.number,
   Write,
   record {
-    pass = calling-pass start view view _ _ _ calling;
+    pass = worked-pass start view _ calling;
     stripe = stripe-held id start view _ _ begun.rest calling;
-    below = subst (λ (c : Config). id.index < c.bodies) (sym (calling-sizes start view view _ _ _ calling)) begun.below;
+    below = subst (λ (c : Config). id.index < c.bodies) (sym (worked-sizes start view _ calling)) begun.below;
     state = live;
     done = calling.doing;
   },
@@ -192,10 +194,10 @@ module _ (id : Id) (start view next : View) (name : Name) (found : ℕ) (begun :
   guarded_still = guarded-more id view next (is-guarded id start view begun calling live) loaded.more
 
   calling_still : IsCalling start next (stripe_taken start.config id) Nothing []
-  calling_still = calling-more start view next _ _ _ calling loaded.more
+  calling_still = worked-more start view next _ calling loaded.more
 
   sizes_still : next.config ≡ start.config
-  sizes_still = calling-sizes start next next _ _ _ calling_still
+  sizes_still = worked-sizes start next _ calling_still
 
 module _ (id : Id) (start view next : View) (phase : ℕ) (begun : IsBegunFor id start) (stepped : Stepped MayLoadBody load_body view (Phase id.index) 0 0 phase next) (at : AtDestroy id start view Live) where
   phase_loaded : Loaded view next (Phase id.index) phase

@@ -12,7 +12,10 @@ use Rattle.core_state.specs.declared.view.View.{View}
 use Rattle.core_state.specs.Log.{word}
 use Rattle.core_state.specs.Guards.{scene_at}
 use Rattle.pass_table.specs.Knowing.{KnowsLawful}
-use Rattle.pass_table.specs.Calls.{Adds, AtPoint, MakesAt, RestsAgain}
+use Rattle.pass_table.specs.Holding.{IsAtRest}
+use Rattle.pass_table.specs.Calls.{Adds, AtPoint, MakesAt}
+use Rattle.pass_table.specs.Work.{Tells}
+use Rattle.pass_table.specs.Belongings.{belongings_of}
 use Rattle.body_slots.specs.declared.answers.Full.{Full}
 
 -- the next body takes the index of this id, and the id is that of the next creation there
@@ -41,7 +44,10 @@ pub record WasFull (start next : View) (refused : Full) : Type 0 where
 abbrev pub IsCreateAnswer : ℕ → FixBox → ℕ → View → View → Result Id Full → Type 0
 IsCreateAnswer layer bounds user start next answer = MatchResult answer (HasCreated layer bounds user start next) (WasFull start next)
 
--- a call that a pass made at rest has ended: the pass is at rest again, and the history is lawful
+-- A call that a pass made at rest has ended: the pass is at rest again. It stored no word that is told, all that it has beside
+-- its locks and its task is as it was, and the history is lawful
 pub record HasEnded (start next : View) : Type 0 where
-  pub rests : RestsAgain start next
+  pub rest : IsAtRest next
+  pub tells : Tells start next []
+  pub keeps : belongings_of next ≡ belongings_of start
   pub lawful : KnowsLawful next

@@ -17,7 +17,8 @@ use Rattle.core_state.specs.View.{known_word}
 use Rattle.pass_table.specs.declared.turn.Turn.{Turn}
 use Rattle.pass_table.specs.TakeTurns.{taking_of, IsTaking, turns_left}
 use Rattle.pass_table.specs.Holding.{IsAtRest}
-use Rattle.pass_table.specs.Calls.{IsCalling, IsTurn}
+use Rattle.pass_table.specs.Calls.{IsTurn}
+use Rattle.pass_table.specs.Work.{IsCalling}
 use Rattle.body_slots.specs.declared.answers.Full.{Full}
 use Rattle.body_slots.specs.declared.create_op.CreateStage.{CreateStage}
 use Rattle.body_slots.specs.declared.create_op.CreateStage.TheVariants.{Taking, Locked, First, Linked, Taken, Fields, Filled, Leaving}

@@ -17,10 +17,12 @@ use Rattle.core_state.specs.View.{Holds, mode_of}
 use Rattle.pass_table.specs.Knowing.{KnowsMore}
 use Rattle.pass_table.specs.Holding.{IsAtRest}
 use Rattle.pass_table.specs.TakeTurns.{taking-later}
-use Rattle.pass_table.specs.Calls.{Adds, IsCalling}
-use Rattle.pass_table.proofs.Calling.{adds-more, point-later, calling-role, calling-sizes, calling-mode, calling-more, steady-more}
+use Rattle.pass_table.specs.Calls.{Adds}
+use Rattle.pass_table.proofs.Calling.{adds-more, point-later, steady-more}
 use Rattle.pass_table.proofs.TakingTurns.{taking-anew}
 use Rattle.pass_table.proofs.LockedBodies.{live-steady, phase-steady, live-more}
+use Rattle.pass_table.proofs.WorkLater.{worked-role, worked-sizes, worked-mode, worked-more}
+use Rattle.pass_table.specs.Work.{IsCalling}
 use Rattle.body_slots.specs.declared.answers.DestroyRefused.{DestroyRefused}
 use Rattle.body_slots.specs.declared.answers.DestroyRefused.TheVariants.{Gone, InUse}
 use Rattle.body_slots.specs.declared.destroy_op.DestroyStage.{DestroyStage}
@@ -48,8 +50,8 @@ second-taken a b = ap (λ (t : Bool). cond {A = Option Mode} t (Some Write) (mod
 module _ (id : Id) (start view : View) (task : Task) (entries : List Entry) (rest : IsAtRest start) where
   held_by : (steps : List LockStep) (lock : Config → ℕ) → IsCalling start view steps task entries → mode_of steps (lock start.config) ≡ Some Write → Holds view (lock view.config) Write
   held_by steps lock calling taken =
-      subst (λ (c : Config). Holds view (lock c) Write) (sym (calling-sizes start view view steps task entries calling))
-      (calling-mode start view view steps task entries calling rest (lock start.config) ∙ taken)
+      subst (λ (c : Config). Holds view (lock c) Write) (sym (worked-sizes start view _ calling))
+      (worked-mode start view _ calling rest (lock start.config) ∙ taken)
 
   -- the stripe, and both locks
   pub stripe-held : IsCalling start view (stripe_taken start.config id) task entries → Holds view (stripe_of view.config id.index) Write
@@ -83,19 +85,19 @@ answer-later id start view next (Err (InUse phase)) later adds was = record { ad
 
 module _ (id : Id) (start view next : View) (rest : IsAtRest start) (more : KnowsMore view next) where
   stage-later : (stage : DestroyStage) → AtDestroy id start view stage → AtDestroy id start next stage
-  stage-later (TakingStripe taking) h = (calling-more start view next _ _ _ h.0 more, taking-anew _ view taking next (taking-later _ view taking view next more h.1))
-  stage-later Held h = calling-more start view next _ _ _ h more
-  stage-later Live h = (calling-more start view next _ _ _ h.0 more, live-more id Write view next more (stripe-held id start view _ _ rest h.0) h.1)
+  stage-later (TakingStripe taking) h = (worked-more start view next _ h.0 more, taking-anew _ view taking next (taking-later _ view taking view next more h.1))
+  stage-later Held h = worked-more start view next _ h more
+  stage-later Live h = (worked-more start view next _ h.0 more, live-more id Write view next more (stripe-held id start view _ _ rest h.0) h.1)
   stage-later (Joining slot) h =
       let holds = stripe-held id start view _ _ rest h.0 in (
-        calling-more start view next _ _ _ h.0 more,
+        worked-more start view next _ h.0 more,
         live-more id Write view next more holds h.1,
         steady-more view next (Phase id.index) more (phase-steady id.index Write view holds) ∙ h.2,
         h.3,
       )
   stage-later (Placed slot layer) h =
       let holds = stripe-held id start view _ _ rest h.0 in (
-        calling-more start view next _ _ _ h.0 more,
+        worked-more start view next _ h.0 more,
         live-more id Write view next more holds h.1,
         steady-more view next (Phase id.index) more (phase-steady id.index Write view holds) ∙ h.2,
         h.3,
@@ -103,34 +105,34 @@ module _ (id : Id) (start view next : View) (rest : IsAtRest start) (more : Know
         h.5,
       )
   stage-later (TakingList taking) h = (
-    calling-more start view next _ _ _ h.0 more,
+    worked-more start view next _ h.0 more,
     out-more id view next more (stripe-held id start view _ _ rest h.0) h.1,
     taking-anew _ view taking next (taking-later _ view taking view next more h.2),
   )
-  stage-later Locked h = (calling-more start view next _ _ _ h.0 more, out-more id view next more (both-stripe id start view _ _ rest h.0) h.1)
+  stage-later Locked h = (worked-more start view next _ h.0 more, out-more id view next more (both-stripe id start view _ _ rest h.0) h.1)
   stage-later (Headed head) h = (
-    calling-more start view next _ _ _ h.0 more,
+    worked-more start view next _ h.0 more,
     out-more id view next more (both-stripe id start view _ _ rest h.0) h.1,
     steady-more view next SlotHead more (listed-steady view SlotHead (both-list id start view _ _ rest h.0) refl) ∙ h.2,
   )
   stage-later Linked h =
       let held = both-list id start view _ _ rest h.0 in (
-        calling-more start view next _ _ _ h.0 more,
+        worked-more start view next _ h.0 more,
         out-more id view next more (both-stripe id start view _ _ rest h.0) h.1,
         steady-more view next (SlotNext id.index) more (listed-steady view (SlotNext id.index) held refl)
             ∙ (h.2 ∙ sym (steady-more view next SlotHead more (listed-steady view SlotHead held refl))),
       )
-  stage-later InFront h = (calling-more start view next _ _ _ h.0 more, out-more id view next more (both-stripe id start view _ _ rest h.0) h.1)
+  stage-later InFront h = (worked-more start view next _ h.0 more, out-more id view next more (both-stripe id start view _ _ rest h.0) h.1)
   stage-later Destroyed h = (
-    calling-more start view next _ _ _ h.0 more,
-    destroyed-later id start view next (more.since, more.known) (λ entries adds. adds-more start view next entries (calling-role start view view _ _ _ h.0) adds more) h.1,
+    worked-more start view next _ h.0 more,
+    destroyed-later id start view next (more.since, more.known) (λ entries adds. adds-more start view next entries (worked-role start view _ h.0) adds more) h.1,
   )
   stage-later (Leaving answer) h = (
     h.0,
     h.1,
-    calling-more start view next _ _ _ h.2 more,
+    worked-more start view next _ h.2 more,
     h.3,
-    answer-later id start view next answer (more.since, more.known) (λ entries adds. adds-more start view next entries (calling-role start view view _ _ _ h.2) adds more) h.4,
+    answer-later id start view next answer (more.since, more.known) (λ entries adds. adds-more start view next entries (worked-role start view _ h.2) adds more) h.4,
   )
 
 pub destroying-later : (first : DestroyOp) (start : View) (operation : DestroyOp) (view next : View) → KnowsMore view next → IsUnmaking first start operation view → IsUnmaking first start operation next

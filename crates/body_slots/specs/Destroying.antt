@@ -21,8 +21,9 @@ use Rattle.core_state.specs.Encoding.{phase_out, phase_join}
 use Rattle.pass_table.specs.declared.turn.Turn.{Turn}
 use Rattle.pass_table.specs.TakeTurns.{taking_of, IsTaking, turns_left}
 use Rattle.pass_table.specs.Holding.{IsAtRest}
-use Rattle.pass_table.specs.Calls.{Adds, AtPoint, MakesAt, IsCalling, IsTurn}
+use Rattle.pass_table.specs.Calls.{Adds, AtPoint, MakesAt, IsTurn}
 use Rattle.pass_table.specs.Bodies.{KnowsLive, IsGoneAt}
+use Rattle.pass_table.specs.Work.{IsCalling}
 use Rattle.body_slots.specs.declared.answers.DestroyRefused.{DestroyRefused}
 use Rattle.body_slots.specs.declared.answers.DestroyRefused.TheVariants.{Gone, InUse}
 use Rattle.body_slots.specs.declared.destroy_op.DestroyStage.{DestroyStage}

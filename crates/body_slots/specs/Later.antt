@@ -21,9 +21,11 @@ use Rattle.core_state.specs.Quietly.{IsSteady, of_pass}
 use Rattle.pass_table.specs.Knowing.{KnowsMore}
 use Rattle.pass_table.specs.Holding.{IsAtRest}
 use Rattle.pass_table.specs.TakeTurns.{taking-later}
-use Rattle.pass_table.specs.Calls.{Adds, MakesAt, IsCalling}
-use Rattle.pass_table.proofs.Calling.{adds-more, point-later, calling-role, calling-sizes, calling-mode, calling-more, steady-more}
+use Rattle.pass_table.specs.Calls.{Adds, MakesAt}
+use Rattle.pass_table.proofs.Calling.{adds-more, point-later, steady-more}
 use Rattle.pass_table.proofs.TakingTurns.{taking-anew}
+use Rattle.pass_table.proofs.WorkLater.{worked-role, worked-sizes, worked-mode, worked-more}
+use Rattle.pass_table.specs.Work.{IsCalling}
 use Rattle.body_slots.specs.declared.answers.Full.{Full}
 use Rattle.body_slots.specs.declared.create_op.CreateStage.{CreateStage}
 use Rattle.body_slots.specs.declared.create_op.CreateStage.TheVariants.{Taking, Locked, First, Linked, Taken, Fields, Filled, Leaving}
@@ -38,9 +40,9 @@ pub list-held : (start view : View) (task : Task) (entries : List Entry) → IsA
 list-held start view task entries rest calling =
     let lock = index_lock start.config in
     let held : Holds view lock Write =
-    calling-mode start view view (list_taken start.config) task entries calling rest lock ∙ ap (λ (t : Bool). cond {A = Option Mode} t (Some Write) None) (eq-eqb lock lock refl)
+    worked-mode start view _ calling rest lock ∙ ap (λ (t : Bool). cond {A = Option Mode} t (Some Write) None) (eq-eqb lock lock refl)
     in
-    subst (λ (c : Config). Holds view (index_lock c) Write) (sym (calling-sizes start view view (list_taken start.config) task entries calling)) held
+    subst (λ (c : Config). Holds view (index_lock c) Write) (sym (worked-sizes start view _ calling)) held
 
 -- ---- words
 
@@ -81,23 +83,23 @@ answer-later layer bounds user start view next (Err refused) later adds was = re
 
 taken-off-later : (start view next : View) (index : ℕ) → KnowsMore view next → IsTakenOff start view index → IsTakenOff start next index
 taken-off-later start view next index more taken =
-    record { calling = calling-more start view next (list_taken start.config) (Creating index) [] taken.calling more; below = taken.below }
+    record { calling = worked-more start view next _ taken.calling more; below = taken.below }
 
 module _ (first : CreateOp) (start view next : View) (rest : IsAtRest start) (more : KnowsMore view next) where
   stage-later : (stage : CreateStage) → AtCreate first start view stage → AtCreate first start next stage
   stage-later (Taking taking) h = (
-    calling-more start view next _ _ _ h.0 more,
+    worked-more start view next _ h.0 more,
     taking-anew _ view taking next (taking-later _ view taking view next more h.1),
   )
-  stage-later Locked h = calling-more start view next _ _ _ h more
+  stage-later Locked h = worked-more start view next _ h more
   stage-later (First index) h = (
-    calling-more start view next _ _ _ h.0 more,
+    worked-more start view next _ h.0 more,
     h.1,
     steady-more view next SlotHead more (listed-steady view SlotHead (list-held start view _ _ rest h.0) refl) ∙ h.2,
   )
   stage-later (Linked index link) h =
       let held = list-held start view _ _ rest h.0 in (
-        calling-more start view next _ _ _ h.0 more,
+        worked-more start view next _ h.0 more,
         h.1,
         steady-more view next SlotHead more (listed-steady view SlotHead held refl) ∙ h.2,
         steady-more view next (SlotNext index) more (listed-steady view (SlotNext index) held refl) ∙ h.3,
@@ -118,8 +120,8 @@ module _ (first : CreateOp) (start view next : View) (rest : IsAtRest start) (mo
       )
   stage-later (Leaving answer) h = (
     h.0,
-    calling-more start view next _ _ _ h.1 more,
-    answer-later first.layer first.bounds first.user start view next answer (more.since, more.known) (λ entries adds. adds-more start view next entries (calling-role start view view _ _ _ h.1) adds more) h.2,
+    worked-more start view next _ h.1 more,
+    answer-later first.layer first.bounds first.user start view next answer (more.since, more.known) (λ entries adds. adds-more start view next entries (worked-role start view _ h.1) adds more) h.2,
   )
 
 pub creating-later : (first : CreateOp) (start : View) (operation : CreateOp) (view next : View) → KnowsMore view next → IsMaking first start operation view → IsMaking first start operation next

@@ -1,7 +1,9 @@
 //! Creating and destroying a body in one call.
-ghost use Rattle.std.specs.Prelude.{◌<◌, IfOk, IfErr, OnOk};
+ghost use Rattle.std.specs.Prelude.{◌≡◌, ◌<◌, [], IfOk, IfErr, OnOk};
 ghost use Rattle.pass_table.specs.Passes.{view_of, IsIdle};
-ghost use Rattle.body_slots.specs.Answers.{HasCreated, WasFull, HasEnded};
+ghost use Rattle.pass_table.specs.Work.{Tells};
+ghost use Rattle.pass_table.specs.Belongings.{belongings_of};
+ghost use Rattle.body_slots.specs.Answers.{HasCreated, WasFull, KnowsLawful};
 ghost use Rattle.body_slots.specs.Destroying.{HasDestroyed, WasRefused};
 
 use crate::answers::{DestroyRefused, Full};
@@ -27,7 +29,9 @@ pub fn create<R: Wait>(
     requires idle { IsIdle world.now pass.old }
     requires in_layers { layer < world.now.map.layers }
     ensures idle { IsIdle world.now pass.new }
-    ensures ended { HasEnded (view_of pass.old) (view_of pass.new) }
+    ensures lawful { KnowsLawful (view_of pass.new) }
+    ensures tells { Tells (view_of pass.old) (view_of pass.new) [] }
+    ensures keeps { belongings_of (view_of pass.new) ≡ belongings_of (view_of pass.old) }
     ensures created { IfOk result (HasCreated layer bounds user (view_of pass.old) (view_of pass.new)) }
     ensures full { IfErr result (WasFull (view_of pass.old) (view_of pass.new)) }
 {
@@ -47,7 +51,9 @@ pub fn destroy<R: Wait>(
     requires idle { IsIdle world.now pass.old }
     requires below { id.index < world.now.map.bodies }
     ensures idle { IsIdle world.now pass.new }
-    ensures ended { HasEnded (view_of pass.old) (view_of pass.new) }
+    ensures lawful { KnowsLawful (view_of pass.new) }
+    ensures tells { Tells (view_of pass.old) (view_of pass.new) [] }
+    ensures keeps { belongings_of (view_of pass.new) ≡ belongings_of (view_of pass.old) }
     ensures destroyed { OnOk result (HasDestroyed id (view_of pass.old) (view_of pass.new)) }
     ensures refused { IfErr result (WasRefused id (view_of pass.old) (view_of pass.new)) }
 {

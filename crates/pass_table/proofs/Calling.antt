@@ -1,12 +1,11 @@
 -- How a call of several steps goes on.
-use Rattle.std.specs.Prelude.{All, IfSome, fold, option_map, option_to_list}
+use Rattle.std.specs.Prelude.{All, IfSome, option_map, option_to_list}
 use Rattle.std.proofs.Common.{◌≡◌, ◌≢◌, ℕ, suc, ◌+◌, ◌<◌, List, [], ◌∷◌, ◌++◌, Bool, false, Option, Some, None, cond, get_or, take, drop, append_assoc, inl, inr, refl, ap, sym, ◌∙◌, subst, arith}
 use Rattle.std.specs.List.{cons_option}
 use Rattle.std.proofs.lemmas.Bool.{eq-eqb, ne_eqb}
 use Rattle.std.proofs.lemmas.Option.{same_Some}
 use Rattle.std.proofs.lemmas.List.{append-nil}
 use Rattle.std.proofs.lemmas.List.Elements.{All-head, All-tail, All-nil, All-cons, filter_map-append}
-use Rattle.std.proofs.lemmas.List.Sums.{fold-append}
 use Rattle.scene_model.specs.declared.entry.Entry.{Entry}
 use Rattle.scene_model.specs.declared.entry.Made.{Made}
 use Rattle.word_map.specs.declared.config.Config.{Config}
@@ -17,13 +16,12 @@ use Rattle.core_state.specs.declared.item.Item.{Item}
 use Rattle.core_state.specs.declared.view.Mode.{Mode}
 use Rattle.core_state.specs.declared.view.Mode.TheVariants.{Write}
 use Rattle.core_state.specs.declared.view.LockStep.{LockStep}
-use Rattle.core_state.specs.declared.view.LockStep.TheVariants.{Taken as TakenStep, Released}
+use Rattle.core_state.specs.declared.view.LockStep.TheVariants.{Released}
 use Rattle.core_state.specs.declared.view.Task.TheVariants.{Nothing}
-use Rattle.core_state.specs.declared.view.Task.{Task}
 use Rattle.core_state.specs.declared.view.Call.{Call}
 use Rattle.core_state.specs.declared.view.View.{View}
 use Rattle.core_state.specs.Log.{word, history, IsPrefix}
-use Rattle.core_state.specs.View.{number_in, IsPass, known_word, mode_of, mode_after, no_call}
+use Rattle.core_state.specs.View.{number_in, IsPass, known_word, no_call}
 use Rattle.core_state.specs.Locking.{MayRelease, release}
 use Rattle.core_state.specs.Event.{releases, of_locks}
 use Rattle.core_state.specs.Core.{word_of, scene_of}
@@ -40,10 +38,9 @@ use Rattle.pass_table.specs.Knowing.{KnowsMore}
 use Rattle.pass_table.specs.Turning.{AtMostOneStep, MadeBy, Turned, LostLock, IsHeldUp}
 use Rattle.pass_table.specs.declared.turn.Turn.TheVariants.{More, Again}
 use Rattle.pass_table.specs.declared.take_op.TakeOp.{TakeOp}
-use Rattle.pass_table.specs.Holding.{LetGo, IsAtRest}
-use Rattle.pass_table.specs.Trying.{Waited}
-use Rattle.pass_table.specs.TakeTurns.{taking_of, HasTaken, turns_after, turns_left, more-quiet}
-use Rattle.pass_table.specs.Calls.{own_entry, own_entries, Adds, AtPoint, Advances, StoresWord, IsCalling, RestsAgain}
+use Rattle.pass_table.specs.Holding.{LetGo}
+use Rattle.pass_table.specs.TakeTurns.{turns_after, turns_left, more-quiet}
+use Rattle.pass_table.specs.Calls.{own_entry, own_entries, Adds, AtPoint, Advances, StoresWord}
 use Rattle.pass_table.proofs.Knowing.{came-others}
 use Rattle.pass_table.proofs.Turning.{one-step, made-entry}
 
@@ -239,87 +236,6 @@ module _ (view next : View) (name : Name) (value : ℕ) (stores_word : StoresWor
   pub word-beside : (other : Name) → name ≢ other → IsSteady view other → known_word next other ≡ known_word view other
   word-beside other apart steady = stored-steady view next stores_word.item stores_word.advances sizes other (λ same. apart (sym stores_word.named ∙ same)) steady
 
--- ---- calls under way
-
-module _ (start view next : View) (steps : List LockStep) (task : Task) (entries : List Entry) (calling : IsCalling start view steps task entries) where
-  pub calling-role : view.role ≡ start.role
-  calling-role = ap (λ (v : View). v.role) calling.left
-
-  pub calling-sizes : view.config ≡ start.config
-  calling-sizes = ap (λ (v : View). v.config) calling.left
-
-  -- one part more
-  calling-left : (locks more : List LockStep) → next ≡ record view { known = next.known; joined = next.joined; locks = locks; call = next.call } → locks ≡ start.locks ++ more
-      → next ≡ record start { known = next.known; joined = next.joined; locks = start.locks ++ more; call = next.call }
-  calling-left locks more left same =
-      left
-      ∙ (ap (λ (v : View). record v { known = next.known; joined = next.joined; locks = locks; call = next.call }) calling.left
-      ∙ ap (λ (l : List LockStep). record start { known = next.known; joined = next.joined; locks = l; call = next.call }) same)
-
-  -- others made steps
-  pub calling-more : KnowsMore view next → IsCalling start next steps task entries
-  calling-more more = record {
-    adds = adds-more start view next entries calling-role calling.adds more;
-    doing = ap (λ (v : View). v.call.task) more.rest ∙ calling.doing;
-    left = calling-left view.locks steps (more.rest ∙ fix) (ap (λ (v : View). v.locks) calling.left);
-  }
-    where
-      fix : record view { known = next.known; joined = None } ≡ record view { known = next.known; joined = next.joined; locks = view.locks; call = next.call }
-      fix = λ i. record view { known = next.known; joined = sym (ap (λ (v : View). v.joined) more.rest) i; locks = view.locks; call = sym (ap (λ (v : View). v.call) more.rest) i }
-
-  -- the pass made one, with this entry or none, on no lock or this
-  pub calling-made : (made : Option Made) (more : List LockStep) (after : Task) → MadeBy view next made
-      → next ≡ record view { known = next.known; joined = next.joined; locks = view.locks ++ more; call = next.call } → next.call.task ≡ after
-      → IsCalling start next (steps ++ more) after (entries ++ option_to_list (option_map (λ (m : Made). m.entry) made))
-  calling-made made more after by left doing = record {
-    adds = adds-made start view next entries made calling-role calling.adds by;
-    doing = doing;
-    left =
-        calling-left (view.locks ++ more) (steps ++ more) left
-        (ap (λ (l : List LockStep). l ++ more) (ap (λ (v : View). v.locks) calling.left) ∙ append_assoc start.locks steps more);
-  }
-
-  -- none, and on no lock
-  pub calling-on : (after : Task) → MadeBy view next None → next ≡ record view { known = next.known; joined = next.joined; call = next.call } → next.call.task ≡ after → IsCalling start next steps after entries
-  calling-on after by left doing =
-      record {
-        adds = adds-none start view next entries calling-role calling.adds by;
-        doing = doing;
-        left = calling-left view.locks steps left (ap (λ (v : View). v.locks) calling.left);
-      }
-
-  -- how it holds a lock
-  pub calling-mode : IsAtRest start → (lock : ℕ) → mode_of view.locks lock ≡ mode_of steps lock
-  calling-mode rest lock =
-      ap (λ (v : View). mode_of v.locks lock) calling.left
-      ∙ (fold-append (mode_after lock) None start.locks steps ∙ ap (λ (o : Option Mode). fold (mode_after lock) o steps) (rest.free lock))
-
-  -- the pass made one with this entry, on no lock
-  pub calling-entry : (made : Made) (after : Task) → MadeBy view next (Some made) → next ≡ record view { known = next.known; joined = next.joined; call = next.call } → next.call.task ≡ after
-      → IsCalling start next steps after (entries ++ made.entry ∷ [])
-  calling-entry made after by left doing = record {
-    adds = adds-made start view next entries (Some made) calling-role calling.adds by;
-    doing = doing;
-    left = calling-left view.locks steps left (ap (λ (v : View). v.locks) calling.left);
-  }
-
-  -- one on this lock, without an entry
-  pub calling-lock : (step : LockStep) (after : Task) → MadeBy view next None
-      → next ≡ record view { known = next.known; joined = next.joined; locks = view.locks ++ step ∷ []; call = next.call } → next.call.task ≡ after
-      → IsCalling start next (steps ++ step ∷ []) after entries
-  calling-lock step after by left doing = subst (IsCalling start next (steps ++ step ∷ []) after) (append-nil entries) (calling-made None (step ∷ []) after by left doing)
-
-  -- the number of its pass
-  pub calling-pass : IsPass view calling.adds.number
-  calling-pass = ap number_in calling-role ∙ calling.adds.pass
-
-  -- with no lock held at the end the pass is at rest again
-  pub calling-ends : IsAtRest start → task ≡ Nothing → ((lock : ℕ) → mode_of steps lock ≡ None) → RestsAgain start view
-  calling-ends rest done free = record {
-    rest = record { free = λ lock. calling-mode rest lock ∙ free lock; done = calling.doing ∙ done };
-    left = calling.left ∙ (λ i. record start { known = view.known; joined = view.joined; locks = sym (ap (λ (v : View). v.locks) calling.left) i; call = view.call });
-  }
-
 -- ---- letting a lock go
 
 module _ (view next : View) (lock found : ℕ) (go : LetGo view lock found next) where
@@ -347,22 +263,6 @@ module _ (view next : View) (lock found : ℕ) (go : LetGo view lock found next)
 
 -- ---- taking a lock
 
--- a turn that took it
-pub taken-calling : (start view next : View) (steps : List LockStep) (task : Task) (entries : List Entry) (lock : ℕ) (mode : Mode) → IsCalling start view steps task entries
-    → HasTaken (taking_of lock mode) view next → MadeBy view next None → IsCalling start next (steps ++ TakenStep lock mode ∷ []) task entries
-taken-calling start view next steps task entries lock mode calling taken by =
-    let rest = taken.left.rest in
-    calling-lock start view next steps task entries calling (TakenStep lock mode) task by
-    (rest ∙ (λ i. record view { known = next.known; joined = sym (ap (λ (v : View). v.joined) rest) i; locks = view.locks ++ TakenStep lock mode ∷ []; call = sym (ap (λ (v : View). v.call) rest) i }))
-    (ap (λ (v : View). v.call.task) rest ∙ calling.doing)
-
--- or did not
-pub waiting-calling : (start view next : View) (steps : List LockStep) (task : Task) (entries : List Entry) → IsCalling start view steps task entries → Waited view next → MadeBy view next None
-    → IsCalling start next steps task entries
-waiting-calling start view next steps task entries calling waited by =
-    calling-on start view next steps task entries calling task by (waited.rest ∙ (λ i. record view { known = next.known; joined = next.joined; call = sym (ap (λ (v : View). v.call) waited.rest) i }))
-    (ap (λ (v : View). v.call.task) waited.rest ∙ calling.doing)
-
 -- how far such turns come, with so many more to make afterwards
 pub turned-more : (T U : Type 0) (more : ℕ) (view next : View) (mode : Mode) (before after : ℕ) → mode ≡ Write → Turned {T = T} More view next mode before after → Turned {T = U} More view next Write (more + before) (more + after)
 turned-more T U more view next mode before after same (inl less) = inl (omega arith)
@@ -379,11 +279,3 @@ some-left operation = go operation.loaded
     go : (o : Option ℕ) → 0 < turns_after o
     go None = omega arith
     go (Some word) = omega arith
-
--- a call that is begun
-pub calling-begun : (view : View) (number : ℕ) → IsPass view number → IsAtRest view → IsCalling view view [] Nothing []
-calling-begun view number pass rest = record {
-  adds = Adds-refl view number pass;
-  doing = rest.done;
-  left = λ i. record view { locks = sym (append-nil view.locks) i };
-}

@@ -14,6 +14,7 @@ use Rattle.core_state.specs.declared.view.View.{View}
 use Rattle.core_state.specs.View.{number_in, IsPass, mode_of, mode_after}
 use Rattle.pass_table.specs.Knowing.{KnowsMore, StoresAlone, more-alone}
 use Rattle.pass_table.specs.Holding.{IsAtRest}
+use Rattle.pass_table.specs.Belongings.{belongings_of}
 use Rattle.pass_table.proofs.Calling.{adds-more}
 use Rattle.pass_table.specs.Work.{is_told, told_store, told_stores, Tells, Work, HasWorked}
 
@@ -88,6 +89,10 @@ module _ (start view : View) (w : Work) (worked : HasWorked start view w) where
 
   pub worked-written : view.written ≡ w.written
   worked-written = ap (λ (v : View). v.written) worked.left
+
+  -- what the pass has beside its locks and its task
+  pub worked-keeps : belongings_of view ≡ record (belongings_of start) { batches = w.batches; loose = w.loose; written = w.written }
+  worked-keeps = ap belongings_of worked.left
 
   -- how it holds a lock
   pub worked-mode : IsAtRest start → (lock : ℕ) → mode_of view.locks lock ≡ mode_of w.steps lock

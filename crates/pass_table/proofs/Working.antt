@@ -28,6 +28,7 @@ use Rattle.pass_table.specs.Holding.{LetGo, IsAtRest}
 use Rattle.pass_table.specs.Trying.{Waited}
 use Rattle.pass_table.specs.TakeTurns.{taking_of, HasTaken}
 use Rattle.pass_table.specs.Calls.{own_entry, Adds, AtPoint, StoresWord}
+use Rattle.pass_table.specs.Belongings.{belongings_of}
 use Rattle.pass_table.proofs.Knowing.{step-alone}
 use Rattle.pass_table.proofs.Calling.{Adds-refl, adds-made, released-made, released-left, released-task}
 use Rattle.pass_table.proofs.WorkLater.{same_pass, none-told, tells_on, tells-alone, worked-role, worked-pass, worked-mode}
@@ -177,6 +178,17 @@ module _ (start view next : View) (w : Work) (worked : HasWorked start view w) w
         }));
   }
 
+  -- a step on a word that is not told, with this entry or none, which left the pass with this task
+  pub worked-made : (name : Name) (made : Option Made) (task : Task) → is_told name ≡ false → StoresAlone view next name → MadeBy view next made
+      → next ≡ record view { known = next.known; joined = next.joined; call = next.call } → next.call.task ≡ task
+      → HasWorked start next (record w { task = task; entries = w.entries ++ option_to_list (option_map (λ (m : Made). m.entry) made) })
+  worked-made name made task silent alone by left doing = record {
+    adds = adds-made start view next w.entries made (worked-role start view w worked) worked.adds by;
+    tells = tells-alone start view next w.stores name (worked-role start view w worked) worked.tells alone silent;
+    doing = doing;
+    left = left ∙ ap (λ (v : View). record v { known = next.known; joined = next.joined; call = next.call }) worked.left;
+  }
+
   -- a word was stored, with this entry or none, which left the pass with this task, these batches and these nodes
   module _ (name : Name) (value : ℕ) (made : Option Made) (task : Task) (batches : List Batch) (loose : List ℕ) (written : List Store)
       (word : StoresWord view next name value) (by : MadeBy view next made) (doing : next.call.task ≡ task)
@@ -220,6 +232,10 @@ done-prefix start next o done = (done.adds.since, done.adds.known)
 -- a pass that does nothing
 pub done-idle : (view : View) (number : ℕ) → IsPass view number → IsAtRest view → HasDone view view (idle view)
 done-idle view number pass rest = record { adds = Adds-refl view number pass; tells = tells-refl view number pass; rest = rest; left = refl }
+
+-- what the pass has afterwards beside its locks and its task
+pub done-keeps : (start next : View) (o : Outcome) → HasDone start next o → belongings_of next ≡ record (belongings_of start) { batches = o.batches; loose = o.loose; written = o.written }
+done-keeps start next o done = ap belongings_of done.left
 
 -- two parts one after the other
 pub done-then : (start mid next : View) (first second : Outcome) → HasDone start mid first → HasDone mid next second → HasDone start next (followed first second)

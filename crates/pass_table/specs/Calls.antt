@@ -5,12 +5,9 @@ use Rattle.scene_model.specs.declared.entry.Made.{Made}
 use Rattle.word_map.specs.declared.name.Name.{Name}
 use Rattle.core_state.specs.declared.item.Item.{Item}
 use Rattle.core_state.specs.declared.view.Mode.{Mode}
-use Rattle.core_state.specs.declared.view.LockStep.{LockStep}
-use Rattle.core_state.specs.declared.view.Task.{Task}
 use Rattle.core_state.specs.declared.view.View.{View}
 use Rattle.core_state.specs.View.{IsPass}
 use Rattle.pass_table.specs.Knowing.{IsOthers}
-use Rattle.pass_table.specs.Holding.{IsAtRest}
 use Rattle.pass_table.specs.Turning.{AtMostOneStep, MadeBy, Turned, GoesOn, Answers}
 use Rattle.pass_table.specs.declared.turn.Turn.{Turn}
 
@@ -67,20 +64,6 @@ pub record StoresWord (view next : View) (name : Name) (value : ℕ) : Type 0 wh
   pub named : item.name ≡ name
   pub is : item.value ≡ value
   pub advances : Advances view next (item ∷ [])
-
--- ---- calls
-
--- A call is under way: since it was begun the pass has made these entries and these steps on locks, and it is in the
--- middle of this task. All else but what it knows is as it was
-pub record IsCalling (start view : View) (steps : List LockStep) (task : Task) (entries : List Entry) : Type 0 where
-  pub adds : Adds start view entries
-  pub doing : view.call.task ≡ task
-  pub left : view ≡ record start { known = view.known; joined = view.joined; locks = start.locks ++ steps; call = view.call }
-
--- after a call that a pass made at rest it is at rest again, and all but what it knows, its locks and its call is as it was
-pub record RestsAgain (view next : View) : Type 0 where
-  pub rest : IsAtRest next
-  pub left : next ≡ record view { known = next.known; joined = next.joined; locks = next.locks; call = next.call }
 
 -- ---- turns
 

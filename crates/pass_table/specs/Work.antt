@@ -67,6 +67,13 @@ pub record HasWorked (start view : View) (w : Work) : Type 0 where
   pub doing : view.call.task ≡ w.task
   pub left : view ≡ record start { known = view.known; joined = view.joined; locks = start.locks ++ w.steps; call = view.call; batches = w.batches; loose = w.loose; written = w.written }
 
+-- A call is under way that made these steps on locks and these entries, and is in the middle of this task. It stored no
+-- word that is told, and all else but what the pass knows is as it was
+abbrev pub IsCalling : View → View → List LockStep → Task → List Entry → Type 0
+IsCalling start view steps task entries =
+    HasWorked start view
+    (record { steps = steps; task = task; entries = entries; stores = []; batches = start.batches; loose = start.loose; written = start.written })
+
 -- ---- parts of calls, which begin and end at rest
 
 -- what came of a part: what it made and stored, and what the pass has of batches and nodes

@@ -10,10 +10,14 @@ of_refusal : (P : Id → Type 0) (Q : Full → Type 0) (answer : Result Id Full)
 of_refusal P Q (Ok id) h = tt
 of_refusal P Q (Err refused) h = h
 
-pub returns-clause-ended : goal.returns-clause-ended
-returns-clause-ended g c =
-    let made = c.drive.ensures.answers c.new-creating.result (view_of c.args.pass.now) c.new-creating.ensures.under_way in
-    made.0
+pub returns-clause-lawful : goal.returns-clause-lawful
+returns-clause-lawful g c = (c.drive.ensures.answers c.new-creating.result (view_of c.args.pass.now) c.new-creating.ensures.under_way).0.lawful
+
+pub returns-clause-tells : goal.returns-clause-tells
+returns-clause-tells g c = (c.drive.ensures.answers c.new-creating.result (view_of c.args.pass.now) c.new-creating.ensures.under_way).0.tells
+
+pub returns-clause-keeps : goal.returns-clause-keeps
+returns-clause-keeps g c = (c.drive.ensures.answers c.new-creating.result (view_of c.args.pass.now) c.new-creating.ensures.under_way).0.keeps
 
 pub returns-clause-full : goal.returns-clause-full
 returns-clause-full g c =
@@ -21,4 +25,4 @@ returns-clause-full g c =
     of_refusal _ _ c.drive.result made.1
 
 pub returns-clause-idle : goal.returns-clause-idle
-returns-clause-idle g c = record { of = c.drive.ensures.of; rest = (returns-clause-ended g c).rests.rest }
+returns-clause-idle g c = record { of = c.drive.ensures.of; rest = (c.drive.ensures.answers c.new-creating.result (view_of c.args.pass.now) c.new-creating.ensures.under_way).0.rest }

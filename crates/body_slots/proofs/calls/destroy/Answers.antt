@@ -15,10 +15,14 @@ of_refusal : (P : Type 0) (Q : DestroyRefused → Type 0) (answer : Result (Unit
 of_refusal P Q (Ok done) h = tt
 of_refusal P Q (Err refused) h = h
 
-pub returns-clause-ended : goal.returns-clause-ended
-returns-clause-ended g c =
-    let made = c.drive.ensures.answers c.new-destroying.result (view_of c.args.pass.now) c.new-destroying.ensures.under_way in
-    made.0
+pub returns-clause-lawful : goal.returns-clause-lawful
+returns-clause-lawful g c = (c.drive.ensures.answers c.new-destroying.result (view_of c.args.pass.now) c.new-destroying.ensures.under_way).0.lawful
+
+pub returns-clause-tells : goal.returns-clause-tells
+returns-clause-tells g c = (c.drive.ensures.answers c.new-destroying.result (view_of c.args.pass.now) c.new-destroying.ensures.under_way).0.tells
+
+pub returns-clause-keeps : goal.returns-clause-keeps
+returns-clause-keeps g c = (c.drive.ensures.answers c.new-destroying.result (view_of c.args.pass.now) c.new-destroying.ensures.under_way).0.keeps
 
 pub returns-clause-destroyed : goal.returns-clause-destroyed
 returns-clause-destroyed g c =
@@ -35,4 +39,4 @@ returns-clause-refused g c =
     of_refusal _ _ c.drive.result (subst (λ (i : Id). IsDestroyAnswer i view next c.drive.result) c.new-destroying.ensures.begun made.1)
 
 pub returns-clause-idle : goal.returns-clause-idle
-returns-clause-idle g c = record { of = c.drive.ensures.of; rest = (returns-clause-ended g c).rests.rest }
+returns-clause-idle g c = record { of = c.drive.ensures.of; rest = (c.drive.ensures.answers c.new-destroying.result (view_of c.args.pass.now) c.new-destroying.ensures.under_way).0.rest }

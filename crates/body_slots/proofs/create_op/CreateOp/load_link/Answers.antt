@@ -1,7 +1,7 @@
 use Rattle.std.proofs.Common.{arith, subst, ◌<◌, sym, ◌∙◌}
 use Rattle.pass_table.specs.Passes.{view_of}
+use Rattle.pass_table.proofs.WorkLater.{worked-sizes}
 use Rattle.word_map.specs.declared.config.Config.{Config}
-use Rattle.pass_table.proofs.Calling.{calling-sizes}
 use Rattle.body_slots.specs.Creating.{AtCreate}
 use Rattle.body_slots.specs.declared.create_op.CreateStage.TheVariants.{First, Linked}
 use Rattle.body_slots.proofs.Stages.{went-on}
@@ -30,4 +30,4 @@ load_link-link-requires-clause-below c =
     let view = view_of c.args.pass.now in
     let way = c.requires.under_way in
     let at = subst (AtCreate way.first way.start view) c.requires.stage way.goes.1 in
-    subst (λ (s : Config). c.args.index < s.bodies) (sym (calling-sizes way.start view view _ _ _ at.0) ∙ c.requires.of.sizes) at.1
+    subst (λ (s : Config). c.args.index < s.bodies) (sym (worked-sizes way.start view _ at.0) ∙ c.requires.of.sizes) at.1

@@ -11,8 +11,8 @@ use Rattle.pass_table.specs.declared.take_op.TakeOp.{TakeOp}
 use Rattle.pass_table.specs.Stepping.{Stepped}
 use Rattle.pass_table.specs.TakeTurns.{taking_of, IsTaking}
 use Rattle.pass_table.specs.Passes.{view_of}
-use Rattle.pass_table.proofs.Calling.{calling-sizes}
 use Rattle.pass_table.proofs.Bodies.{body-load-step, body-load-made}
+use Rattle.pass_table.proofs.WorkLater.{worked-sizes}
 use Rattle.core_state.specs.View.{HoldsNot}
 use Rattle.body_slots.specs.declared.answers.DestroyRefused.TheVariants.{InUse}
 use Rattle.body_slots.specs.declared.destroy_op.DestroyStage.TheVariants.{Live, Joining, TakingList, Leaving}
@@ -44,7 +44,7 @@ returns-then-phase-eq0-clause-turn c =
     (subst (λ (t : TakeOp). stage_left (TakingList t) < 11) (sym c.new-taking.ensures.begun) (omega arith))
     (λ first start making at.
     let named = subst (λ (n : ℕ). Stepped MayLoadBody load_body view (Phase n) 0 0 phase next) (c.index.ensures.value ∙ ap (λ (i : Id). i.index) making.0) stepped in
-    let lock = c.index_lock-lock.ensures ∙ ap (λ (sizes : Config). index_lock sizes) (sym c.requires.of.sizes ∙ calling-sizes start view view _ _ _ at.0) in (
+    let lock = c.index_lock-lock.ensures ∙ ap (λ (sizes : Config). index_lock sizes) (sym c.requires.of.sizes ∙ worked-sizes start view _ at.0) in (
       phase-calling first.id start view next phase making.1 named at,
       phase-out first.id start view next phase making.1 named at c.if-phase-eq0.true,
       subst (λ (l : ℕ). IsTaking (taking_of l Write) next taking next) lock begun_now,
@@ -103,5 +103,5 @@ new-taking-requires-clause-free c =
     let next = view_of c.step_15-phase.new.pass in
     let phase = c.step_15-phase.result in
     let named = subst (λ (n : ℕ). Stepped MayLoadBody load_body view (Phase n) 0 0 phase next) (c.index.ensures.value ∙ ap (λ (i : Id). i.index) way.goes.0) c.step_15-phase.ensures.step in
-    let lock = c.index_lock-lock.ensures ∙ ap (λ (sizes : Config). index_lock sizes) (sym c.requires.of.sizes ∙ calling-sizes way.start view view _ _ _ at.0) in
+    let lock = c.index_lock-lock.ensures ∙ ap (λ (sizes : Config). index_lock sizes) (sym c.requires.of.sizes ∙ worked-sizes way.start view _ at.0) in
     subst (λ (l : ℕ). HoldsNot next l) (sym lock) (list-free id way.start next way.goes.1 (phase-calling id way.start view next phase way.goes.1 named at))

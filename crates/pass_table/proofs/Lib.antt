@@ -20,3 +20,4 @@ pub mod Working
 pub mod Between
 pub mod Telling
 pub mod Several
+pub mod Stages

@@ -1,2 +1,4 @@
 pub mod WalkSteps
 pub mod Keeping
+pub mod InOrder
+pub mod Replay

@@ -48,7 +48,7 @@ hull-by Counts More a b more sides h q below =
     )
 
 -- of an element of a list that is mapped
-map-back : {X Y : Type 0} (f : X → Y) (xs : List X) (y : Y) → Contains (map f xs) y → (x : X) × Contains xs x × (f x ≡ y)
+pub map-back : {X Y : Type 0} (f : X → Y) (xs : List X) (y : Y) → Contains (map f xs) y → (x : X) × Contains xs x × (f x ≡ y)
 map-back f [] y h = let none = h.1 in absurd (omega arith)
 map-back f (z ∷ xs) y h =
     elim (cases_cons (f z) (map f xs) y h) [

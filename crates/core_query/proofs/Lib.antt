@@ -2,3 +2,4 @@ pub mod WalkSteps
 pub mod Keeping
 pub mod InOrder
 pub mod Replay
+pub mod Reaching

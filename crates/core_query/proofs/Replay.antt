@@ -1,5 +1,5 @@
 -- The replay of the loads of a walk, and one load more: what the words read so far say of the place where the walk is.
-use Rattle.std.proofs.Common.{◌≡◌, ℕ, suc, ◌+◌, ◌<◌, ◌≤◌, List, [], ◌∷◌, ◌++◌, length, refl, ap, sym, ◌∙◌, subst, inl, inr, arith, append_assoc}
+use Rattle.std.proofs.Common.{◌≡◌, ◌≢◌, ℕ, suc, ◌+◌, ◌<◌, ◌≤◌, List, [], ◌∷◌, ◌++◌, length, refl, ap, sym, ◌∙◌, subst, inl, inr, arith, append_assoc}
 use Rattle.std.specs.Prelude.{Some, None, Option, Contains, nat_lt, slice_index, ◌==◌}
 use Rattle.std.proofs.lemmas.Bool.{cases_lt, cond_both}
 use Rattle.std.proofs.lemmas.Bool.Decides.{nat_tests}
@@ -53,6 +53,7 @@ module _ (query : Query) (P : List Load → Position → Type 0)
 -- the child and the sides of a bound that is being read were read
 pub record IsHalfRead (loads : List Load) (n k x : ℕ) (read : List ℕ) : Type 0 where
   pub low : k < 4
+  pub some : x ≢ 0
   pub some_left : length read < 6
   pub child : IsLoaded loads (Child n k) x
   pub sides : (q : ℕ) → q < length read → IsLoaded loads (Bound n k q) (slice_index read q)
@@ -104,7 +105,7 @@ module _ (query : Query) (loads : List Load) (new : Load) where
       cond_both (new.value == 0) _ _ (IsReplayed Longer) (λ none. next_child-replayed Longer rest stack n level k h.order)
       (λ some. record {
         order = h.order;
-        spot = record { low = h.spot; some_left = omega arith; child = loaded-last (Child n k) new.value (same_Some (Child n k) new.name next) refl; sides = λ q below. absurd (omega arith) };
+        spot = record { low = h.spot; some = grind (arith, nat_tests); some_left = omega arith; child = loaded-last (Child n k) new.value (same_Some (Child n k) new.name next) refl; sides = λ q below. absurd (omega arith) };
       })
   replayed-at rest stack (at_bound n level k x read) h next =
       cond_both (nat_lt (length (read ++ new.value ∷ [])) 6) _ _ (IsReplayed Longer)
@@ -112,6 +113,7 @@ module _ (query : Query) (loads : List Load) (new : Load) where
         order = h.order;
         spot = record {
           low = h.spot.low;
+          some = h.spot.some;
           some_left = grind (arith, nat_tests);
           child = loaded-before (Child n k) x h.spot.child;
           sides = sides-more n k x read h.spot (same_Some (Bound n k (length read)) new.name next);

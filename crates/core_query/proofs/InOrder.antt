@@ -14,10 +14,10 @@ use Rattle.core_state.specs.Walking.{words_of_layer, asked_words}
 use Rattle.core_state.proofs.Beginning.{cases_cons, contains_first}
 use Rattle.core_state.proofs.Opening.{none_in, only}
 
--- what follows a word that is read: never itself, and after a main word nothing of its layer
+-- what follows a word that is read: never itself; after a slot the main word of its layer, after a main word nothing of it
 abbrev pub IsNext : Name → List Name → Type 0
 IsNext (Main l) rest = (name : Name) → Contains rest name → layer_of name ≢ Some l
-IsNext (Slot l t) rest = ¬ Contains rest (Slot l t)
+IsNext (Slot l t) rest = (¬ Contains rest (Slot l t)) × Contains rest (Main l)
 IsNext _ rest = ⊥
 
 abbrev pub InOrder : List Name → Type 0
@@ -27,8 +27,17 @@ InOrder (name ∷ rest) = IsNext name rest × InOrder rest
 -- such a word has a layer, and does not come again
 pub next-once : (name : Name) (rest : List Name) → IsNext name rest → ((l : ℕ) × (layer_of name ≡ Some l)) × ¬ Contains rest name
 next-once (Main l) rest next = ((l, λ i. Some l), λ again. next (Main l) again (λ i. Some l))
-next-once (Slot l t) rest next = ((l, λ i. Some l), next)
+next-once (Slot l t) rest next = ((l, λ i. Some l), next.0)
 next-once _ rest next = absurd next
+
+-- so where a slot is still to be read, its main word is too
+pub order-main_last : (names : List Name) → InOrder names → (l t : ℕ) → Contains names (Slot l t) → Contains names (Main l)
+order-main_last [] order l t h = absurd (none_in (Slot l t) h)
+order-main_last (name ∷ rest) order l t h =
+    elim (cases_cons name rest (Slot l t) h) [
+      | inl same ↦ Contains-append_right (name ∷ []) rest (Main l) (subst (λ (n : Name). IsNext n rest) same order.0).1
+      | inr later ↦ Contains-append_right (name ∷ []) rest (Main l) (order-main_last rest order.1 l t later)
+    ]
 
 -- ---- numbers that ascend
 
@@ -85,10 +94,11 @@ layers-word c (layer ∷ layers) name h =
       | inr later ↦ let t = layers-word c layers name later in (t.0, Contains-append_right (layer ∷ []) layers t.0 t.1, t.2)
     ]
 
-slots-in-order : (layer : ℕ) (ts : List ℕ) (more : List Name) → Ascend ts → ((t : ℕ) → ¬ Contains more (Slot layer t)) → InOrder more → InOrder (map (Slot layer) ts ++ more)
-slots-in-order layer [] more ascend none h = h
-slots-in-order layer (t ∷ ts) more ascend none h = (
-  λ again.
+slots-in-order : (layer : ℕ) (ts : List ℕ) (more : List Name) → Ascend ts → ((t : ℕ) → ¬ Contains more (Slot layer t)) → Contains more (Main layer) → InOrder more
+    → InOrder (map (Slot layer) ts ++ more)
+slots-in-order layer [] more ascend none main h = h
+slots-in-order layer (t ∷ ts) more ascend none main h = (
+  (λ again.
       elim (Contains-append_cases (map (Slot layer) ts) more (Slot layer t) again) [
         | inl slot ↦
             let s = slot-among layer ts (Slot layer t) slot in
@@ -96,8 +106,8 @@ slots-in-order layer (t ∷ ts) more ascend none h = (
             let less = ascend.0 s.0 s.1 in
             omega arith
         | inr later ↦ none t later
-      ],
-  slots-in-order layer ts more ascend.1 none h,
+      ], Contains-append_right (map (Slot layer) ts) more (Main layer) main),
+  slots-in-order layer ts more ascend.1 none main h,
 )
   where
     same_slot : (x y : ℕ) → Slot layer x ≡ Slot layer y → x ≡ y
@@ -116,7 +126,8 @@ layers-in-order c (layer ∷ layers) ascend =
     in
     subst InOrder (sym (append_assoc (map (Slot layer) (range_with_len 0 c.slots)) (Main layer ∷ []) later))
     (slots-in-order layer (range_with_len 0 c.slots) (Main layer ∷ later) (range-ascends 0 c.slots)
-    (λ t among. elim (cases_cons (Main layer) later (Slot layer t) among) [ inl same ↦ absurd cc | inr more ↦ apart (Slot layer t) more (λ i. Some layer) ]) (apart, layers-in-order c layers ascend.1))
+    (λ t among. elim (cases_cons (Main layer) later (Slot layer t) among) [ inl same ↦ absurd cc | inr more ↦ apart (Slot layer t) more (λ i. Some layer) ])
+    (contains_first (Main layer) later) (apart, layers-in-order c layers ascend.1))
 
 pub asked-in-order : (c : Config) (mask : ℕ) → InOrder (asked_words c mask)
 asked-in-order c mask = layers-in-order c (filter (λ l. bit_at mask l == 1) (range_with_len 0 c.layers)) (filter-ascends (λ l. bit_at mask l == 1) (range_with_len 0 c.layers) (range-ascends 0 c.layers))

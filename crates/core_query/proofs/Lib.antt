@@ -6,3 +6,4 @@ pub mod Reaching
 pub mod Touching
 pub mod HalfRead
 pub mod Leading
+pub mod Staying

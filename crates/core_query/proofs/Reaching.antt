@@ -78,7 +78,7 @@ module _ (R : ℕ → ℕ → Type 0) (v : Waiting) (stack : List Waiting) where
 -- ---- trees
 
 module _ (nodes : Nodes) (core : Core) (trees : TreesSound nodes core) where
-  abbrev W : Name → ℕ
+  abbrev pub W : Name → ℕ
   W = word_in reader_scope core
 
   -- a child that is a node stands below its parent
@@ -126,15 +126,15 @@ module _ (nodes : Nodes) (core : Core) (trees : TreesSound nodes core) where
 
   -- ---- a walk that goes on with its stack
 
-  abbrev OnStack : List Waiting → ℕ → Type 0
+  abbrev pub OnStack : List Waiting → ℕ → Type 0
   OnStack stack a = (v : Waiting) × Contains stack v × Below W v.node a
 
-  record StackStays (loads : List Load) (rest : List Name) (stack : List Waiting) : Type 0 where
-    live : (a : ℕ) → OnStack stack a → IsLive (nodes.home a) × IfSome (layer_at_hand loads) (λ l. IsOfLayer l (nodes.home a))
-    apart : AllPairs (AreApart W) (map (λ v. v.node) stack)
-    levels : (v : Waiting) → Contains stack v → v.level ≤ suc (nodes.depth v.node)
-    read : (a : ℕ) (name : Name) → OnStack stack a ⊎ IsWalkedAt loads a → nodes.home a ≡ under name → ¬ Contains rest name
-    visited : (n : ℕ) → IsWalkedAt loads n → IsLive (nodes.home n) × ¬ OnStack stack n
+  pub record StackStays (loads : List Load) (rest : List Name) (stack : List Waiting) : Type 0 where
+    pub live : (a : ℕ) → OnStack stack a → IsLive (nodes.home a) × IfSome (layer_at_hand loads) (λ l. IsOfLayer l (nodes.home a))
+    pub apart : AllPairs (AreApart W) (map (λ v. v.node) stack)
+    pub levels : (v : Waiting) → Contains stack v → v.level ≤ suc (nodes.depth v.node)
+    pub read : (a : ℕ) (name : Name) → OnStack stack a ⊎ IsWalkedAt loads a → nodes.home a ≡ under name → ¬ Contains rest name
+    pub visited : (n : ℕ) → IsWalkedAt loads n → IsLive (nodes.home n) × ¬ OnStack stack n
 
   resting-none : (a : ℕ) → ¬ ReachesBySpot W a resting
   resting-none a h = elim h [ ]
@@ -143,13 +143,13 @@ module _ (nodes : Nodes) (core : Core) (trees : TreesSound nodes core) where
   child-reaches n level k a (the_node l j) = itself a
   child-reaches n level k a (by_child x l j h) = lower n h.0 h.1 a h.3 h.4 h.5
 
-  next-reaches : (rest : List Name) (stack : List Waiting) (a : ℕ) → Reaches W (next_node rest stack) a → OnStack stack a
+  pub next-reaches : (rest : List Name) (stack : List Waiting) (a : ℕ) → Reaches W (next_node rest stack) a → OnStack stack a
   next-reaches rest [] a (by_stack v among below) = absurd (none_in v among)
   next-reaches rest [] a (by_spot h) = absurd (resting-none a h)
   next-reaches rest (v ∷ stack) a (by_stack u among below) = (u, Contains-append_right (v ∷ []) stack u among, below)
   next-reaches rest (v ∷ stack) a (by_spot h) = (v, contains_first v stack, child-reaches v.node v.level 0 a h)
 
-  pop-stays : (loads : List Load) (rest : List Name) (stack : List Waiting) → StackStays loads rest stack → WalkStays nodes W loads (next_node rest stack)
+  pub pop-stays : (loads : List Load) (rest : List Name) (stack : List Waiting) → StackStays loads rest stack → WalkStays nodes W loads (next_node rest stack)
   pop-stays loads rest [] h = record {
     live = λ a reaches. h.live a (next-reaches rest [] a reaches);
     apart = h.apart;
@@ -192,9 +192,9 @@ module _ (nodes : Nodes) (core : Core) (trees : TreesSound nodes core) where
   -- ---- from one place to the next
 
   -- what is said of a walk stays, and it reaches no more
-  record Goes (loads longer : List Load) (at later : Position) : Type 0 where
-    stays : WalkStays nodes W longer later
-    less : (a : ℕ) → Reaches W later a → Reaches W at a
+  pub record Goes (loads longer : List Load) (at later : Position) : Type 0 where
+    pub stays : WalkStays nodes W longer later
+    pub less : (a : ℕ) → Reaches W later a → Reaches W at a
 
   goes-next : (loads longer : List Load) (at later : Position) → Goes loads longer at later → Goes loads longer at (next_node later.rest later.stack)
   goes-next loads longer at later g = record {
@@ -202,26 +202,26 @@ module _ (nodes : Nodes) (core : Core) (trees : TreesSound nodes core) where
     less = λ a reaches. let t = next-reaches later.rest later.stack a reaches in g.less a (by_stack t.0 t.1 t.2);
   }
 
-  goes-child : (loads longer : List Load) (at : Position) (rest : List Name) (stack : List Waiting) (n level k : ℕ) → Goes loads longer at (record { rest = rest; stack = stack; spot = at_child n level (k + 1) })
+  pub goes-child : (loads longer : List Load) (at : Position) (rest : List Name) (stack : List Waiting) (n level k : ℕ) → Goes loads longer at (record { rest = rest; stack = stack; spot = at_child n level (k + 1) })
       → Goes loads longer at (next_child rest stack n level k)
   goes-child loads longer at rest stack n level k g =
       cond_both (nat_lt k 3) _ _ (Goes loads longer at) (λ more. g) (λ last. goes-next loads longer at (record { rest = rest; stack = stack; spot = at_child n level (k + 1) }) g)
 
-  hand-reached : (spot : Spot) (n : ℕ) → IsAtHand spot n → ReachesBySpot W n spot
+  pub hand-reached : (spot : Spot) (n : ℕ) → IsAtHand spot n → ReachesBySpot W n spot
   hand-reached resting n hand = absurd hand
   hand-reached (at_child m level k) n hand = subst (λ (x : ℕ). ReachesBySpot W x (at_child m level k)) hand (the_node level k)
   hand-reached (at_bound m level k x read) n hand = subst (λ (y : ℕ). ReachesBySpot W y (at_bound m level k x read)) hand (the_node_of_bound level k x read)
 
   -- what was read last, at a node of which the walk reads on
-  record ReadsAt (loads longer : List Load) (spot later : Spot) (stack : List Waiting) : Type 0 where
-    layer : layer_at_hand longer ≡ layer_at_hand loads
-    walked : (n : ℕ) → IsWalkedAt longer n → IsWalkedAt loads n ⊎ (IsAtHand spot n × IsBegun later n)
-    less : (a : ℕ) → ReachesBySpot W a later → ReachesBySpot W a spot
-    hand : (n : ℕ) → IsAtHand later n → IsAtHand spot n
-    begun : (n : ℕ) → IsBegun spot n → IsBegun later n
-    waits : waiting_at later stack ≡ waiting_at spot stack
+  pub record ReadsAt (loads longer : List Load) (spot later : Spot) (stack : List Waiting) : Type 0 where
+    pub layer : layer_at_hand longer ≡ layer_at_hand loads
+    pub walked : (n : ℕ) → IsWalkedAt longer n → IsWalkedAt loads n ⊎ (IsAtHand spot n × IsBegun later n)
+    pub less : (a : ℕ) → ReachesBySpot W a later → ReachesBySpot W a spot
+    pub hand : (n : ℕ) → IsAtHand later n → IsAtHand spot n
+    pub begun : (n : ℕ) → IsBegun spot n → IsBegun later n
+    pub waits : waiting_at later stack ≡ waiting_at spot stack
 
-  stay-at : (loads longer : List Load) (rest : List Name) (stack : List Waiting) (spot later : Spot) → WalkStays nodes W loads (record { rest = rest; stack = stack; spot = spot }) → ReadsAt loads longer spot later stack
+  pub stay-at : (loads longer : List Load) (rest : List Name) (stack : List Waiting) (spot later : Spot) → WalkStays nodes W loads (record { rest = rest; stack = stack; spot = spot }) → ReadsAt loads longer spot later stack
       → Goes loads longer (record { rest = rest; stack = stack; spot = spot }) (record { rest = rest; stack = stack; spot = later })
   stay-at loads longer rest stack spot later h r = record {
     stays = record {
@@ -301,7 +301,7 @@ module _ (nodes : Nodes) (core : Core) (trees : TreesSound nodes core) where
           | inr back ↦ let deeper = below-deeper t.1 n up back in let depth = other.depth in omega arith
         ]
 
-    pushed-goes : Goes loads longer At Later
+    pub pushed-goes : Goes loads longer At Later
     pushed-goes = record {
       stays = record {
         live = λ a reaches. subst (λ (o : Option ℕ). IsLive (nodes.home a) × IfSome o (λ l. IsOfLayer l (nodes.home a))) (sym layer) (h.live a (less-push a reaches));
@@ -363,7 +363,7 @@ module _ (nodes : Nodes) (core : Core) (trees : TreesSound nodes core) where
         (λ none x y e low within. absurd (omega arith)) i j d less inside
     one-root _ value i j d less inside = absurd (omega arith)
 
-    on-root : (a : ℕ) → OnStack (roots_in new.name new.value) a → nodes.home a ≡ under new.name
+    pub on-root : (a : ℕ) → OnStack (roots_in new.name new.value) a → nodes.home a ≡ under new.name
     on-root a t =
         let home = roots t.0.node (named-root new.name new.value t.0 t.1).0 in
         below-home t.0.node a (subst Stands (sym home) tt) t.2 ∙ home
@@ -371,10 +371,10 @@ module _ (nodes : Nodes) (core : Core) (trees : TreesSound nodes core) where
     once : ((l : ℕ) × (layer_of new.name ≡ Some l)) × ¬ Contains rest new.name
     once = next-once new.name rest next
 
-    walked-before : (n : ℕ) → IsWalkedAt (loads ++ new ∷ []) n → IsWalkedAt loads n
+    pub walked-before : (n : ℕ) → IsWalkedAt (loads ++ new ∷ []) n → IsWalkedAt loads n
     walked-before n walked = elim (walked-cases loads new n walked) [ inl before ↦ before | inr last ↦ absurd (none-some once.0.0 (sym (ap layer_of last) ∙ once.0.1)) ]
 
-    root-stays : StackStays (loads ++ new ∷ []) rest (roots_in new.name new.value)
+    pub root-stays : StackStays (loads ++ new ∷ []) rest (roots_in new.name new.value)
     root-stays = record {
       live = λ a t.
           let home = sym (on-root a t) in (

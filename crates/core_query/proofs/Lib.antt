@@ -7,3 +7,4 @@ pub mod Touching
 pub mod HalfRead
 pub mod Leading
 pub mod Staying
+pub mod Spots

@@ -1,30 +1,22 @@
 -- Bounds that are read in part: a side more, and the sixth, after which a bound that has to touch the shape passes the test.
-use Rattle.std.proofs.Common.{◌≡◌, ◌≢◌, ℕ, zero, suc, ◌+◌, ◌<◌, ◌≤◌, List, [], ◌∷◌, ◌++◌, length, true, false, refl, ap, sym, ◌∙◌, subst, inl, inr, arith}
-use Rattle.std.specs.Prelude.{Some, Contains, nat_lt, nat_le, slice_index, ◌==◌, ◌-◌, ◌/◌, ◌%◌}
-use Rattle.std.proofs.lemmas.Bool.{cases_lt, cond_both, cond-true, cond-false, false≢true}
+use Rattle.std.proofs.Common.{◌≡◌, ℕ, ◌+◌, ◌<◌, List, [], ◌∷◌, ◌++◌, length, refl, ap, sym, ◌∙◌, inl, inr, arith}
+use Rattle.std.specs.Prelude.{nat_lt, slice_index}
+use Rattle.std.proofs.lemmas.Bool.{cases_lt, cond-true, cond-false}
 use Rattle.std.proofs.lemmas.Bool.Decides.{nat_tests}
-use Rattle.std.proofs.lemmas.Option.{none-some, same_Some}
 use Rattle.std.proofs.lemmas.List.{length_push, get_or_push, get_or_append_left}
-use Rattle.std.proofs.lemmas.List.Elements.{Contains-append_left, Contains-append_right, Contains-push}
 use Rattle.fixed_box.specs.FixBox.{words_of}
 use Rattle.fixed_box.specs.Touch.{Touch}
 use Rattle.fixed_box.specs.declared.fix_box.FixBox.{FixBox}
 use Rattle.word_map.specs.declared.name.Name.{Name}
-use Rattle.word_map.specs.declared.name.Name.TheVariants.{Child, Bound, Main, Slot}
+use Rattle.word_map.specs.declared.name.Name.TheVariants.{Bound}
 use Rattle.core_state.specs.declared.item.Load.{Load}
-use Rattle.core_state.specs.declared.view.Waiting.{Waiting}
 use Rattle.core_state.specs.declared.view.Walk.{Walk}
-use Rattle.core_state.specs.Core.{Core, word_of}
-use Rattle.core_state.specs.Encoding.{body_child, node_child, NamesRoot, Sides, sides_of, IsBox, Covers, bound_in}
+use Rattle.core_state.specs.Core.{Core}
+use Rattle.core_state.specs.Encoding.{Sides, sides_of, IsBox, Covers, bound_in}
 use Rattle.core_state.specs.Scope.{word_in}
-use Rattle.core_state.specs.WalkRecord.{IsLoaded, IsCandidate}
-use Rattle.core_state.specs.Walking.{Query, Spot, resting, at_child, at_bound, Position, waiting, next_node, next_child, roots_in, pushed, after_side, advance_from, next_word}
-use Rattle.core_state.specs.WalksLead.{walk_scope, HoldsOne, Way, to_entry, to_node, Leads, is_entry, by_node, ChildLeads, LeadsUnread, LeadsBySlot, LeadsByMain, LeadsBySpot, begun_bound, LeadsByPart, IsAhead, is_found, by_slot, by_main, by_stack, by_child, by_part, mixed, IsReadInPart}
-use Rattle.core_state.proofs.Beginning.{cases_cons, contains_first}
-use Rattle.core_state.proofs.Opening.{none_in}
+use Rattle.core_state.specs.Walking.{Query}
+use Rattle.core_state.specs.WalksLead.{walk_scope, HoldsOne, begun_bound, mixed, IsReadInPart}
 use Rattle.core_guard.proofs.Leaving.{covers-more}
-use Rattle.core_query.proofs.InOrder.{IsNext}
-use Rattle.core_query.proofs.Replay.{IsHalfRead, IsReplayed, sides-more}
 use Rattle.core_query.proofs.Touching.{Passes, six-pass}
 
 -- ---- bounds that are read in part

@@ -98,15 +98,18 @@ slots-in-order : (layer : ℕ) (ts : List ℕ) (more : List Name) → Ascend ts 
     → InOrder (map (Slot layer) ts ++ more)
 slots-in-order layer [] more ascend none main h = h
 slots-in-order layer (t ∷ ts) more ascend none main h = (
-  (λ again.
-      elim (Contains-append_cases (map (Slot layer) ts) more (Slot layer t) again) [
-        | inl slot ↦
-            let s = slot-among layer ts (Slot layer t) slot in
-            let same = same_slot s.0 t s.2 in
-            let less = ascend.0 s.0 s.1 in
-            omega arith
-        | inr later ↦ none t later
-      ], Contains-append_right (map (Slot layer) ts) more (Main layer) main),
+  (
+    λ again.
+        elim (Contains-append_cases (map (Slot layer) ts) more (Slot layer t) again) [
+          | inl slot ↦
+              let s = slot-among layer ts (Slot layer t) slot in
+              let same = same_slot s.0 t s.2 in
+              let less = ascend.0 s.0 s.1 in
+              omega arith
+          | inr later ↦ none t later
+        ],
+    Contains-append_right (map (Slot layer) ts) more (Main layer) main,
+  ),
   slots-in-order layer ts more ascend.1 none main h,
 )
   where

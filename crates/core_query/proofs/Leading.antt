@@ -1,5 +1,5 @@
 -- What is ahead of a walk after one load more: each body that was ahead of it is so still, or is a candidate.
-use Rattle.std.proofs.Common.{◌≡◌, ◌≢◌, ℕ, zero, suc, ◌+◌, ◌<◌, ◌≤◌, List, [], ◌∷◌, ◌++◌, length, true, false, refl, ap, sym, ◌∙◌, subst, inl, inr, arith}
+use Rattle.std.proofs.Common.{◌≡◌, ℕ, zero, suc, ◌+◌, ◌≤◌, List, [], ◌∷◌, ◌++◌, length, refl, ap, sym, ◌∙◌, subst, inl, inr, arith}
 use Rattle.std.specs.Prelude.{Some, Contains, nat_lt, nat_le, if◌then◌else◌, slice_index, ◌==◌, ◌-◌, ◌/◌, ◌%◌}
 use Rattle.std.proofs.lemmas.Bool.{cases_lt, cond_both, false≢true}
 use Rattle.std.proofs.lemmas.Bool.Decides.{nat_tests}
@@ -15,11 +15,11 @@ use Rattle.core_state.specs.declared.item.Load.{Load}
 use Rattle.core_state.specs.declared.view.Waiting.{Waiting}
 use Rattle.core_state.specs.declared.view.Walk.{Walk}
 use Rattle.core_state.specs.Core.{Core, word_of}
-use Rattle.core_state.specs.Encoding.{body_child, node_child, NamesRoot, Sides, sides_of, bound_in}
+use Rattle.core_state.specs.Encoding.{node_child, NamesRoot, Sides, sides_of, bound_in}
 use Rattle.core_state.specs.Scope.{word_in}
 use Rattle.core_state.specs.WalkRecord.{IsLoaded, IsCandidate}
-use Rattle.core_state.specs.Walking.{Query, Spot, resting, at_child, at_bound, Position, waiting, next_node, next_child, roots_in, pushed, after_side, advance_from, next_word}
-use Rattle.core_state.specs.WalksLead.{walk_scope, HoldsOne, Way, to_entry, to_node, Leads, is_entry, by_node, ChildLeads, LeadsUnread, LeadsBySlot, LeadsByMain, LeadsBySpot, begun_bound, LeadsByPart, IsAhead, is_found, by_slot, by_main, by_stack, by_child, by_part, IsReadInPart, OnlyWidens}
+use Rattle.core_state.specs.Walking.{Query, Spot, resting, at_child, at_bound, Position, waiting, next_node, next_child, roots_in, pushed, advance_from, next_word}
+use Rattle.core_state.specs.WalksLead.{walk_scope, HoldsOne, Way, to_entry, to_node, Leads, is_entry, by_node, ChildLeads, LeadsBySpot, begun_bound, LeadsByPart, IsAhead, is_found, by_slot, by_main, by_stack, by_child, by_part, IsReadInPart, OnlyWidens}
 use Rattle.core_state.proofs.Beginning.{cases_cons, contains_first}
 use Rattle.core_state.proofs.Opening.{none_in}
 use Rattle.core_query.proofs.InOrder.{IsNext}
@@ -182,11 +182,14 @@ module _ (core : Core) (query : Query) (walk : Walk) (new : Load) (bound : List 
   side-ahead rest stack n level k x read next (by_stack v among way) = by_stack v among way
   side-ahead rest stack n level k x read next (by_child t) = by_child t
   side-ahead rest stack n level k x read next (by_part t) =
-      by_part ((
-        t.0.0,
-        t.0.1,
-        same-covers _ t.0.0 (begun_bound V Later n k (read ++ new.value ∷ [])) t.0.0 (begun-same core query walk new bound begun n k read next) (λ q low. refl) t.0.2,
-      ), t.1)
+      by_part (
+        (
+          t.0.0,
+          t.0.1,
+          same-covers _ t.0.0 (begun_bound V Later n k (read ++ new.value ∷ [])) t.0.0 (begun-same core query walk new bound begun n k read next) (λ q low. refl) t.0.2,
+        ),
+        t.1,
+      )
 
   -- the last side: a child whose bound touches is a candidate, or goes onto the stack
   module _ (rest : List Name) (stack : List Waiting) (n level k x : ℕ) (read : List ℕ) (next : Bound n k (length read) ≡ new.name) (half : IsHalfRead walk.loads n k x read)

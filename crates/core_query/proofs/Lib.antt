@@ -1,5 +1,4 @@
 pub mod WalkSteps
-pub mod Keeping
 pub mod InOrder
 pub mod Replay
 pub mod Reaching
@@ -8,3 +7,5 @@ pub mod HalfRead
 pub mod Leading
 pub mod Staying
 pub mod Spots
+pub mod WalkLoads
+pub mod Keeping

@@ -1,6 +1,6 @@
 -- What a walk reaches after one load more: no more than it reached before, or the tree whose root it has read.
-use Rattle.std.proofs.Common.{◌≡◌, ◌≢◌, ◌⊎◌, ℕ, zero, suc, ◌+◌, ◌<◌, ◌≤◌, List, [], ◌∷◌, ◌++◌, Some, None, length, refl, ap, sym, ◌∙◌, subst, inl, inr, arith}
-use Rattle.std.specs.Prelude.{Option, Contains, AllPairs, IfSome, map, nat_lt, nat_le, cond, ◌-◌}
+use Rattle.std.proofs.Common.{◌≡◌, ◌⊎◌, ℕ, zero, suc, ◌+◌, ◌<◌, ◌≤◌, List, [], ◌∷◌, ◌++◌, Some, None, refl, ap, sym, ◌∙◌, subst, inl, inr, arith}
+use Rattle.std.specs.Prelude.{Option, Contains, AllPairs, IfSome, map, nat_lt, nat_le, ◌-◌}
 use Rattle.std.proofs.lemmas.Bool.{cond_both}
 use Rattle.std.proofs.lemmas.Bool.Decides.{nat_tests}
 use Rattle.std.proofs.lemmas.Option.{none-some}
@@ -14,7 +14,7 @@ use Rattle.core_state.specs.declared.item.Load.{Load}
 use Rattle.core_state.specs.declared.view.Waiting.{Waiting}
 use Rattle.core_state.specs.Core.{Core}
 use Rattle.core_state.specs.Encoding.{node_child, place, NamesRoot, layer_of}
-use Rattle.core_state.specs.Nodes.{Nodes, Home, under, IsLive, Stands, IsOfLayer, Below, itself, lower}
+use Rattle.core_state.specs.Nodes.{Nodes, under, IsLive, Stands, IsOfLayer, Below, itself, lower}
 use Rattle.core_state.specs.Scope.{sight, word_in}
 use Rattle.core_state.specs.TreesSound.{TreesSound, IsChild, nothing, a_body, a_node, tree_scope}
 use Rattle.core_state.specs.Walking.{Spot, resting, at_child, at_bound, Position, waiting, next_node, next_child, roots_in}

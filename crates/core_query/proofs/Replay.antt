@@ -1,6 +1,6 @@
 -- The replay of the loads of a walk, and one load more: what the words read so far say of the place where the walk is.
-use Rattle.std.proofs.Common.{◌≡◌, ◌≢◌, ℕ, suc, ◌+◌, ◌<◌, ◌≤◌, List, [], ◌∷◌, ◌++◌, length, refl, ap, sym, ◌∙◌, subst, inl, inr, arith, append_assoc}
-use Rattle.std.specs.Prelude.{Some, None, Option, Contains, nat_lt, slice_index, ◌==◌}
+use Rattle.std.proofs.Common.{◌≡◌, ◌≢◌, ℕ, ◌<◌, List, [], ◌∷◌, ◌++◌, length, refl, ap, sym, ◌∙◌, subst, inl, inr, arith, append_assoc}
+use Rattle.std.specs.Prelude.{Some, Contains, nat_lt, slice_index, ◌==◌}
 use Rattle.std.proofs.lemmas.Bool.{cases_lt, cond_both}
 use Rattle.std.proofs.lemmas.Bool.Decides.{nat_tests}
 use Rattle.std.proofs.lemmas.Option.{none-some, same_Some}
@@ -13,7 +13,7 @@ use Rattle.word_map.specs.declared.name.Name.TheVariants.{Child, Bound}
 use Rattle.core_state.specs.declared.item.Load.{Load}
 use Rattle.core_state.specs.declared.view.Waiting.{Waiting}
 use Rattle.core_state.specs.WalkRecord.{IsLoaded}
-use Rattle.core_state.specs.Walking.{Query, Spot, resting, at_child, at_bound, Position, start, next_node, next_child, roots_in, pushed, after_side, advance_from, advance, replay, next_word, FollowsFrom, Follows, position_of}
+use Rattle.core_state.specs.Walking.{Query, Spot, resting, at_child, at_bound, Position, start, next_node, next_child, roots_in, advance_from, advance, replay, next_word, FollowsFrom, Follows, position_of}
 use Rattle.core_query.proofs.InOrder.{InOrder, asked-in-order}
 
 -- ---- one load more

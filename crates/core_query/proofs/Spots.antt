@@ -1,5 +1,5 @@
 -- The bound at hand after one load more: it only widens, and lies in the space of the layer, and so does each side that was read.
-use Rattle.std.proofs.Common.{◌≡◌, ◌≢◌, ◌⊎◌, ℕ, suc, ◌+◌, ◌<◌, ◌≤◌, List, [], ◌∷◌, ◌++◌, length, Some, None, refl, ap, sym, ◌∙◌, subst, inl, inr, arith}
+use Rattle.std.proofs.Common.{◌≡◌, ◌≢◌, ◌⊎◌, ℕ, ◌+◌, ◌<◌, ◌≤◌, List, [], ◌∷◌, ◌++◌, length, Some, None, refl, ap, sym, ◌∙◌, subst, inl, inr, arith}
 use Rattle.std.specs.Prelude.{IfSome, Option, nat_lt, ◌==◌, ◌-◌, ⊤}
 use Rattle.std.proofs.lemmas.Bool.{cases_lt, cond_both}
 use Rattle.std.proofs.lemmas.Bool.Decides.{nat_tests}
@@ -11,7 +11,7 @@ use Rattle.core_state.specs.declared.view.Waiting.{Waiting}
 use Rattle.core_state.specs.declared.view.Walk.{Walk}
 use Rattle.core_state.specs.Core.{Core, word_of}
 use Rattle.core_state.specs.Encoding.{Sides, Covers, bound_in, layer_of}
-use Rattle.core_state.specs.Nodes.{Nodes, IsOfLayer}
+use Rattle.core_state.specs.Nodes.{Nodes}
 use Rattle.core_state.specs.Scope.{Sight, sight, word_in}
 use Rattle.core_state.specs.Space.{IsInLayer, IsInSpace, IsSideIn}
 use Rattle.core_state.specs.TreesSound.{TreesSound}

@@ -1,5 +1,5 @@
 -- What is said of a walk, of what it reaches and has walked, is so after one load more, wherever the walk is.
-use Rattle.std.proofs.Common.{◌≡◌, ◌≢◌, ◌⊎◌, ℕ, suc, ◌+◌, ◌<◌, ◌≤◌, List, [], ◌∷◌, ◌++◌, length, Some, None, refl, ap, sym, ◌∙◌, subst, inl, inr, arith}
+use Rattle.std.proofs.Common.{◌≡◌, ◌≢◌, ◌⊎◌, ℕ, suc, ◌+◌, ◌<◌, List, [], ◌∷◌, ◌++◌, length, Some, refl, ap, sym, ◌∙◌, subst, inl, inr, arith}
 use Rattle.std.specs.Prelude.{nat_lt, ◌==◌, ◌-◌, ◌/◌, ◌%◌}
 use Rattle.std.proofs.lemmas.Bool.{cond_both}
 use Rattle.std.proofs.lemmas.Bool.Decides.{nat_tests}
@@ -11,13 +11,12 @@ use Rattle.core_state.specs.declared.view.Waiting.{Waiting}
 use Rattle.core_state.specs.Core.{Core, word_of}
 use Rattle.core_state.specs.Encoding.{node_child, NamesRoot, layer_of}
 use Rattle.core_state.specs.Nodes.{Nodes, under, node_in}
-use Rattle.core_state.specs.Scope.{word_in}
-use Rattle.core_state.specs.TreesSound.{TreesSound, tree_scope}
+use Rattle.core_state.specs.TreesSound.{TreesSound}
 use Rattle.core_state.specs.Walking.{Query, Spot, resting, at_child, at_bound, Position, waiting, next_node, roots_in, pushed, advance_from, next_word}
 use Rattle.core_state.specs.ReadersCounted.{ReachesBySpot, the_node, the_node_of_bound, by_child, by_next_child, by_part, Reaches, by_spot, layer_at_hand, IsAtHand, IsWalkedAt, WalkStays}
 use Rattle.core_query.proofs.InOrder.{IsNext}
 use Rattle.core_query.proofs.Replay.{IsReplayed}
-use Rattle.core_query.proofs.Reaching.{layer-same, walked-cases, W, Goes, ReadsAt, next-reaches, pop-stays, goes-child, hand-reached, stay-at, pushed-goes, on-root, walked-before, root-stays}
+use Rattle.core_query.proofs.Reaching.{layer-same, walked-cases, W, Goes, next-reaches, pop-stays, goes-child, hand-reached, stay-at, pushed-goes, on-root, walked-before, root-stays}
 
 -- the root that a word names is that of its tree
 named-home : (nodes : Nodes) (core : Core) → TreesSound nodes core → (name : Name) (root : ℕ) → NamesRoot name (word_of core name) root → nodes.home root ≡ under name

@@ -1,6 +1,6 @@
 -- Six words that are a box pass the test of a query where they contain a box that touches its shape.
-use Rattle.std.proofs.Common.{◌≡◌, ℕ, ◌+◌, ◌<◌, ◌≤◌, List, [], ◌∷◌, length, true, refl, ap, sym, ◌∙◌, subst, arith}
-use Rattle.std.specs.Prelude.{IsTrue, IsSomeAnd, Option, Some, None, Contains}
+use Rattle.std.proofs.Common.{◌≡◌, ℕ, List, [], ◌∷◌, length, true, sym, subst, arith}
+use Rattle.std.specs.Prelude.{IsTrue, IsSomeAnd, Option, Some, None}
 use Rattle.std.proofs.lemmas.Bool.{and_from}
 use Rattle.fixed_box.specs.FixBox.{words_of, contains}
 use Rattle.fixed_box.specs.Touch.{Touch}

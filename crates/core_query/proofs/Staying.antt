@@ -1,9 +1,9 @@
 -- What is said of a walk, of what it reaches and has walked, is so after one load more, wherever the walk is.
-use Rattle.std.proofs.Common.{◌≡◌, ◌≢◌, ◌⊎◌, ℕ, suc, ◌+◌, ◌<◌, List, [], ◌∷◌, ◌++◌, length, Some, refl, ap, sym, ◌∙◌, subst, inl, inr, arith}
-use Rattle.std.specs.Prelude.{nat_lt, ◌==◌, ◌-◌, ◌/◌, ◌%◌}
+use Rattle.std.proofs.Common.{◌≡◌, ◌≢◌, ◌⊎◌, ℕ, suc, ◌+◌, ◌<◌, List, [], ◌∷◌, ◌++◌, length, refl, ap, sym, ◌∙◌, subst, inl, inr, arith}
+use Rattle.std.specs.Prelude.{◌==◌, ◌-◌, ◌/◌, ◌%◌}
 use Rattle.std.proofs.lemmas.Bool.{cond_both}
 use Rattle.std.proofs.lemmas.Bool.Decides.{nat_tests}
-use Rattle.std.proofs.lemmas.Option.{none-some, same_Some}
+use Rattle.std.proofs.lemmas.Option.{same_Some}
 use Rattle.word_map.specs.declared.name.Name.{Name}
 use Rattle.word_map.specs.declared.name.Name.TheVariants.{Child, Bound, Main, Slot}
 use Rattle.core_state.specs.declared.item.Load.{Load}
@@ -12,10 +12,10 @@ use Rattle.core_state.specs.Core.{Core, word_of}
 use Rattle.core_state.specs.Encoding.{node_child, NamesRoot, layer_of}
 use Rattle.core_state.specs.Nodes.{Nodes, under, node_in}
 use Rattle.core_state.specs.TreesSound.{TreesSound}
-use Rattle.core_state.specs.Walking.{Query, Spot, resting, at_child, at_bound, Position, waiting, next_node, roots_in, pushed, advance_from, next_word}
+use Rattle.core_state.specs.Walking.{Query, resting, at_child, at_bound, Position, waiting, next_node, roots_in, pushed}
 use Rattle.core_state.specs.ReadersCounted.{ReachesBySpot, the_node, the_node_of_bound, by_child, by_next_child, by_part, Reaches, by_spot, layer_at_hand, IsAtHand, IsWalkedAt, WalkStays}
 use Rattle.core_query.proofs.InOrder.{IsNext}
-use Rattle.core_query.proofs.Replay.{IsReplayed}
+use Rattle.core_query.proofs.Replay.{Moves, to_root, past_none, to_bound, by_side, past_bound}
 use Rattle.core_query.proofs.Reaching.{layer-same, walked-cases, W, Goes, next-reaches, pop-stays, goes-child, hand-reached, stay-at, pushed-goes, on-root, walked-before, root-stays}
 
 -- the root that a word names is that of its tree
@@ -150,27 +150,16 @@ module _ (nodes : Nodes) (core : Core) (trees : TreesSound nodes core) (query : 
             ];
       }
 
-  pub stays-more : (rest : List Name) (stack : List Waiting) (spot : Spot) → IsReplayed loads (record { rest = rest; stack = stack; spot = spot })
-      → ((n level k x : ℕ) (read : List ℕ) → spot ≡ at_bound n level k x read → (m : ℕ) → x ≡ node_child m → Word (Child n k) ≡ x) → next_word rest spot ≡ Some new.name
-      → WalkStays nodes Word loads (record { rest = rest; stack = stack; spot = spot }) → ReadsOn nodes Word loads new (record { rest = rest; stack = stack; spot = spot }) (advance_from query rest stack spot new.value)
-  stays-more [] stack resting r child next h = absurd (none-some new.name next)
-  stays-more (name ∷ rest) stack resting r child next h =
-      let same = same_Some name new.name next in
-      let from : List Name → List Waiting → Position = λ names s. record { rest = names; stack = s; spot = resting } in
-      subst (λ (s : List Waiting). ReadsOn nodes Word loads new (from (name ∷ rest) s) (next_node rest (roots_in name new.value))) (sym r.spot)
-      (subst (λ (n : Name). ReadsOn nodes Word loads new (from (n ∷ rest) []) (next_node rest (roots_in n new.value))) (sym same)
-      (at-root rest (subst (λ (n : Name). IsNext n rest) same r.order.0) (subst (λ (n : Name). WalkStays nodes Word loads (from (n ∷ rest) [])) same (subst (λ (s : List Waiting). WalkStays nodes Word loads (from (name ∷ rest) s)) r.spot h))))
-  stays-more rest stack (at_child n level k) r child next h =
-      let same = same_Some (Child n k) new.name next in
-      at-node (record { rest = rest; stack = stack; spot = at_child n level k }) _ (child-walked rest stack n level k r.spot same h)
-      (cond_both (new.value == 0) _ _ (Go (record { rest = rest; stack = stack; spot = at_child n level k }))
-      (λ none. goes-child nodes core trees loads Longer _ rest stack n level k (none-goes rest stack n level k r.spot same h)) (λ some. some-goes rest stack n level k r.spot same h))
-  stays-more rest stack (at_bound n level k x read) r child next h =
-      let same = same_Some (Bound n k (length read)) new.name next in
-      let here : Position = record { rest = rest; stack = stack; spot = at_bound n level k x read } in
-      at-node here _ (λ a walked. inl (side-walked rest stack n level k x read same h a walked))
-      (cond_both (nat_lt (length (read ++ new.value ∷ [])) 6) _ _ (Go here) (λ less. side-goes rest stack n level k x read same h)
-      (λ all.
-      goes-child nodes core trees loads Longer here rest _ n level k
-      (cond_both (query.test (read ++ new.value ∷ [])) _ _ (λ (s : List Waiting). Go here (record { rest = rest; stack = s; spot = at_child n level (k + 1) }))
-      (λ passed. push-goes rest stack n level k x read same h r.spot.low r.spot.some (child n level k x read refl)) (λ failed. past-goes rest stack n level k x read same h))))
+  pub stays-more : (at later : Position) → Moves query loads new at later → ((n level k x : ℕ) (read : List ℕ) → at.spot ≡ at_bound n level k x read → (m : ℕ) → x ≡ node_child m → Word (Child n k) ≡ x)
+      → WalkStays nodes Word loads at → ReadsOn nodes Word loads new at later
+  stays-more at later (to_root rest next order) child h = at-root rest next h
+  stays-more at later (past_none rest stack n level k low next none) child h =
+      at-node at later (child-walked rest stack n level k low next h) (goes-child nodes core trees loads Longer at rest stack n level k (none-goes rest stack n level k low next h))
+  stays-more at later (to_bound rest stack n level k low next some) child h = at-node at later (child-walked rest stack n level k low next h) (some-goes rest stack n level k low next h)
+  stays-more at later (by_side rest stack n level k x read half next less) child h =
+      at-node at later (λ a walked. inl (side-walked rest stack n level k x read next h a walked)) (side-goes rest stack n level k x read next h)
+  stays-more at later (past_bound rest stack n level k x read half next all) child h =
+      at-node at later (λ a walked. inl (side-walked rest stack n level k x read next h a walked))
+      (goes-child nodes core trees loads Longer at rest _ n level k
+      (cond_both (query.test (read ++ new.value ∷ [])) _ _ (λ (s : List Waiting). Go at (record { rest = rest; stack = s; spot = at_child n level (k + 1) }))
+      (λ passed. push-goes rest stack n level k x read next h half.low half.some (child n level k x read refl)) (λ failed. past-goes rest stack n level k x read next h)))

@@ -1,5 +1,5 @@
 -- The loads of a walk keep all laws: they store nothing, and of each query that the loads follow the walk goes on.
-use Rattle.std.proofs.Common.{◌≡◌, ◌≢◌, ◌⊎◌, ℕ, ◌%◌, ◌≤◌, List, [], ◌∷◌, length, true, false, Some, refl, ap, sym, ◌∙◌, subst, inl, inr, arith}
+use Rattle.std.proofs.Common.{◌≡◌, ◌⊎◌, ℕ, ◌%◌, List, [], ◌∷◌, length, true, Some, None, refl, ap, sym, ◌∙◌, subst, inl, inr, arith}
 use Rattle.std.proofs.lemmas.Bool.{false≢true}
 use Rattle.std.proofs.lemmas.List.FromFn.{get_or-map-range_with_len}
 use Rattle.word_map.specs.declared.config.Config.{Config}
@@ -8,10 +8,11 @@ use Rattle.word_map.specs.declared.name.Name.TheVariants.{Child, Bound, Main, Sl
 use Rattle.core_state.specs.declared.item.Load.{Load}
 use Rattle.core_state.specs.declared.view.Walk.{Walk}
 use Rattle.core_state.specs.declared.view.Rebuild.{Rebuild}
+use Rattle.core_state.specs.declared.view.View.{View}
 use Rattle.core_state.specs.Log.{word}
 use Rattle.core_state.specs.View.{known_word}
 use Rattle.core_state.specs.Core.{Core, word_of}
-use Rattle.core_state.specs.Operation.{stores}
+use Rattle.core_state.specs.Operation.{load}
 use Rattle.core_state.specs.Kind.{Kind, Step, learned, found_by}
 use Rattle.core_state.specs.Encoding.{node_child, sides_of, bound_in}
 use Rattle.core_state.specs.Nodes.{Nodes, under, superseded}
@@ -28,37 +29,34 @@ use Rattle.core_state.proofs.Forming.{unspent_pass}
 use Rattle.core_state.proofs.Guarding.{GuardsHold-load}
 use Rattle.core_state.proofs.Steps.{word-step-unstored}
 use Rattle.core_guard.proofs.Seats.{each-seat}
-use Rattle.core_guard.proofs.Leaving.{Acts, After, Last, Leaves, each_update}
-use Rattle.core_guard.proofs.ReadersLeft.{WalkIn, SpaceIn, Off, walk-forth, walk_space-forth, avoids-forth, seen-back}
+use Rattle.core_guard.proofs.Leaving.{Acts, After, Leaves, each_update}
+use Rattle.core_guard.proofs.ReadersLeft.{WalkIn, Off, walk-forth, walk_space-forth, avoids-forth, seen-back}
 use Rattle.core_guard.proofs.WalksLeft.{WalksLead-goes_on, walk-left, begun-left}
 use Rattle.core_guard.proofs.Still.{IsStill, still-leaves, still-boxes, still-counts, ReadersCounted-still}
-use Rattle.core_guard.proofs.Light.{KeepsPart, IsLight, Invariants-light, law-kept, unread}
+use Rattle.core_guard.proofs.Light.{IsLight, Invariants-light, law-kept, unread}
 use Rattle.core_guard.proofs.Holders.{IsGuarded}
 use Rattle.core_guard.proofs.Touched.{IsKept, kept}
 use Rattle.core_query.proofs.InOrder.{order-main_last}
-use Rattle.core_query.proofs.Replay.{IsReplayed, follows-more, position-more, position-replayed}
+use Rattle.core_query.proofs.Replay.{IsReplayed, Moves, moves, follows-more, position-more, position-replayed}
 use Rattle.core_query.proofs.Touching.{due-touches}
 use Rattle.core_query.proofs.HalfRead.{SameSides, KeepsBegun, longer_walk}
 use Rattle.core_query.proofs.Leading.{ahead-more}
 use Rattle.core_query.proofs.Staying.{ReadsOn, stays-more}
 use Rattle.core_query.proofs.Spots.{widens-more, space-more}
 
--- what all four kinds do: a load more is noted, and how the bound stood that the walk reads
-abbrev new_load : Core → Step → Load
-new_load core step = record { name = step.name; value = found_by core step }
+-- all four kinds do this: a load more is noted, and how the bound stood that the walk reads
+abbrev reads : (View → Name → List ℕ) → Kind
+reads notes = record {
+  operation = load;
+  entry = λ view name value. None;
+  leaves = λ view name found first second. record view { walk = longer_walk view.walk (record { name = name; value = found }) (notes view name) };
+}
 
-record Loads (kind : Kind) (core : Core) (step : Step) (bound : List ℕ) : Type 0 where
-  unstored : stores kind.operation (found_by core step) step.first ≡ false
-  light : IsLight kind core step
-  locations : KeepsPart kind core step location_scope
-  call : (Last kind core step).call ≡ step.view.call
-  batches : (Last kind core step).batches ≡ step.view.batches
-  rebuild : (Last kind core step).rebuild ≡ step.view.rebuild
-  walks : step.view.walk.is_on ≡ true
-  walk : (Last kind core step).walk ≡ longer_walk step.view.walk (new_load core step) bound
-  begun : KeepsBegun (word_in walk_scope core) step.view.walk (new_load core step) bound
+module _ (notes : View → Name → List ℕ) (core : Core) (step : Step) (a : Acts core step) (walks : step.view.walk.is_on ≡ true)
+    (begun : KeepsBegun (word_in walk_scope core) step.view.walk (record { name = step.name; value = found_by core step }) (notes (learned core step) step.name)) where
+  abbrev kind : Kind
+  kind = reads notes
 
-module _ (kind : Kind) (core : Core) (step : Step) (a : Acts core step) (bound : List ℕ) (l : Loads kind core step bound) where
   abbrev nodes : Nodes
   nodes = a.laws.nodes
 
@@ -72,10 +70,10 @@ module _ (kind : Kind) (core : Core) (step : Step) (a : Acts core step) (bound :
   Now = sight reader_scope (After kind core step)
 
   abbrev new : Load
-  new = new_load core step
+  new = record { name = step.name; value = found_by core step }
 
   abbrev Later : Walk
-  Later = longer_walk step.view.walk new bound
+  Later = longer_walk step.view.walk new (notes (learned core step) step.name)
 
   -- ---- a query that the loads follow
 
@@ -90,50 +88,59 @@ module _ (kind : Kind) (core : Core) (step : Step) (a : Acts core step) (bound :
     replayed = position-replayed core.config query step.view.walk.loads before.0
 
     stayed : WalkStays nodes Was.word step.view.walk.loads At
-    stayed = each-seat reader_scope (λ k v. refl) core _ a.laws.readers.stays step.seat step.number step.view a.at a.pass l.walks query before.0
+    stayed = each-seat reader_scope (λ k v. refl) core _ a.laws.readers.stays step.seat step.number step.view a.at a.pass walks query before.0
 
     read : ReadsInSpace Was step.view.walk.loads At
-    read = each-seat reader_scope (λ k v. refl) core _ a.laws.readers.in_space step.seat step.number step.view a.at a.pass l.walks query before.0
+    read = each-seat reader_scope (λ k v. refl) core _ a.laws.readers.in_space step.seat step.number step.view a.at a.pass walks query before.0
 
     led : WalkLeads Old step.view.walk query At
-    led = each-seat walk_scope (λ k v. refl) core _ a.laws.walks.leads step.seat step.number step.view a.at a.pass l.walks query before.0
+    led = each-seat walk_scope (λ k v. refl) core _ a.laws.walks.leads step.seat step.number step.view a.at a.pass walks query before.0
 
     child : (n level k x : ℕ) (sides : List ℕ) → At.spot ≡ at_bound n level k x sides → (m : ℕ) → x ≡ node_child m → Was.word (Child n k) ≡ x
     child n level k x sides e = (subst (OnlyWidens Old.word step.view.walk) e led.widens).child
 
+    moved : Moves query step.view.walk.loads new At (advance query At new)
+    moved = moves query step.view.walk.loads new At replayed before.1
+
     reads_on : ReadsOn nodes Was.word step.view.walk.loads new At (advance query At new)
-    reads_on = stays-more nodes core a.laws.trees query step.view.walk.loads new refl At.rest At.stack At.spot replayed child before.1 stayed
+    reads_on = stays-more nodes core a.laws.trees query step.view.walk.loads new refl At (advance query At new) moved child stayed
 
     -- where it is then
-    at_later : (P : Position → Type 0) → P (advance query At new) → P (position_of core.config query Later.loads)
+    abbrev Then : Position
+    Then = position_of core.config query Later.loads
+
+    at_later : (P : Position → Type 0) → P (advance query At new) → P Then
     at_later P h = subst P (sym (position-more core.config query step.view.walk.loads new)) h
 
-    stays-on : WalkStays nodes Was.word Later.loads (position_of core.config query Later.loads)
+    stays-on : WalkStays nodes Was.word Later.loads Then
     stays-on = at_later (WalkStays nodes Was.word Later.loads) reads_on.stays
 
-    space-on : ReadsInSpace Was Later.loads (position_of core.config query Later.loads)
-    space-on = at_later (ReadsInSpace Was Later.loads) (space-more nodes core a.laws.trees query step.view.walk new refl At.rest At.stack a.laws.readers At.spot replayed before.1 stayed read)
+    space-on : ReadsInSpace Was Later.loads Then
+    space-on = at_later (ReadsInSpace Was Later.loads) (space-more nodes core a.laws.trees query step.view.walk new refl a.laws.readers At (advance query At new) moved stayed read)
 
-    known-on : (x : ℕ) → Reaches Was.word (position_of core.config query Later.loads) x ⊎ IsWalkedAt Later.loads x
+    known-on : (x : ℕ) → Reaches Was.word Then x ⊎ IsWalkedAt Later.loads x
         → (Reaches Was.word At x ⊎ IsWalkedAt step.view.walk.loads x) ⊎ (nodes.home x ≡ under step.name)
     known-on x = at_later (λ at. Reaches Was.word at x ⊎ IsWalkedAt Later.loads x → (Reaches Was.word At x ⊎ IsWalkedAt step.view.walk.loads x) ⊎ (nodes.home x ≡ under step.name)) (reads_on.known x)
 
-    leads-on : WalkLeads Old Later query (position_of core.config query Later.loads)
+    leads-on : WalkLeads Old Later query Then
     leads-on = at_later (WalkLeads Old Later query) (record {
       ahead = λ index generation due.
-          ahead-more core query step.view.walk new bound l.begun refl (HadSince Old step.view.walk.from index) index (due-touches Old step.view.walk query index generation due) At.rest At.stack At.spot
-          replayed led.widens before.1 (led.ahead index generation due);
-      widens = widens-more nodes core a.laws.trees query step.view.walk new refl At.rest At.stack bound l.begun At.spot replayed before.1 stayed led.widens;
+          ahead-more core query step.view.walk new (notes (learned core step) step.name) begun refl (HadSince Old step.view.walk.from index) index (due-touches Old step.view.walk query index generation due) At (advance query At new) moved
+          led.widens (led.ahead index generation due);
+      widens = widens-more nodes core a.laws.trees query step.view.walk new refl (notes (learned core step) step.name) begun At (advance query At new) moved stayed led.widens;
       order = order-main_last (advance query At new).rest (subst (λ at. IsReplayed Later.loads at) (position-more core.config query step.view.walk.loads new) (position-replayed core.config query Later.loads follows)).order;
     })
 
   -- ---- the step
 
   same_word : (name : Name) → word_of (After kind core step) name ≡ word_of core name
-  same_word name = word-step-unstored kind core step l.unstored name
+  same_word name = word-step-unstored kind core step refl name
 
   still : IsStill kind core step
-  still = record { words = λ name other. same_word name; entry = l.light.entry; task = ap (λ c. c.task) l.call; batches = l.batches; rebuild = l.rebuild }
+  still = record { words = λ name other. same_word name; entry = λ value. refl; task = refl; batches = refl; rebuild = refl }
+
+  light : IsLight kind core step
+  light = record { reader = λ stored. absurd (false≢true stored); entry = λ value. refl; locks = refl; bodies = refl; nodes = refl; trees = refl; cover = refl }
 
   abbrev No_new : ℕ → Type 0
   No_new n = ⊥
@@ -145,73 +152,57 @@ module _ (kind : Kind) (core : Core) (step : Step) (a : Acts core step) (bound :
   leads =
       let boxes = still-boxes kind core step still a in
       WalksLead-goes_on kind core step a nodes No_new left boxes
-      (subst (λ (w : Walk). w.is_on ≡ true → (query : Query) → Follows core.config query w.loads → WalkLeads (sight walk_scope (After kind core step)) w query (position_of core.config query w.loads)) (sym l.walk)
-      (λ on query follows. walk-left kind core step a nodes No_new left Later (position_of core.config query Later.loads) (stays-on query follows) boxes query (leads-on query follows)))
-      (subst (λ (w : Walk). w.from ≤ length (sight walk_scope (After kind core step)).history) (sym l.walk) (begun-left kind core step a nodes No_new left))
+      (λ on query follows. walk-left kind core step a nodes No_new left Later (position_of core.config query Later.loads) (stays-on query follows) boxes query (leads-on query follows))
+      (begun-left kind core step a nodes No_new left)
 
   stays-in : WalkIn nodes Was Later
   stays-in on query follows = stays-on query follows
 
   -- it comes to no node that is superseded, where it had come to none
-  avoids : (number : ℕ) (r : Rebuild) → EachPass Was (Off nodes Was number r) → HasSeenOff Now r step.number → AvoidsSuperseded nodes Now number (Last kind core step).walk
+  avoids : (number : ℕ) (r : Rebuild) → EachPass Was (Off nodes Was number r) → HasSeenOff Now r step.number → AvoidsSuperseded nodes Now number Later
   avoids number r off seen =
       let was = each-seat reader_scope (λ k v. refl) core _ off step.seat step.number step.view a.at a.pass (seen-back kind core step a nodes No_new left r step.number (same_word (Reader step.number)) seen) in
-      subst (λ (w : Walk). AvoidsSuperseded nodes Now number w) (sym l.walk)
-      (avoids-forth kind core step a nodes No_new left number Later stays-in
+      avoids-forth kind core step a nodes No_new left number Later stays-in
       (λ on query follows x name from home.
-      elim (known-on query follows x from) [ inl old ↦ was l.walks query (before query follows).0 x name old home | inr root ↦ let other : under step.name ≡ superseded number name = sym root ∙ home in absurd cc ]))
+      elim (known-on query follows x from) [ inl old ↦ was walks query (before query follows).0 x name old home | inr root ↦ let other : under step.name ≡ superseded number name = sym root ∙ home in absurd cc ])
 
   readers : ReadersCounted nodes (After kind core step)
   readers =
       let odd_same : Now.word (Reader step.number) % 2 ≡ Was.word (Reader step.number) % 2 = ap (λ (w : ℕ). w % 2) (same_word (Reader step.number)) in
-      let on_same : (Last kind core step).walk.is_on ≡ step.view.walk.is_on = ap (λ (w : Walk). w.is_on) l.walk in
-      ReadersCounted-still kind core step still a l.call (record {
-        odd = λ was. (λ e. on_same ∙ was.0 (sym odd_same ∙ e), λ on. odd_same ∙ was.1 (sym on_same ∙ on));
+      ReadersCounted-still kind core step still a refl (record {
+        odd = λ was. (λ e. was.0 (sym odd_same ∙ e), λ on. odd_same ∙ was.1 on);
         seen = λ number other. same_word (Reader number);
-        stays = subst (WalkIn nodes Now) (sym l.walk) (walk-forth kind core step a nodes No_new left Later stays-in);
-        in_space = subst (SpaceIn Now) (sym l.walk) (walk_space-forth kind core step a nodes No_new left (still-counts kind core step still a l.call) Later stays-in (λ on query follows. space-on query follows));
+        stays = walk-forth kind core step a nodes No_new left Later stays-in;
+        in_space = walk_space-forth kind core step a nodes No_new left (still-counts kind core step still a refl) Later stays-in (λ on query follows. space-on query follows);
         avoids = each_update kind core step a nodes nodes No_new left reader_scope (λ k v. refl) update_on_readers (λ bare view. refl)
-            (λ number v r. EachPass Was (Off nodes Was number r)) (λ number v r. HasSeenOff Now r step.number → AvoidsSuperseded nodes Now number (Last kind core step).walk) a.laws.readers.seen_off
+            (λ number v r. EachPass Was (Off nodes Was number r)) (λ number v r. HasSeenOff Now r step.number → AvoidsSuperseded nodes Now number Later) a.laws.readers.seen_off
             (λ number v r off. avoids number r off) (λ r some off. avoids step.number r off);
       })
 
   loads-keep : Invariants (After kind core step)
   loads-keep =
-      Invariants-light kind core step a l.light
-      (law-kept kind core step a l.light location_scope (LocationsHoldIn nodes) (unread kind core step a l.light location_scope (λ p. refl)) l.locations a.laws.locations) leads readers
+      Invariants-light kind core step a light
+      (law-kept kind core step a light location_scope (LocationsHoldIn nodes) (unread kind core step a light location_scope (λ p. refl)) refl a.laws.locations) leads readers
 
--- ---- kinds 30 to 32: they do the same, each to a word of its own
+-- ---- kinds 30 to 32: a word that is no side of a bound
 
--- a load of a word that is no side of a bound
-plain-loads : (core : Core) (step : Step) → ((n k q : ℕ) → Bound n k q ≢ step.name) → step.view.walk.is_on ≡ true → Loads walk_slot core step step.view.walk.bound
-plain-loads core step none walks = record {
-  unstored = refl;
-  light = record { reader = λ stored. absurd (false≢true stored); entry = λ value. refl; locks = refl; bodies = refl; nodes = refl; trees = refl; cover = refl };
-  locations = refl;
-  call = refl;
-  batches = refl;
-  rebuild = refl;
-  walks = walks;
-  walk = refl;
-  begun = λ n k read next. absurd (none n k (length read) next);
-}
+abbrev notes_none : View → Name → List ℕ
+notes_none view name = view.walk.bound
 
 pub Invariants-walk_slot : IsKept MayWalkSlot walk_slot
 Invariants-walk_slot =
     kept MayWalkSlot walk_slot
-    (λ core step a asked.
-    loads-keep walk_slot core step a step.view.walk.bound (plain-loads core step (λ n k q e. let same : Bound n k q ≡ Slot asked.layer asked.slot = e ∙ asked.names in absurd cc) asked.walks))
+    (λ core step a asked. loads-keep notes_none core step a asked.walks (λ n k read next. let same : Bound n k (length read) ≡ Slot asked.layer asked.slot = next ∙ asked.names in absurd cc))
 
 pub Invariants-walk_main : IsKept MayWalkMain walk_main
 Invariants-walk_main =
     kept MayWalkMain walk_main
-    (λ core step a asked. loads-keep walk_main core step a step.view.walk.bound (plain-loads core step (λ n k q e. let same : Bound n k q ≡ Main asked.layer = e ∙ asked.names in absurd cc) asked.walks))
+    (λ core step a asked. loads-keep notes_none core step a asked.walks (λ n k read next. let same : Bound n k (length read) ≡ Main asked.layer = next ∙ asked.names in absurd cc))
 
 pub Invariants-walk_child : IsKept MayWalkChild walk_child
 Invariants-walk_child =
     kept MayWalkChild walk_child
-    (λ core step a asked.
-    loads-keep walk_child core step a step.view.walk.bound (plain-loads core step (λ n k q e. let same : Bound n k q ≡ Child asked.node asked.child = e ∙ asked.names in absurd cc) asked.walks))
+    (λ core step a asked. loads-keep notes_none core step a asked.walks (λ n k read next. let same : Bound n k (length read) ≡ Child asked.node asked.child = next ∙ asked.names in absurd cc))
 
 -- ---- kind 33
 
@@ -225,29 +216,16 @@ module _ (core : Core) (step : Step) (a : Acts core step) where
       let config = (a.formed.views step.seat step.view a.at (unspent_pass step.view.role step.number a.pass)).config in
       sym (get_or-map-range_with_len (λ p. known_word (learned core step) (Bound n k p)) 0 6 q q 0 low (omega arith) ∙ ap (λ (c : Config). word c core.log (Bound n k q)) config)
 
-  noted-begun : KeepsBegun (word_in walk_scope core) step.view.walk (new_load core step) (Noted step.name)
+  noted-begun : KeepsBegun (word_in walk_scope core) step.view.walk (record { name = step.name; value = found_by core step }) (Noted step.name)
   noted-begun n k read next = subst (λ (name : Name). SameSides (begun_bound (word_in walk_scope core) step.view.walk n k read) (sides_of (Noted name))) next (go read)
     where
       go : (read : List ℕ) → SameSides (begun_bound (word_in walk_scope core) step.view.walk n k read) (sides_of (Noted (Bound n k (length read))))
       go [] = known-now n k
       go (side ∷ read) = λ q low. refl
 
-  side-loads : step.view.walk.is_on ≡ true → Loads walk_bound core step (Noted step.name)
-  side-loads walks = record {
-    unstored = refl;
-    light = record { reader = λ stored. absurd (false≢true stored); entry = λ value. refl; locks = refl; bodies = refl; nodes = refl; trees = refl; cover = refl };
-    locations = refl;
-    call = refl;
-    batches = refl;
-    rebuild = refl;
-    walks = walks;
-    walk = refl;
-    begun = noted-begun;
-  }
-
 pub Invariants-walk_bound : IsKept MayWalkBound walk_bound
 Invariants-walk_bound =
-    kept MayWalkBound walk_bound (λ core step a asked. loads-keep walk_bound core step a (bound_begun (learned core step) step.name) (side-loads core step a asked.walks))
+    kept MayWalkBound walk_bound (λ core step a asked. loads-keep bound_begun core step a asked.walks (noted-begun core step a))
 
 -- ---- guards: nothing is stored
 

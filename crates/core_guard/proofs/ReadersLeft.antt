@@ -48,7 +48,7 @@ hull-by Counts More a b more sides h q below =
     )
 
 -- of an element of a list that is mapped
-map-back : {X Y : Type 0} (f : X → Y) (xs : List X) (y : Y) → Contains (map f xs) y → (x : X) × Contains xs x × (f x ≡ y)
+pub map-back : {X Y : Type 0} (f : X → Y) (xs : List X) (y : Y) → Contains (map f xs) y → (x : X) × Contains xs x × (f x ≡ y)
 map-back f [] y h = let none = h.1 in absurd (omega arith)
 map-back f (z ∷ xs) y h =
     elim (cases_cons (f z) (map f xs) y h) [
@@ -378,7 +378,7 @@ module _ (kind : Kind) (core : Core) (step : Step) (a : Acts core step) (later :
 
   -- ---- readers that an update has seen
 
-  seen-back : (r : Rebuild) (q : ℕ) → word_of (After kind core step) (Reader q) ≡ word_of core (Reader q) → HasSeenOff Now r q → HasSeenOff Old r q
+  pub seen-back : (r : Rebuild) (q : ℕ) → word_of (After kind core step) (Reader q) ≡ word_of core (Reader q) → HasSeenOff Now r q → HasSeenOff Old r q
   seen-back r q same seen = (seen.0, seen.1, elim (seen.2) [ inl even ↦ inl even | inr other ↦ inr (λ e. other (e ∙ sym same)) ])
 
   off-forth : (number : ℕ) (r : Rebuild) → GoesOn → (HasSeenOff Now r step.number → AvoidsSuperseded later Now number (Last kind core step).walk) → EachPass Old (Off Before Old number r) → EachPass Now (Off later Now number r)

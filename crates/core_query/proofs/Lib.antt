@@ -1,2 +1,11 @@
 pub mod WalkSteps
+pub mod InOrder
+pub mod Replay
+pub mod Reaching
+pub mod Touching
+pub mod HalfRead
+pub mod Leading
+pub mod Staying
+pub mod Spots
+pub mod WalkLoads
 pub mod Keeping

@@ -26,7 +26,7 @@ use Rattle.core_state.specs.Core.{Core, IsViewAt, opening}
 use Rattle.core_state.specs.Operation.{stores}
 use Rattle.core_state.specs.Kind.{Kind, Asking, Step, IsAllowed, Steps, found_by, left_by, item_of, gained_by, log_after, view_after, after_step}
 use Rattle.core_state.specs.Seats.{Opens, Visits, Joins, after_split, visitor_of, joined_view, spent_view}
-use Rattle.core_state.specs.Event.{Event, opens_pass, splits_visitor, joins_visitor, looks, of_locks, of_lists, of_bodies, of_batches, of_pool, of_walks, of_moves, LockEvent, loads_lock, takes_read, takes_write, releases, ListEvent, loads_list, stores_link, stores_head, BodyEvent, stores_field, creates, destroys, loads_body, sets_user, BatchEvent, loads_slot, reserves, marks, stores_node, places, attaches, takes_back, unmarks, lets_slot_go, PoolEvent, stores_pool_link, stores_pool_head, stores_pool_count, WalkEvent, begins_walk, ends_walk, MoveEvent, loads_parent, Run, begins, goes_on}
+use Rattle.core_state.specs.Event.{Event, opens_pass, splits_visitor, joins_visitor, looks, of_locks, of_lists, of_bodies, of_batches, of_pool, of_walks, of_moves, LockEvent, loads_lock, takes_read, takes_write, releases, ListEvent, loads_list, stores_link, stores_head, BodyEvent, stores_field, creates, destroys, loads_body, sets_user, BatchEvent, loads_slot, reserves, marks, stores_node, places, attaches, takes_back, unmarks, lets_slot_go, PoolEvent, stores_pool_link, stores_pool_head, stores_pool_count, WalkEvent, begins_walk, ends_walk, walks_slot, walks_main, walks_child, walks_bound, MoveEvent, loads_parent, Run, begins, goes_on}
 use Rattle.core_state.specs.Formed.{IsMadeOn, IsSoundItem, HasNumbers, AreApart, IsSoundView, IsFormed}
 use Rattle.std.proofs.lemmas.Option.{same_Some, none-some}
 use Rattle.core_state.proofs.Lookups.{at_set, at_push}
@@ -385,6 +385,10 @@ IsFormed-pool before after (stores_pool_count e) formed = IsFormed-steps _ _ bef
 IsFormed-walks : (before after : Core) → WalkEvent before after → IsFormed before → IsFormed after
 IsFormed-walks before after (begins_walk e) formed = IsFormed-steps _ _ before after (says-nothing _ (λ view name value. refl)) e formed
 IsFormed-walks before after (ends_walk e) formed = IsFormed-steps _ _ before after (says-nothing _ (λ view name value. refl)) e formed
+IsFormed-walks before after (walks_slot e) formed = IsFormed-steps _ _ before after (says-nothing _ (λ view name value. refl)) e formed
+IsFormed-walks before after (walks_main e) formed = IsFormed-steps _ _ before after (says-nothing _ (λ view name value. refl)) e formed
+IsFormed-walks before after (walks_child e) formed = IsFormed-steps _ _ before after (says-nothing _ (λ view name value. refl)) e formed
+IsFormed-walks before after (walks_bound e) formed = IsFormed-steps _ _ before after (says-nothing _ (λ view name value. refl)) e formed
 
 IsFormed-moves : (before after : Core) → MoveEvent before after → IsFormed before → IsFormed after
 IsFormed-moves before after (loads_parent index e) formed = IsFormed-steps _ _ before after (says-nothing _ (λ view name value. refl)) e formed

@@ -36,7 +36,7 @@ same_words : (a b c d e f u v w x y z : ℕ) → a ≡ u → b ≡ v → c ≡ w
 same_words a b c d e f u v w x y z p q r s t k = λ i. p i ∷ q i ∷ r i ∷ s i ∷ t i ∷ k i ∷ []
 
 -- the box of six words
-box_of : (a b c d e f : ℕ) → AreWords a d → AreWords b e → AreWords c f → (box : FixBox) × (words_of box ≡ a ∷ b ∷ c ∷ d ∷ e ∷ f ∷ [])
+pub box_of : (a b c d e f : ℕ) → AreWords a d → AreWords b e → AreWords c f → (box : FixBox) × (words_of box ≡ a ∷ b ∷ c ∷ d ∷ e ∷ f ∷ [])
 box_of a b c d e f x y z =
     let p = coord_of a (omega (arith, x)) (omega (arith, x)) in
     let q = coord_of b (omega (arith, y)) (omega (arith, y)) in

@@ -48,7 +48,7 @@ module _ (config : Config) (query : Query) (word : Name → ℕ) where
     visited = λ n walked. absurd (walked-none n walked);
   }
 
-some-last : {X : Type 0} (before later : List X) (x : X) → [] ≢ before ++ x ∷ later
+pub some-last : {X : Type 0} (before later : List X) (x : X) → [] ≢ before ++ x ∷ later
 some-last [] later x e = absurd cc
 some-last (y ∷ before) later x e = absurd cc
 

@@ -13,7 +13,7 @@ use Rattle.core_state.specs.Core.{Core, word_of, IsViewAt}
 use Rattle.core_state.specs.Operation.{Operation, load, store, exchange, compare_exchange, fetch_add, fetch_min, fetch_max, stores, result_of}
 use Rattle.core_state.specs.Kind.{Kind, Asking, Step, Steps, found_by, left_by, item_of, gained_by, log_after, view_after, after_step}
 use Rattle.core_state.specs.Seats.{Joins, after_split, joined_view, spent_view}
-use Rattle.core_state.specs.Event.{Event, opens_pass, splits_visitor, joins_visitor, looks, of_locks, of_lists, of_bodies, of_batches, of_pool, of_walks, of_moves, LockEvent, loads_lock, takes_read, takes_write, releases, ListEvent, loads_list, stores_link, stores_head, BodyEvent, stores_field, creates, destroys, loads_body, sets_user, BatchEvent, loads_slot, reserves, marks, stores_node, places, attaches, takes_back, unmarks, lets_slot_go, PoolEvent, stores_pool_link, stores_pool_head, stores_pool_count, WalkEvent, begins_walk, ends_walk, MoveEvent, loads_parent, Run, begins, goes_on, ChangesOne}
+use Rattle.core_state.specs.Event.{Event, opens_pass, splits_visitor, joins_visitor, looks, of_locks, of_lists, of_bodies, of_batches, of_pool, of_walks, of_moves, LockEvent, loads_lock, takes_read, takes_write, releases, ListEvent, loads_list, stores_link, stores_head, BodyEvent, stores_field, creates, destroys, loads_body, sets_user, BatchEvent, loads_slot, reserves, marks, stores_node, places, attaches, takes_back, unmarks, lets_slot_go, PoolEvent, stores_pool_link, stores_pool_head, stores_pool_count, WalkEvent, begins_walk, ends_walk, walks_slot, walks_main, walks_child, walks_bound, MoveEvent, loads_parent, Run, begins, goes_on, ChangesOne}
 use Rattle.core_state.proofs.Lookups.{at_bound, at_one, at_longer, set_here, set_else}
 use Rattle.core_state.proofs.Prefixes.{IsPrefix-refl, IsPrefix-trans}
 use Rattle.core_state.proofs.Reading.{word-stored, word-other, words-push, words-named}
@@ -68,6 +68,10 @@ module _ (kind : Kind) (core : Core) (step : Step) where
         | nothing e f ↦ rw e (ap (λ (l : List Item). word core.config l name) (append-nil core.log))
         | its_item t e ↦ rw e (word-other core.config core.log (item_of kind step (left_by kind core step)) name (λ same. other (sym same)))
       ]
+
+  -- a step that stores nothing leaves them all
+  pub word-step-unstored : stores kind.operation (found_by core step) step.first ≡ false → (name : Name) → word core.config (log_after kind core step) name ≡ word_of core name
+  word-step-unstored none name = rw (gained-unstored kind core step none) (ap (λ (l : List Item). word core.config l name) (append-nil core.log))
 
   -- so in the table one place changes
   pub words-step : IsName core.config step.name → words core.config (log_after kind core step) ≡ slice_set (words core.config core.log) (place_of core.config step.name) (left_by kind core step)
@@ -135,6 +139,10 @@ pool-prefix before after (stores_pool_count e) = steps-prefix _ _ before after e
 walks-prefix : (before after : Core) → WalkEvent before after → IsPrefix before.log after.log
 walks-prefix before after (begins_walk e) = steps-prefix _ _ before after e
 walks-prefix before after (ends_walk e) = steps-prefix _ _ before after e
+walks-prefix before after (walks_slot e) = steps-prefix _ _ before after e
+walks-prefix before after (walks_main e) = steps-prefix _ _ before after e
+walks-prefix before after (walks_child e) = steps-prefix _ _ before after e
+walks-prefix before after (walks_bound e) = steps-prefix _ _ before after e
 
 moves-prefix : (before after : Core) → MoveEvent before after → IsPrefix before.log after.log
 moves-prefix before after (loads_parent index e) = steps-prefix _ _ before after e
@@ -220,6 +228,10 @@ pool-one before after (stores_pool_count e) = steps-one _ _ before after e
 walks-one : (before after : Core) → WalkEvent before after → ChangesOne before after
 walks-one before after (begins_walk e) = steps-one _ _ before after e
 walks-one before after (ends_walk e) = steps-one _ _ before after e
+walks-one before after (walks_slot e) = steps-one _ _ before after e
+walks-one before after (walks_main e) = steps-one _ _ before after e
+walks-one before after (walks_child e) = steps-one _ _ before after e
+walks-one before after (walks_bound e) = steps-one _ _ before after e
 
 moves-one : (before after : Core) → MoveEvent before after → ChangesOne before after
 moves-one before after (loads_parent index e) = steps-one _ _ before after e

@@ -11,7 +11,7 @@ use Rattle.core_state.specs.Lists.{MayLoadList, load_list, MayStoreLink, store_l
 use Rattle.core_state.specs.Lives.{MayStoreField, store_field, MayCreate, create, MayDestroy, destroy, MayLoadBody, load_body, MaySetUser, set_user}
 use Rattle.core_state.specs.Batches.{MayLoadSlot, load_slot, MayReserve, reserve, MayMark, mark, MayStoreNode, store_node, MayPlace, place_body, MayAttach, attach, MayTakeBack, take_back, MayUnmark, unmark, MayLetSlotGo, let_slot_go}
 use Rattle.core_state.specs.Pool.{MayStorePoolLink, store_pool_link, MayStorePoolHead, store_pool_head, MayStorePoolCount, store_pool_count}
-use Rattle.core_state.specs.Walks.{MayBegin, begin_walk, MayEnd, end_walk}
+use Rattle.core_state.specs.Walks.{MayBegin, begin_walk, MayEnd, end_walk, MayWalkSlot, walk_slot, MayWalkMain, walk_main, MayWalkChild, walk_child, MayWalkBound, walk_bound}
 use Rattle.core_state.specs.Moving.{MayLoadParentMoving, load_parent_moving}
 
 -- a step on a lock
@@ -53,10 +53,14 @@ pub data PoolEvent (before after : Core) : Type 0 where
   stores_pool_head : Steps MayStorePoolHead store_pool_head before after → PoolEvent before after
   stores_pool_count : Steps MayStorePoolCount store_pool_count before after → PoolEvent before after
 
--- the beginning or end of a walk
+-- the beginning or end of a walk, or a load of it
 pub data WalkEvent (before after : Core) : Type 0 where
   begins_walk : Steps MayBegin begin_walk before after → WalkEvent before after
   ends_walk : Steps MayEnd end_walk before after → WalkEvent before after
+  walks_slot : Steps MayWalkSlot walk_slot before after → WalkEvent before after
+  walks_main : Steps MayWalkMain walk_main before after → WalkEvent before after
+  walks_child : Steps MayWalkChild walk_child before after → WalkEvent before after
+  walks_bound : Steps MayWalkBound walk_bound before after → WalkEvent before after
 
 -- a step of a move
 pub data MoveEvent (before after : Core) : Type 0 where

@@ -1,26 +1,27 @@
 -- Bounds of trees only widen: no step stores one of a node that stands.
 use Rattle.std.specs.Prelude.{⊤}
-use Rattle.std.proofs.Common.{◌≡◌, ◌≢◌, ℕ, refl, ap, sym, ◌∙◌, subst, arith}
+use Rattle.std.proofs.Common.{◌≡◌, ◌≢◌, ℕ, false, refl, ap, sym, ◌∙◌, subst, arith}
 use Rattle.std.proofs.lemmas.Option.{same_Some}
 use Rattle.word_map.specs.declared.name.Name.{Name}
 use Rattle.word_map.specs.declared.name.Name.TheVariants.{Lock, SlotHead, SlotNext, State, User, Bound, Slot, Phase, LocA, PoolNext, PoolHead, PoolFree, Reader, Parent}
 use Rattle.core_state.specs.Core.{Core, word_of}
-use Rattle.core_state.specs.Kind.{Kind, Asking, Steps}
-use Rattle.core_state.specs.Event.{Event, opens_pass, splits_visitor, joins_visitor, looks, loads_lock, takes_read, takes_write, releases, loads_list, stores_link, stores_head, stores_field, creates, destroys, loads_body, sets_user, loads_slot, reserves, marks, places, attaches, takes_back, unmarks, lets_slot_go, stores_pool_link, stores_pool_head, stores_pool_count, stores_node, of_locks, of_lists, of_bodies, of_batches, of_pool, begins_walk, ends_walk, of_walks, loads_parent, of_moves}
+use Rattle.core_state.specs.Operation.{stores}
+use Rattle.core_state.specs.Kind.{Kind, Asking, Steps, found_by}
+use Rattle.core_state.specs.Event.{Event, opens_pass, splits_visitor, joins_visitor, looks, loads_lock, takes_read, takes_write, releases, loads_list, stores_link, stores_head, stores_field, creates, destroys, loads_body, sets_user, loads_slot, reserves, marks, places, attaches, takes_back, unmarks, lets_slot_go, stores_pool_link, stores_pool_head, stores_pool_count, stores_node, of_locks, of_lists, of_bodies, of_batches, of_pool, begins_walk, ends_walk, walks_slot, walks_main, walks_child, walks_bound, of_walks, loads_parent, of_moves}
 use Rattle.core_state.specs.Looking.{look}
 use Rattle.core_state.specs.Locking.{load_lock, take_read, take_write, release}
 use Rattle.core_state.specs.Lists.{load_list, store_link, store_head}
 use Rattle.core_state.specs.Lives.{IsFieldOf, store_field, create, destroy, load_body, set_user}
 use Rattle.core_state.specs.Batches.{MayStoreNode, load_slot, reserve, mark, store_node, place_body, attach, take_back, unmark, let_slot_go}
 use Rattle.core_state.specs.Pool.{store_pool_link, store_pool_head, store_pool_count}
-use Rattle.core_state.specs.Walks.{begin_walk, end_walk}
+use Rattle.core_state.specs.Walks.{begin_walk, end_walk, walk_slot, walk_main, walk_child, walk_bound}
 use Rattle.core_state.specs.Moving.{load_parent_moving}
 use Rattle.core_state.specs.Invariants.{Invariants}
 use Rattle.core_batch.proofs.Owning.{batch-home}
 use Rattle.core_state.specs.Nodes.{Nodes, Stands, node_in}
 use Rattle.core_state.specs.TreesSound.{BoundsOnlyWiden}
 use Rattle.core_state.specs.Unseen.{IsUnseen}
-use Rattle.core_state.proofs.Steps.{word-step-other}
+use Rattle.core_state.proofs.Steps.{word-step-other, word-step-unstored}
 use Rattle.core_state.proofs.Keeping.{visits-unseen, joins-unseen, load-unseen, look-plain, load_lock-plain, load_list-plain, load_body-plain, load_slot-plain}
 
 -- the name of a side of a bound
@@ -46,6 +47,13 @@ on_other nodes asks kind before after steps other =
 aside : (nodes : Nodes) (asks : Asking) (kind : Kind) (before after : Core) (steps : Steps asks kind before after) (other : Name) → steps.step.name ≡ other → ¬ IsSide other
     → BoundsOnlyWiden nodes before after
 aside nodes asks kind before after steps other e none = on_other nodes asks kind before after steps (no_side steps.step.name other e none)
+
+-- a step that stores nothing
+on_load : (nodes : Nodes) (asks : Asking) (kind : Kind) (before after : Core) (steps : Steps asks kind before after) → ((found first : ℕ) → stores kind.operation found first ≡ false)
+    → BoundsOnlyWiden nodes before after
+on_load nodes asks kind before after steps loads =
+    as_wide nodes before after
+    (λ n k q. ap (λ (c : Core). word_of c (Bound n k q)) steps.result ∙ word-step-unstored kind before steps.step (loads (found_by before steps.step) steps.step.first) (Bound n k q))
 
 -- one on a word of an own node: this stands in no tree
 on_own : (before after : Core) (h : Invariants before) → Steps MayStoreNode store_node before after → BoundsOnlyWiden h.nodes before after
@@ -98,4 +106,8 @@ module _ (before after : Core) (h : Invariants before) where
   event_widens (of_pool (stores_pool_count e)) = let asked = e.allowed.asked in aside h.nodes _ store_pool_count before after e PoolFree asked.names (λ none. none)
   event_widens (of_walks (begins_walk e)) = let asked = e.allowed.asked in aside h.nodes _ begin_walk before after e (Reader asked.number) asked.names (λ none. none)
   event_widens (of_walks (ends_walk e)) = let asked = e.allowed.asked in aside h.nodes _ end_walk before after e (Reader asked.number) asked.names (λ none. none)
+  event_widens (of_walks (walks_slot e)) = on_load h.nodes _ walk_slot before after e (λ found first. refl)
+  event_widens (of_walks (walks_main e)) = on_load h.nodes _ walk_main before after e (λ found first. refl)
+  event_widens (of_walks (walks_child e)) = on_load h.nodes _ walk_child before after e (λ found first. refl)
+  event_widens (of_walks (walks_bound e)) = on_load h.nodes _ walk_bound before after e (λ found first. refl)
   event_widens (of_moves (loads_parent index e)) = let asked = e.allowed.asked in aside h.nodes _ (load_parent_moving index) before after e (Parent asked.node) asked.names (λ none. none)

@@ -1,10 +1,17 @@
 //! What is proved of the kinds of step of a walk, as the layers above use it. No call here does anything.
+ghost use Rattle.std.specs.Prelude.{ℕ};
+ghost use Rattle.fixed_box.specs.Touch.{Touch};
+ghost use Rattle.scene_model.specs.History.{IsDue};
+ghost use Rattle.core_state.specs.declared.view.View.{View};
 ghost use Rattle.core_state.specs.Core.{Core};
 ghost use Rattle.core_state.specs.Kind.{Steps};
 ghost use Rattle.core_state.specs.Walks.{MayBegin, begin_walk, MayEnd, end_walk};
 ghost use Rattle.core_state.specs.Formed.{IsFormed};
 ghost use Rattle.core_state.specs.Guards.{GuardsHold};
 ghost use Rattle.core_state.specs.Invariants.{Invariants};
+ghost use Rattle.core_state.specs.WalkRecord.{IsCandidate};
+ghost use Rattle.core_state.specs.Walking.{Query};
+ghost use Rattle.core_query.specs.Ends.{IsWalking, walked_to, IsAtEnd, since};
 
 /// The beginning and the end of a walk keep all invariants: when it begins, each body that it has to find is ahead of it.
 pub fn walks_begin_and_end()
@@ -16,4 +23,12 @@ pub fn walks_begin_and_end()
 pub fn walks_are_guarded()
     ensures begins { (before after : Core) → Steps MayBegin begin_walk before after → IsFormed before → Invariants before → GuardsHold before → GuardsHold after }
     ensures ends { (before after : Core) → Steps MayEnd end_walk before after → IsFormed before → Invariants before → GuardsHold before → GuardsHold after }
+{}
+
+/// Where a walk has nothing left to read, every body that it has to find is a candidate: each one that at every point since
+/// the walk began was in the broad phase, in an asked layer, with a box that touches the shape.
+pub fn walks_find_all_due()
+    ensures { (core : Core) (query : Query) (seat number : ℕ) (view : View) → Invariants core → IsWalking core query seat number view
+        → IsAtEnd (walked_to core query view) → (index generation : ℕ)
+        → IsDue (Touch query.shape) query.mask core.config.bodies (since core view.walk) index generation → IsCandidate query.shape view.walk.loads index }
 {}

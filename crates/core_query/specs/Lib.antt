@@ -1,1 +1,3 @@
 pub mod Ends
+pub mod WholeRecord
+pub mod Clear

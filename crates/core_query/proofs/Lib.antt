@@ -1,7 +1,10 @@
 pub mod WalkSteps
 pub mod Keeping
+pub mod Asked
 pub mod Positions
 pub mod Recording
 pub mod Pruned
+pub mod Finding
 pub mod Ended
+pub mod Cleared
 pub mod Stacks

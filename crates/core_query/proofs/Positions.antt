@@ -16,56 +16,7 @@ use Rattle.word_map.specs.Names.{IsName}
 use Rattle.core_state.specs.declared.item.Load.{Load}
 use Rattle.core_state.specs.declared.view.Waiting.{Waiting}
 use Rattle.core_state.specs.Walking.{Query, Spot, resting, at_child, at_bound, Position, waiting, words_of_layer, asked_words, start, next_node, next_child, roots_in, pushed, after_side, advance_from, advance, replay, position_of}
-use Rattle.core_state.proofs.Beginning.{cases_cons}
-use Rattle.core_state.proofs.Opening.{none_in, only}
-
--- ---- the words that a query reads
-
-below_length : (n i : ℕ) → Contains (range_with_len 0 n) i → i < n
-below_length n i h =
-    let len = length-range_with_len 0 n in
-    let below : h.0 < n = rw (← len) h.1 in
-    let at = get_or-range_with_len 0 n h.0 i below in
-    let same = sym at ∙ h.2 in
-    omega arith
-
-filtered : {X : Type 0} (p : X → Bool) (xs : List X) (x : X) → Contains (filter p xs) x → Contains xs x
-filtered p [] x h = h
-filtered p (y ∷ xs) x h =
-    elim (cases_Bool (p y)) [
-      | inl test ↦ let kept = rw test at h in
-          elim (cases_cons y (filter p xs) x kept) [ inl first ↦ (0, omega arith, first) | inr later ↦ let t = filtered p xs x later in (suc t.0, omega (arith, t.1), t.2) ]
-      | inr test ↦ let kept = rw test at h in let t = filtered p xs x kept in (suc t.0, omega (arith, t.1), t.2)
-    ]
-
--- those of a layer are words of the world
-slot_named : (c : Config) (layer : ℕ) (slots : List ℕ) (name : Name) → layer < c.layers → ((t : ℕ) → Contains slots t → t < c.slots) → Contains (map (Slot layer) slots) name → IsName c name
-slot_named c layer [] name below all h = absurd (none_in name h)
-slot_named c layer (t ∷ slots) name below all h =
-    elim (cases_cons (Slot layer t) (map (Slot layer) slots) name h) [
-      | inl first ↦ subst (IsName c) first (below, all t (0, omega arith, refl))
-      | inr later ↦ slot_named c layer slots name below (λ s among. all s (suc among.0, omega (arith, among.1), among.2)) later
-    ]
-
-layer_named : (c : Config) (layer : ℕ) (name : Name) → layer < c.layers → Contains (words_of_layer c layer) name → IsName c name
-layer_named c layer name below h =
-    elim (Contains-append_cases (map (Slot layer) (range_with_len 0 c.slots)) (Main layer ∷ []) name h) [
-      | inl slot ↦ slot_named c layer (range_with_len 0 c.slots) name below (below_length c.slots) slot
-      | inr main ↦ subst (IsName c) (only (Main layer) name main) below
-    ]
-
-layers_named : (c : Config) (layers : List ℕ) (name : Name) → ((l : ℕ) → Contains layers l → l < c.layers) → Contains (flat_map (words_of_layer c) layers) name → IsName c name
-layers_named c [] name below h = absurd (none_in name h)
-layers_named c (layer ∷ layers) name below h =
-    elim (Contains-append_cases (words_of_layer c layer) (flat_map (words_of_layer c) layers) name h) [
-      | inl first ↦ layer_named c layer name (below layer (0, omega arith, refl)) first
-      | inr later ↦ layers_named c layers name (λ l among. below l (suc among.0, omega (arith, among.1), among.2)) later
-    ]
-
-pub asked_named : (c : Config) (mask : ℕ) (name : Name) → Contains (asked_words c mask) name → IsName c name
-asked_named c mask name h =
-    layers_named c (filter (λ layer. bit_at mask layer == 1) (range_with_len 0 c.layers)) name
-    (λ l among. below_length c.layers l (filtered (λ layer. bit_at mask layer == 1) (range_with_len 0 c.layers) l among)) h
+use Rattle.core_query.proofs.Asked.{behind, IsAskedWord, asked-word}
 
 -- ---- the stack
 
@@ -80,33 +31,33 @@ IsShortAt resting stack = stack ≡ []
 IsShortAt (at_child n level k) stack = (k < 4) × (length stack + 3 ≤ 3 * level + k)
 IsShortAt (at_bound n level k x read) stack = (k < 4) × (length read < 6) × (length stack + 3 ≤ 3 * level + k)
 
-pub record IsOrderly (c : Config) (at : Position) : Type 0 where
-  pub words : (name : Name) → Contains at.rest name → IsName c name
+pub record IsOrderly (c : Config) (mask : ℕ) (at : Position) : Type 0 where
+  pub words : (name : Name) → Contains at.rest name → IsAskedWord c mask name
   pub stack : IsShort at.stack
   pub spot : IsShortAt at.spot at.stack
 
-abbrev AreWords : Config → List Name → Type 0
-AreWords c rest = (name : Name) → Contains rest name → IsName c name
+abbrev AreWords : Config → ℕ → List Name → Type 0
+AreWords c mask rest = (name : Name) → Contains rest name → IsAskedWord c mask name
 
-next_node-orderly : (c : Config) (rest : List Name) (stack : List Waiting) → AreWords c rest → IsShort stack → IsOrderly c (next_node rest stack)
-next_node-orderly c rest [] words short = record { words = words; stack = tt; spot = refl }
-next_node-orderly c rest (w ∷ stack) words short = let first = short.0 in record { words = words; stack = short.1; spot = (omega arith, omega arith) }
+next_node-orderly : (c : Config) (mask : ℕ) (rest : List Name) (stack : List Waiting) → AreWords c mask rest → IsShort stack → IsOrderly c mask (next_node rest stack)
+next_node-orderly c mask rest [] words short = record { words = words; stack = tt; spot = refl }
+next_node-orderly c mask rest (w ∷ stack) words short = let first = short.0 in record { words = words; stack = short.1; spot = (omega arith, omega arith) }
 
-next_child-orderly : (c : Config) (rest : List Name) (stack : List Waiting) (n level k : ℕ) → k < 4 → AreWords c rest → IsShort stack → length stack + 3 ≤ 3 * level + (k + 1)
-    → IsOrderly c (next_child rest stack n level k)
-next_child-orderly c rest stack n level k low words short room =
-    cond_both (nat_lt k 3) (record { rest = rest; stack = stack; spot = at_child n level (k + 1) }) (next_node rest stack) (IsOrderly c)
+next_child-orderly : (c : Config) (mask : ℕ) (rest : List Name) (stack : List Waiting) (n level k : ℕ) → k < 4 → AreWords c mask rest → IsShort stack → length stack + 3 ≤ 3 * level + (k + 1)
+    → IsOrderly c mask (next_child rest stack n level k)
+next_child-orderly c mask rest stack n level k low words short room =
+    cond_both (nat_lt k 3) (record { rest = rest; stack = stack; spot = at_child n level (k + 1) }) (next_node rest stack) (IsOrderly c mask)
     (λ more. let below = ltb-true k 3 more in record { words = words; stack = short; spot = (omega arith, omega arith) })
-    (λ last. next_node-orderly c rest stack words short)
+    (λ last. next_node-orderly c mask rest stack words short)
 
 -- a child whose bound was read is put on the stack, or is not
-after_bound-orderly : (c : Config) (rest : List Name) (stack : List Waiting) (n level k x : ℕ) → k < 4 → AreWords c rest → IsShort stack → length stack + 3 ≤ 3 * level + k
-    → (touches : Bool) → IsOrderly c (next_child rest (if touches then pushed level x stack else stack) n level k)
-after_bound-orderly c rest stack n level k x low words short room false = next_child-orderly c rest stack n level k low words short (omega arith)
-after_bound-orderly c rest stack n level k x low words short room true =
-    cond_both (x % 2 == 0) (waiting ((x - 2) / 2) (suc level) ∷ stack) stack (λ (s : List Waiting). IsOrderly c (next_child rest s n level k))
-    (λ node. next_child-orderly c rest (waiting ((x - 2) / 2) (suc level) ∷ stack) n level k low words (omega arith, short) (omega arith))
-    (λ body. next_child-orderly c rest stack n level k low words short (omega arith))
+after_bound-orderly : (c : Config) (mask : ℕ) (rest : List Name) (stack : List Waiting) (n level k x : ℕ) → k < 4 → AreWords c mask rest → IsShort stack → length stack + 3 ≤ 3 * level + k
+    → (touches : Bool) → IsOrderly c mask (next_child rest (if touches then pushed level x stack else stack) n level k)
+after_bound-orderly c mask rest stack n level k x low words short room false = next_child-orderly c mask rest stack n level k low words short (omega arith)
+after_bound-orderly c mask rest stack n level k x low words short room true =
+    cond_both (x % 2 == 0) (waiting ((x - 2) / 2) (suc level) ∷ stack) stack (λ (s : List Waiting). IsOrderly c mask (next_child rest s n level k))
+    (λ node. next_child-orderly c mask rest (waiting ((x - 2) / 2) (suc level) ∷ stack) n level k low words (omega arith, short) (omega arith))
+    (λ body. next_child-orderly c mask rest stack n level k low words short (omega arith))
 
 roots-short : (name : Name) (value : ℕ) → IsShort (roots_in name value)
 roots-short (Main l) zero = tt
@@ -114,27 +65,27 @@ roots-short (Main l) (suc root) = (omega arith, tt)
 roots-short (Slot l t) value = cond_both (nat_le 1024 value) (waiting (value - 1024) 1 ∷ []) [] IsShort (λ e. (omega arith, tt)) (λ e. tt)
 roots-short _ value = tt
 
-advance-orderly : (c : Config) (query : Query) (rest : List Name) (stack : List Waiting) (spot : Spot) (value : ℕ) → AreWords c rest → IsShort stack → IsShortAt spot stack
-    → IsOrderly c (advance_from query rest stack spot value)
-advance-orderly c query [] stack resting value words short at = record { words = words; stack = short; spot = at }
-advance-orderly c query (name ∷ rest) stack resting value words short at =
-    next_node-orderly c rest (roots_in name value) (λ n among. words n (suc among.0, omega (arith, among.1), among.2)) (roots-short name value)
-advance-orderly c query rest stack (at_child n level k) value words short at =
+advance-orderly : (c : Config) (mask : ℕ) (query : Query) (rest : List Name) (stack : List Waiting) (spot : Spot) (value : ℕ) → AreWords c mask rest → IsShort stack → IsShortAt spot stack
+    → IsOrderly c mask (advance_from query rest stack spot value)
+advance-orderly c mask query [] stack resting value words short at = record { words = words; stack = short; spot = at }
+advance-orderly c mask query (name ∷ rest) stack resting value words short at =
+    next_node-orderly c mask rest (roots_in name value) (λ n among. words n (behind name rest n among)) (roots-short name value)
+advance-orderly c mask query rest stack (at_child n level k) value words short at =
     let room = at.1 in
-    cond_both (value == 0) (next_child rest stack n level k) (record { rest = rest; stack = stack; spot = at_bound n level k value [] }) (IsOrderly c)
-    (λ none. next_child-orderly c rest stack n level k at.0 words short (omega arith))
+    cond_both (value == 0) (next_child rest stack n level k) (record { rest = rest; stack = stack; spot = at_bound n level k value [] }) (IsOrderly c mask)
+    (λ none. next_child-orderly c mask rest stack n level k at.0 words short (omega arith))
     (λ some. record { words = words; stack = short; spot = (at.0, omega arith, room) })
-advance-orderly c query rest stack (at_bound n level k x read) value words short at =
+advance-orderly c mask query rest stack (at_bound n level k x read) value words short at =
     let sides = read ++ value ∷ [] in
     cond_both (nat_lt (length sides) 6) (record { rest = rest; stack = stack; spot = at_bound n level k x sides })
-    (next_child rest (if query.test sides then pushed level x stack else stack) n level k) (IsOrderly c)
+    (next_child rest (if query.test sides then pushed level x stack else stack) n level k) (IsOrderly c mask)
     (λ less. record { words = words; stack = short; spot = (at.0, ltb-true (length sides) 6 less, at.2) })
-    (λ whole. after_bound-orderly c rest stack n level k x at.0 words short at.2 (query.test sides))
+    (λ whole. after_bound-orderly c mask rest stack n level k x at.0 words short at.2 (query.test sides))
 
-replay-orderly : (c : Config) (query : Query) (loads : List Load) (at : Position) → IsOrderly c at → IsOrderly c (replay query at loads)
-replay-orderly c query [] at h = h
-replay-orderly c query (l ∷ loads) at h = replay-orderly c query loads (advance query at l) (advance-orderly c query at.rest at.stack at.spot l.value h.words h.stack h.spot)
+replay-orderly : (c : Config) (mask : ℕ) (query : Query) (loads : List Load) (at : Position) → IsOrderly c mask at → IsOrderly c mask (replay query at loads)
+replay-orderly c mask query [] at h = h
+replay-orderly c mask query (l ∷ loads) at h = replay-orderly c mask query loads (advance query at l) (advance-orderly c mask query at.rest at.stack at.spot l.value h.words h.stack h.spot)
 
 -- so it is wherever a query comes to, whatever it has read
-pub position-orderly : (c : Config) (query : Query) (loads : List Load) → IsOrderly c (position_of c query loads)
-position-orderly c query loads = replay-orderly c query loads (start c query) (record { words = asked_named c query.mask; stack = tt; spot = refl })
+pub position-orderly : (c : Config) (query : Query) (loads : List Load) → IsOrderly c query.mask (position_of c query loads)
+position-orderly c query loads = replay-orderly c query.mask query loads (start c query) (record { words = asked-word c query.mask; stack = tt; spot = refl })

@@ -49,7 +49,7 @@ named-few _ value = omega arith
 -- ---- the layer at hand
 
 -- a main word or slot that is read is of the layer then at hand
-word-layer : (o : Option ℕ) (name : Name) (value l : ℕ) → layer_of name ≡ Some l → layer_after o (record { name = name; value = value }) ≡ Some l
+pub word-layer : (o : Option ℕ) (name : Name) (value l : ℕ) → layer_of name ≡ Some l → layer_after o (record { name = name; value = value }) ≡ Some l
 word-layer o (Main m) value l e = e
 word-layer o (Slot m t) value l e = e
 word-layer o _ value l e = absurd (none-some l e)
@@ -125,7 +125,13 @@ module _ (s : Sight) where
     child-later : (n k : ℕ) (child : ReadChild) (later : List Load) → LiesFrom (Some l) (child_loads n k child ++ later) → LiesFrom (Some l) later
     child-later n k child later h = subst (λ (o : Option ℕ). LiesFrom o later) (child-layer (Some l) n k child) (lies-later (Some l) (child_loads n k child) later h)
 
-    node-ends : (n : ℕ) (children : ℕ → ReadChild) (later : List Load) → LiesFrom (Some l) (node_loads n children ++ later) → (nodes_to_walk query children ≡ []) × LiesFrom (Some l) later
+    -- of a node that was read nothing is to be walked, and no child's bound touches
+    pub record EndsAt (children : ℕ → ReadChild) (later : List Load) : Type 0 where
+      pub nodes : nodes_to_walk query children ≡ []
+      pub lies : LiesFrom (Some l) later
+      pub untouched : (k : ℕ) → k < 4 → ((children k).word == 0) ≡ false → query.test (six_words (children k).bound) ≡ false
+
+    pub node-ends : (n : ℕ) (children : ℕ → ReadChild) (later : List Load) → LiesFrom (Some l) (node_loads n children ++ later) → EndsAt children later
     node-ends n children later h =
         let a = child_loads n 0 (children 0) in
         let b = child_loads n 1 (children 1) in
@@ -134,20 +140,35 @@ module _ (s : Sight) where
         let p : LiesFrom (Some l) (a ++ (b ++ (c ++ (d ++ later)))) = subst (LiesFrom (Some l)) (four-split a b c d later) h in
         let q = child-later n 0 (children 0) (b ++ (c ++ (d ++ later))) p in
         let r = child-later n 1 (children 1) (c ++ (d ++ later)) q in
-        let t = child-later n 2 (children 2) (d ++ later) r in (
-          none-joined (node_to_walk query (children 3)) (node_to_walk query (children 2)) (node_to_walk query (children 1)) (node_to_walk query (children 0))
-          (child-ends n 3 (children 3) later t) (child-ends n 2 (children 2) (d ++ later) r) (child-ends n 1 (children 1) (c ++ (d ++ later)) q) (child-ends n 0 (children 0) (b ++ (c ++ (d ++ later))) p),
-          child-later n 3 (children 3) later t,
-        )
+        let t = child-later n 2 (children 2) (d ++ later) r in
+        record {
+          nodes =
+              none-joined (node_to_walk query (children 3)) (node_to_walk query (children 2)) (node_to_walk query (children 1)) (node_to_walk query (children 0))
+              (child-ends n 3 (children 3) later t) (child-ends n 2 (children 2) (d ++ later) r) (child-ends n 1 (children 1) (c ++ (d ++ later)) q) (child-ends n 0 (children 0) (b ++ (c ++ (d ++ later))) p);
+          lies = child-later n 3 (children 3) later t;
+          untouched = λ k low some.
+              each k low some (λ e. child-untouched n 0 (children 0) (b ++ (c ++ (d ++ later))) e p) (λ e. child-untouched n 1 (children 1) (c ++ (d ++ later)) e q)
+              (λ e. child-untouched n 2 (children 2) (d ++ later) e r) (λ e. child-untouched n 3 (children 3) later e t);
+        }
       where
         four-split : (a b c d later : List Load) → (a ++ (b ++ (c ++ (d ++ [])))) ++ later ≡ a ++ (b ++ (c ++ (d ++ later)))
         four-split a b c d later = simp append_assoc
+
+        Untouched : ℕ → Type 0
+        Untouched k = ((children k).word == 0) ≡ false → query.test (six_words (children k).bound) ≡ false
+
+        each : (k : ℕ) → k < 4 → ((children k).word == 0) ≡ false → Untouched 0 → Untouched 1 → Untouched 2 → Untouched 3 → query.test (six_words (children k).bound) ≡ false
+        each zero low some p q r t = p some
+        each (suc zero) low some p q r t = q some
+        each (suc (suc zero)) low some p q r t = r some
+        each (suc (suc (suc zero))) low some p q r t = t some
+        each (suc (suc (suc (suc k)))) low some p q r t = absurd (omega arith)
 
   -- ---- all that is left
 
   module _ (query : Query) where
     -- some layer is at hand of which the shape is clear
-    abbrev IsClearAt : Option ℕ → Type 0
+    abbrev pub IsClearAt : Option ℕ → Type 0
     IsClearAt o = (l : ℕ) × (o ≡ Some l) × IsClearOf s query.shape l
 
     pub few-loads : (o : Option ℕ) (nodes : List ℕ) (names : List Name) (loads : List Load) → IsWholeRecord query nodes names loads → LiesFrom o loads → (0 < length nodes → IsClearAt o)
@@ -163,8 +184,8 @@ module _ (s : Sight) where
     few-loads o nodes names loads (of_node n children more words later whole) lies hand clear =
         let c = hand (omega arith) in
         let ends = node-ends query c.0 c.2 n children later (subst (λ (p : Option ℕ). LiesFrom p (node_loads n children ++ later)) c.1 lies) in
-        let h = few-loads (Some c.0) (nodes_to_walk query children ++ more) words later whole ends.1 (λ some. (c.0, refl, c.2)) clear in
-        let none = ap (λ (x : List ℕ). length (x ++ more)) ends.0 in
+        let h = few-loads (Some c.0) (nodes_to_walk query children ++ more) words later whole ends.lies (λ some. (c.0, refl, c.2)) clear in
+        let none = ap (λ (x : List ℕ). length (x ++ more)) ends.nodes in
         let all = length-append (node_loads n children) later in
         let few = node-few n children in
         omega arith

@@ -20,6 +20,7 @@ use Rattle.core_state.specs.Invariants.{Invariants}
 use Rattle.core_state.proofs.Beginning.{cases_cons, contains_first}
 use Rattle.core_guard.proofs.Leaving.{live-stands}
 use Rattle.core_query.specs.Ends.{IsWalking, walked_to}
+use Rattle.core_query.proofs.Asked.{IsAskedWord}
 use Rattle.core_query.proofs.Positions.{IsShortAt, IsOrderly, position-orderly}
 use Rattle.core_query.proofs.Ended.{stays}
 
@@ -94,11 +95,11 @@ module _ (core : Core) (h : Invariants core) (query : Query) (seat number : ℕ)
 
   -- ---- what it reads next
 
-  next-named : (rest : List Name) (spot : Spot) → ((name : Name) → Contains rest name → IsName core.config name) → IsShortAt spot at.stack
+  next-named : (rest : List Name) (spot : Spot) → ((name : Name) → Contains rest name → IsAskedWord core.config query.mask name) → IsShortAt spot at.stack
       → ((n : ℕ) → ReachesBySpot (word_in reader_scope core) n spot → n < node_count core.config)
       → (name : Name) → next_word rest spot ≡ Some name → IsName core.config name
   next-named [] resting words short below name e = absurd (none-some name e)
-  next-named (first ∷ rest) resting words short below name e = words name (0, omega arith, same_Some first name e)
+  next-named (first ∷ rest) resting words short below name e = (words name (0, omega arith, same_Some first name e)).named
   next-named rest (at_child n level k) words short below name e = subst (IsName core.config) (same_Some (Child n k) name e) (below n (the_node level k), short.0)
   next-named rest (at_bound n level k x read) words short below name e =
       subst (IsName core.config) (same_Some (Bound n k (length read)) name e) (below n (the_node_of_bound level k x read), short.0, short.1)

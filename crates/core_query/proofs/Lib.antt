@@ -6,5 +6,6 @@ pub mod Recording
 pub mod Pruned
 pub mod Finding
 pub mod Ended
+pub mod Once
 pub mod Cleared
 pub mod Stacks

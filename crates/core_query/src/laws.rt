@@ -1,10 +1,12 @@
 //! What is proved of the kinds of step of a walk, as the layers above use it. No call here does anything.
-ghost use Rattle.std.specs.Prelude.{◌≡◌, ℕ, ◌<◌, ◌≤◌, length, Contains, Some};
+ghost use Rattle.std.specs.Prelude.{◌≡◌, ℕ, ◌+◌, ◌*◌, ◌<◌, ◌≤◌, List, [], ◌∷◌, ◌++◌, length, Contains, Some};
 ghost use Rattle.fixed_box.specs.Touch.{Touch};
 ghost use Rattle.scene_model.specs.History.{IsDue};
 ghost use Rattle.word_map.specs.declared.name.Name.{Name};
 ghost use Rattle.word_map.specs.declared.name.Name.TheVariants.{Child};
 ghost use Rattle.word_map.specs.Names.{IsName};
+ghost use Rattle.word_map.specs.declared.config.Config.{Config};
+ghost use Rattle.core_state.specs.declared.item.Load.{Load};
 ghost use Rattle.core_state.specs.declared.view.View.{View};
 ghost use Rattle.core_state.specs.declared.view.Waiting.{Waiting};
 ghost use Rattle.core_state.specs.Core.{Core, word_of};
@@ -15,9 +17,12 @@ ghost use Rattle.core_state.specs.Formed.{IsFormed};
 ghost use Rattle.core_state.specs.Guards.{GuardsHold};
 ghost use Rattle.core_state.specs.Invariants.{Invariants};
 ghost use Rattle.core_state.specs.WalkRecord.{IsCandidate};
-ghost use Rattle.core_state.specs.Walking.{Query, at_child, next_word};
+ghost use Rattle.core_state.specs.Walking.{Query, at_child, next_word, Follows, asked_words, position_of};
 ghost use Rattle.core_state.specs.ReadersCounted.{waiting_at};
 ghost use Rattle.core_query.specs.Ends.{IsWalking, walked_to, IsAtEnd, since};
+ghost use Rattle.core_query.specs.WholeRecord.{IsWholeRecord};
+ghost use Rattle.core_query.specs.Found.{IsFound, WalksOnce};
+ghost use Rattle.core_query.specs.Clear.{IsClear, asked_layers};
 
 /// The beginning and the end of a walk keep all invariants: when it begins, each body that it has to find is ahead of it.
 pub fn walks_begin_and_end()
@@ -56,4 +61,31 @@ pub fn stacks_of_walks_are_short()
         → length (waiting_at (walked_to core query view).spot (walked_to core query view).stack) ≤ 31 }
     ensures room { (core : Core) (query : Query) (seat number : ℕ) (view : View) → Invariants core → IsWalking core query seat number view
         → length (walked_to core query view).stack < 31 }
+{}
+
+/// What a query has read when nothing is left is a whole record, and nothing else: for each asked layer, ascending, one load
+/// of each slot and then of the main word, each followed by the walk of its tree; of each node that is walked one load of
+/// each of its four children, and six of the bound of each child that is not 0.
+pub fn records_of_walks_are_whole()
+    ensures { (c : Config) (query : Query) (loads : List Load) → Follows c query loads → IsAtEnd (position_of c query loads)
+        → IsWholeRecord query [] (asked_words c query.mask) loads }
+{}
+
+/// No node is walked twice: where that is so of what a walk has read, it is so with the next load too.
+pub fn nodes_are_walked_once()
+    ensures { (core : Core) (query : Query) (seat number : ℕ) (view : View) → Invariants core → IsWalking core query seat number view → WalksOnce view.walk.loads
+        → (name : Name) → next_word (walked_to core query view).rest (walked_to core query view).spot ≡ Some name → (value : ℕ)
+        → WalksOnce (view.walk.loads ++ record { name = name; value = value } ∷ []) }
+{}
+
+/// Where the shape touches no box in the space of an asked layer, as it stands when nothing is left to read, a walk has read
+/// of each tree no more than the root: 29 loads for each slot and main word. It found no body, and has no candidate.
+pub fn clear_walks_read_roots_alone()
+    ensures loads { (core : Core) (query : Query) (seat number : ℕ) (view : View) → Invariants core → IsWalking core query seat number view
+        → IsAtEnd (walked_to core query view) → IsClear core query
+        → length view.walk.loads ≤ 29 * ((core.config.slots + 1) * length (asked_layers core.config query.mask)) }
+    ensures found { (core : Core) (query : Query) (seat number : ℕ) (view : View) → Invariants core → IsWalking core query seat number view
+        → IsAtEnd (walked_to core query view) → IsClear core query → (index : ℕ) → ¬ IsFound query view.walk.loads index }
+    ensures candidates { (core : Core) (query : Query) (seat number : ℕ) (view : View) → Invariants core → IsWalking core query seat number view
+        → IsAtEnd (walked_to core query view) → IsClear core query → WalksOnce view.walk.loads → (index : ℕ) → ¬ IsCandidate query.shape view.walk.loads index }
 {}

@@ -24,7 +24,8 @@ use Rattle.core_query.specs.Clear.{IsClear, asked_layers}
 use Rattle.core_query.proofs.Asked.{behind, asked-word, asked-count}
 use Rattle.core_query.proofs.Recording.{whole-record}
 use Rattle.core_query.proofs.Pruned.{word-layer, LiesFrom, lies-later, node-ends, IsClearAt, few-loads}
-use Rattle.core_query.proofs.Finding.{node-back, of-none, AreOfLayers, candidate-found}
+use Rattle.core_query.proofs.Finding.{node-back, of-none, asked-layers}
+use Rattle.core_query.proofs.Walked.{candidate-found}
 use Rattle.core_query.proofs.Ended.{reads}
 
 -- two lists that are the same have the same first element, and the same behind it
@@ -130,4 +131,4 @@ module _ (core : Core) (h : Invariants core) (query : Query) (seat number : ℕ)
   pub clear-no_candidate : WalksOnce view.walk.loads → (index : ℕ) → ¬ IsCandidate query.shape view.walk.loads index
   clear-no_candidate once index candidate =
       clear-not_found index (candidate-found query names view.walk.loads whole
-      (λ name among none. let t = asked-word core.config query.mask name among in none-some t.layer (sym none ∙ t.of_layer)) once index candidate)
+      (asked-layers core.config query.mask) once index candidate)

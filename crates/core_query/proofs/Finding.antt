@@ -1,5 +1,5 @@
--- What a whole record says of a single load: of a node's loads the node was read as one, and where no node was walked twice
--- a candidate is a body that was found.
+-- What a whole record says of a single load: it is that of a word that was to be read, or one of those of a node that was
+-- read as one. Where no node was walked twice, these are all loads of the node.
 use Rattle.std.proofs.Common.{◌≡◌, ◌≢◌, ◌⊎◌, ℕ, zero, suc, ◌+◌, ◌*◌, ◌<◌, ◌≤◌, List, [], ◌∷◌, ◌++◌, Option, Some, None, true, false, get_or, length, refl, ap, sym, ◌∙◌, subst, inl, inr, arith, append_assoc}
 use Rattle.std.specs.Prelude.{Contains, AllPairs, map, flat_map, ◌==◌, if◌then◌else◌, slice_index}
 use Rattle.std.specs.List.{range_with_len}
@@ -7,20 +7,21 @@ use Rattle.std.proofs.lemmas.Bool.{cases_Bool, cases_eq, ne_eqb}
 use Rattle.std.proofs.lemmas.Option.{none-some, same_Some}
 use Rattle.std.proofs.lemmas.List.Elements.{Contains-append_left, Contains-append_right, Contains-append_cases}
 use Rattle.fixed_box.specs.FixBox.{words_of}
+use Rattle.word_map.specs.declared.config.Config.{Config}
 use Rattle.word_map.specs.declared.name.Name.{Name}
 use Rattle.word_map.specs.declared.name.Name.TheVariants.{Child, Bound, Parent}
 use Rattle.core_state.specs.declared.item.Load.{Load}
 use Rattle.core_state.specs.Encoding.{Sides, body_child, layer_of}
 use Rattle.core_state.specs.Nodes.{node_in}
 use Rattle.core_state.specs.WalkRecord.{IsLoaded, IsCandidate}
-use Rattle.core_state.specs.Walking.{Query}
+use Rattle.core_state.specs.Walking.{Query, asked_words}
 use Rattle.core_state.proofs.Beginning.{cases_cons}
 use Rattle.core_state.proofs.Opening.{none_in}
 use Rattle.core_query.specs.WholeRecord.{ReadChild, six_words, side_load, child_loads, node_loads, nodes_to_walk, nodes_named, IsWholeRecord, nothing_left, of_word, of_node}
 use Rattle.core_query.specs.Found.{HasRead, IsFound, WalksOnce}
-use Rattle.core_query.proofs.Asked.{behind, map-back, flat-back, range-below}
+use Rattle.core_query.proofs.Asked.{behind, map-back, flat-back, range-below, asked-word}
 
-abbrev child_load : ℕ → ℕ → ℕ → Load
+abbrev pub child_load : ℕ → ℕ → ℕ → Load
 child_load n k x = record { name = Child n k; value = x }
 
 -- ---- the loads of a node
@@ -33,7 +34,7 @@ pub data IsOfNode (n : ℕ) (children : ℕ → ReadChild) (l : Load) : Type 0 w
 loads-none : (n k : ℕ) (child : ReadChild) → (child.word == 0) ≡ true → child_loads n k child ≡ child_load n k child.word ∷ []
 loads-none n k child none = rw none refl
 
-loads-some : (n k : ℕ) (child : ReadChild) → (child.word == 0) ≡ false → child_loads n k child ≡ child_load n k child.word ∷ map (side_load n k child.bound) (range_with_len 0 6)
+pub loads-some : (n k : ℕ) (child : ReadChild) → (child.word == 0) ≡ false → child_loads n k child ≡ child_load n k child.word ∷ map (side_load n k child.bound) (range_with_len 0 6)
 loads-some n k child some = rw some refl
 
 of-child : (n k : ℕ) (children : ℕ → ReadChild) (l : Load) → k < 4 → Contains (child_loads n k (children k)) l → IsOfNode n children l
@@ -57,7 +58,7 @@ node-back n children l h =
     of-child n t.0 children l (range-below 4 t.0 t.1) t.2
 
 -- they are of this node and of no layer
-of-same : (n : ℕ) (children : ℕ → ReadChild) (l : Load) → IsOfNode n children l → node_in l.name ≡ Some n
+pub of-same : (n : ℕ) (children : ℕ → ReadChild) (l : Load) → IsOfNode n children l → node_in l.name ≡ Some n
 of-same n children l (is_child k low e) = ap (λ (x : Load). node_in x.name) (sym e)
 of-same n children l (is_side k q low less some e) = ap (λ (x : Load). node_in x.name) (sym e)
 
@@ -66,7 +67,7 @@ of-none n children l (is_child k low e) = ap (λ (x : Load). layer_of x.name) (s
 of-none n children l (is_side k q low less some e) = ap (λ (x : Load). layer_of x.name) (sym e)
 
 -- so a load of another node is none of them
-other-node : (n m : ℕ) (children : ℕ → ReadChild) (l : Load) → n ≢ m → node_in l.name ≡ Some m → ¬ Contains (node_loads n children) l
+pub other-node : (n m : ℕ) (children : ℕ → ReadChild) (l : Load) → n ≢ m → node_in l.name ≡ Some m → ¬ Contains (node_loads n children) l
 other-node n m children l apart e h = apart (same_Some n m (sym (of-same n children l (node-back n children l h)) ∙ e))
 
 -- ---- loads of words
@@ -74,6 +75,9 @@ other-node n m children l apart e h = apart (same_Some n m (sym (of-same n child
 -- words that name a tree
 abbrev pub AreOfLayers : List Name → Type 0
 AreOfLayers names = (name : Name) → Contains names name → layer_of name ≢ None
+
+pub asked-layers : (c : Config) (mask : ℕ) → AreOfLayers (asked_words c mask)
+asked-layers c mask name among none = let t = asked-word c mask name among in none-some t.layer (sym none ∙ t.of_layer)
 
 -- a word of a tree is of a node or of a layer, not of both
 no-both : (name : Name) (m : ℕ) → node_in name ≡ Some m → layer_of name ≡ None
@@ -83,7 +87,7 @@ no-both (Parent n) m e = refl
 no-both _ m e = absurd (none-some m e)
 
 -- a load of a node is not that of a word that is read before it
-past-word : (name : Name) (value m : ℕ) (names : List Name) (loads : List Load) (l : Load) → AreOfLayers (name ∷ names) → node_in l.name ≡ Some m
+pub past-word : (name : Name) (value m : ℕ) (names : List Name) (loads : List Load) (l : Load) → AreOfLayers (name ∷ names) → node_in l.name ≡ Some m
     → Contains (record { name = name; value = value } ∷ loads) l → Contains loads l
 past-word name value m names loads l layers e h =
     elim (cases_cons (record { name = name; value = value }) loads l h) [
@@ -91,12 +95,12 @@ past-word name value m names loads l layers e h =
       | inr later ↦ later
     ]
 
-fewer : (name : Name) (names : List Name) → AreOfLayers (name ∷ names) → AreOfLayers names
+pub fewer : (name : Name) (names : List Name) → AreOfLayers (name ∷ names) → AreOfLayers names
 fewer name names layers n among = layers n (behind name names n among)
 
 module _ (query : Query) where
   -- where a word of a node was read, so was the first child of that node
-  first-read : (nodes : List ℕ) (names : List Name) (loads : List Load) → IsWholeRecord query nodes names loads → AreOfLayers names
+  pub first-read : (nodes : List ℕ) (names : List Name) (loads : List Load) → IsWholeRecord query nodes names loads → AreOfLayers names
       → (m : ℕ) (l : Load) → node_in l.name ≡ Some m → Contains loads l → (value : ℕ) × Contains loads (child_load m 0 value)
   first-read nodes names loads nothing_left layers m l e h = absurd (none_in l h)
   first-read nodes names loads (of_word name value more later whole) layers m l e h =
@@ -114,125 +118,17 @@ module _ (query : Query) where
 
 -- ---- no node twice
 
-tail-once : (front loads : List Load) → WalksOnce (front ++ loads) → WalksOnce loads
+pub tail-once : (front loads : List Load) → WalksOnce (front ++ loads) → WalksOnce loads
 tail-once [] loads once = once
 tail-once (l ∷ front) loads once = tail-once front loads (λ i j d less below. once (suc i) (suc j) d (omega arith) (omega arith))
 
 -- what the loads of a node are behind the first
-abbrev node_rest : ℕ → (ℕ → ReadChild) → List Load
+abbrev pub node_rest : ℕ → (ℕ → ReadChild) → List Load
 node_rest n children = (if (children 0).word == 0 then [] else map (side_load n 0 (children 0).bound) (range_with_len 0 6)) ++ flat_map (λ k. child_loads n k (children k)) (range_with_len 1 3)
 
 -- a node that was read is not read again
-not-again : (first : Load) (front later : List Load) (n value : ℕ) → WalksOnce (first ∷ (front ++ later)) → first.name ≡ Child n 0 → ¬ Contains later (child_load n 0 value)
+pub not-again : (first : Load) (front later : List Load) (n value : ℕ) → WalksOnce (first ∷ (front ++ later)) → first.name ≡ Child n 0 → ¬ Contains later (child_load n 0 value)
 not-again first front later n value once e h =
     let t = Contains-append_right front later (child_load n 0 value) h in
     once 0 (suc t.0) (child_load n 0 value) (omega arith) (omega (arith, t.1)) n e (ap (λ (x : Load). x.name) t.2)
 
--- ---- a child that was read
-
-child-of : (n : ℕ) (children : ℕ → ReadChild) (m k x : ℕ) → IsOfNode n children (child_load m k x) → (k < 4) × ((children k).word ≡ x)
-child-of n children m k x (is_child j low e) =
-    let name : Child n j ≡ Child m k = ap (λ (l : Load). l.name) e in
-    let same : j ≡ k = cc in
-    (subst (λ (i : ℕ). i < 4) same low, ap (λ (i : ℕ). (children i).word) (sym same) ∙ ap (λ (l : Load). l.value) e)
-child-of n children m k x (is_side j q low less some e) = let name : Bound n j q ≡ Child m k = ap (λ (l : Load). l.name) e in absurd cc
-
-side-of : (n : ℕ) (children : ℕ → ReadChild) (m k q : ℕ) (sides : Sides) → IsOfNode n children (side_load m k sides q) → (children k).bound q ≡ sides q
-side-of n children m k q sides (is_child j low e) = let name : Child n j ≡ Bound m k q = ap (λ (l : Load). l.name) e in absurd cc
-side-of n children m k q sides (is_side j p low less some e) =
-    let name : Bound n j p ≡ Bound m k q = ap (λ (l : Load). l.name) e in
-    let child : j ≡ k = cc in
-    let side : p ≡ q = cc in
-    ap (λ (i : ℕ). (children i).bound q) (sym child) ∙ (ap (λ (i : ℕ). (children j).bound i) (sym side) ∙ ap (λ (l : Load). l.value) e)
-
-has-read : (front loads : List Load) (m : ℕ) (children : ℕ → ReadChild) → HasRead loads m children → HasRead (front ++ loads) m children
-has-read front loads m children h =
-    (front ++ h.0, h.1, ap (λ (x : List Load). front ++ x) h.2 ∙ sym (append_assoc front h.0 (node_loads m children ++ h.1)))
-
--- a child word and the six sides of the bound, each of which was read at some time
-record AreLoaded (loads : List Load) (m k x : ℕ) (sides : Sides) : Type 0 where
-  word : Contains loads (child_load m k x)
-  bound : (q : ℕ) → q < 6 → Contains loads (side_load m k sides q)
-
--- they were read as one
-record AreRead (loads : List Load) (m k x : ℕ) (sides : Sides) : Type 0 where
-  children : ℕ → ReadChild
-  read : HasRead loads m children
-  low : k < 4
-  word : (children k).word ≡ x
-  bound : (q : ℕ) → q < 6 → (children k).bound q ≡ sides q
-
-read-behind : (front loads : List Load) (m k x : ℕ) (sides : Sides) → AreRead loads m k x sides → AreRead (front ++ loads) m k x sides
-read-behind front loads m k x sides h = record { children = h.children; read = has-read front loads m h.children h.read; low = h.low; word = h.word; bound = h.bound }
-
-module _ (query : Query) (m k x : ℕ) (sides : Sides) where
-  -- the node that is read first is theirs, or they stand behind it
-  at-node : (n : ℕ) (children : ℕ → ReadChild) (nodes : List ℕ) (names : List Name) (later : List Load) → IsWholeRecord query nodes names later → AreOfLayers names
-      → WalksOnce (node_loads n children ++ later) → n ≡ m → AreLoaded (node_loads n children ++ later) m k x sides → AreRead (node_loads n children ++ later) m k x sides
-  at-node n children nodes names later whole layers once same h =
-      let word = child-of n children m k x (here (child_load m k x) refl h.word) in
-      record {
-        children = children;
-        read = subst (λ (z : ℕ). HasRead (node_loads n children ++ later) z children) same ([], later, refl);
-        low = word.0;
-        word = word.1;
-        bound = λ q less. side-of n children m k q sides (here (side_load m k sides q) refl (h.bound q less));
-      }
-    where
-      here : (l : Load) → node_in l.name ≡ Some m → Contains (node_loads n children ++ later) l → IsOfNode n children l
-      here l e among =
-          elim (Contains-append_cases (node_loads n children) later l among) [
-            | inl now ↦ node-back n children l now
-            | inr rest ↦
-                let t = first-read query nodes names later whole layers m l e rest in
-                absurd (not-again (child_load n 0 (children 0).word) (node_rest n children) later m t.0 once (ap (λ (z : ℕ). Child z 0) same) t.1)
-          ]
-
-  past-node : (n : ℕ) (children : ℕ → ReadChild) (later : List Load) → n ≢ m → AreLoaded (node_loads n children ++ later) m k x sides → AreLoaded later m k x sides
-  past-node n children later apart h = record { word = past (child_load m k x) refl h.word; bound = λ q less. past (side_load m k sides q) refl (h.bound q less) }
-    where
-      past : (l : Load) → node_in l.name ≡ Some m → Contains (node_loads n children ++ later) l → Contains later l
-      past l e among =
-          elim (Contains-append_cases (node_loads n children) later l among) [
-            | inl now ↦ absurd (other-node n m children l apart e now)
-            | inr rest ↦ rest
-          ]
-
-  all-read : (nodes : List ℕ) (names : List Name) (loads : List Load) → IsWholeRecord query nodes names loads → AreOfLayers names → WalksOnce loads → AreLoaded loads m k x sides → AreRead loads m k x sides
-  all-read nodes names loads nothing_left layers once h = absurd (none_in (child_load m k x) h.word)
-  all-read nodes names loads (of_word name value more later whole) layers once h =
-      let first : Load = record { name = name; value = value } in
-      read-behind (first ∷ []) later m k x sides
-      (all-read (nodes_named name value) more later whole (fewer name more layers) (tail-once (first ∷ []) later once)
-      (record {
-        word = past-word name value m more later (child_load m k x) layers refl h.word;
-        bound = λ q less. past-word name value m more later (side_load m k sides q) layers refl (h.bound q less);
-      }))
-  all-read nodes names loads (of_node n children more words later whole) layers once h =
-      elim (cases_eq n m) [
-        | inl same ↦ at-node n children (nodes_to_walk query children ++ more) words later whole layers once same h
-        | inr apart ↦
-            read-behind (node_loads n children) later m k x sides
-            (all-read (nodes_to_walk query children ++ more) words later whole layers (tail-once (node_loads n children) later once) (past-node n children later apart h))
-      ]
-
--- ---- candidates
-
-six-same : (a b : Sides) → ((q : ℕ) → q < 6 → a q ≡ b q) → six_words a ≡ six_words b
-six-same a b h =
-    λ i. h 0 (omega arith) i ∷ h 1 (omega arith) i ∷ h 2 (omega arith) i ∷ h 3 (omega arith) i ∷ h 4 (omega arith) i ∷ h 5 (omega arith) i ∷ []
-
--- where no node was walked twice, a candidate was found
-pub candidate-found : (query : Query) (names : List Name) (loads : List Load) → IsWholeRecord query [] names loads → AreOfLayers names → WalksOnce loads
-    → (index : ℕ) → IsCandidate query.shape loads index → IsFound query loads index
-candidate-found query names loads whole layers once index (m, k, word, (b, touch, sides)) =
-    let t = all-read query m k (body_child index) (slice_index (words_of b)) [] names loads whole layers once (record { word = word; bound = sides }) in
-    record {
-      node = m;
-      children = t.children;
-      read = t.read;
-      k = k;
-      low = t.low;
-      body = t.word;
-      touches = (query.tests (six_words (t.children k).bound)).1 (b, sym (six-same (t.children k).bound (slice_index (words_of b)) t.bound), touch);
-    }

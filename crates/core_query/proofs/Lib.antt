@@ -5,6 +5,8 @@ pub mod Positions
 pub mod Recording
 pub mod Pruned
 pub mod Finding
+pub mod Reading
+pub mod Walked
 pub mod Ended
 pub mod Once
 pub mod Cleared

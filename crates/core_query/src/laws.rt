@@ -16,12 +16,12 @@ ghost use Rattle.core_state.specs.Walks.{MayBegin, begin_walk, MayEnd, end_walk}
 ghost use Rattle.core_state.specs.Formed.{IsFormed};
 ghost use Rattle.core_state.specs.Guards.{GuardsHold};
 ghost use Rattle.core_state.specs.Invariants.{Invariants};
-ghost use Rattle.core_state.specs.WalkRecord.{IsCandidate};
+ghost use Rattle.core_state.specs.WalkRecord.{IsLoaded, IsWalked, IsCandidate};
 ghost use Rattle.core_state.specs.Walking.{Query, at_child, next_word, Follows, asked_words, position_of};
 ghost use Rattle.core_state.specs.ReadersCounted.{waiting_at};
 ghost use Rattle.core_query.specs.Ends.{IsWalking, walked_to, IsAtEnd, since};
-ghost use Rattle.core_query.specs.WholeRecord.{IsWholeRecord};
-ghost use Rattle.core_query.specs.Found.{IsFound, WalksOnce};
+ghost use Rattle.core_query.specs.WholeRecord.{ReadChild, IsWholeRecord};
+ghost use Rattle.core_query.specs.Found.{HasRead, IsFound, WalksOnce};
 ghost use Rattle.core_query.specs.Clear.{IsClear, asked_layers};
 
 /// The beginning and the end of a walk keep all invariants: when it begins, each body that it has to find is ahead of it.
@@ -69,6 +69,19 @@ pub fn stacks_of_walks_are_short()
 pub fn records_of_walks_are_whole()
     ensures { (c : Config) (query : Query) (loads : List Load) → Follows c query loads → IsAtEnd (position_of c query loads)
         → IsWholeRecord query [] (asked_words c query.mask) loads }
+{}
+
+/// The nodes that were read when nothing is left are just those that a walk has to walk, each root and each child with a
+/// bound that touches, and the bodies that it found are just its candidates. That a node's four children were read one after
+/// the other, and a bound with the child that has it, is so where no node was walked twice.
+pub fn walked_nodes_are_read()
+    ensures read { (c : Config) (query : Query) (loads : List Load) → Follows c query loads → IsAtEnd (position_of c query loads) → WalksOnce loads
+        → (n : ℕ) → IsWalked query.shape loads n → (children : ℕ → ReadChild) × HasRead loads n children }
+    ensures only { (c : Config) (query : Query) (loads : List Load) → Follows c query loads → IsAtEnd (position_of c query loads)
+        → (n k value : ℕ) → IsLoaded loads (Child n k) value → IsWalked query.shape loads n }
+    ensures found { (c : Config) (query : Query) (loads : List Load) → Follows c query loads → IsAtEnd (position_of c query loads) → WalksOnce loads
+        → (index : ℕ) → IsCandidate query.shape loads index → IsFound query loads index }
+    ensures candidates { (query : Query) (loads : List Load) (index : ℕ) → IsFound query loads index → IsCandidate query.shape loads index }
 {}
 
 /// No node is walked twice: where that is so of what a walk has read, it is so with the next load too.

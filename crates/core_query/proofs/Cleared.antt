@@ -1,6 +1,6 @@
 -- A walk whose shape is clear of the layers that it asks finds no body, and reads few words.
-use Rattle.std.proofs.Common.{◌≡◌, ◌⊎◌, ℕ, zero, suc, ◌+◌, ◌*◌, ◌<◌, ◌≤◌, List, [], ◌∷◌, ◌++◌, Option, Some, None, true, false, length, refl, ap, sym, ◌∙◌, subst, inl, inr, arith}
-use Rattle.std.specs.Prelude.{Contains, fold, ◌==◌}
+use Rattle.std.proofs.Common.{◌≡◌, ◌⊎◌, ℕ, ◌+◌, ◌*◌, ◌≤◌, List, [], ◌∷◌, ◌++◌, Option, Some, None, length, refl, ap, sym, ◌∙◌, subst, inl, inr, arith}
+use Rattle.std.specs.Prelude.{Contains, fold}
 use Rattle.std.proofs.lemmas.Bool.{false≢true, ne_eqb}
 use Rattle.std.proofs.lemmas.Option.{none-some}
 use Rattle.std.proofs.lemmas.List.Elements.{Contains-append_left, Contains-append_cases}
@@ -19,7 +19,7 @@ use Rattle.core_state.proofs.Beginning.{cases_cons}
 use Rattle.core_state.proofs.Opening.{none_in}
 use Rattle.core_query.specs.Ends.{IsWalking, walked_to, IsAtEnd}
 use Rattle.core_query.specs.WholeRecord.{ReadChild, node_loads, nodes_to_walk, nodes_named, IsWholeRecord, nothing_left, of_word, of_node}
-use Rattle.core_query.specs.Found.{HasRead, IsFound, WalksOnce}
+use Rattle.core_query.specs.Found.{IsFound, WalksOnce}
 use Rattle.core_query.specs.Clear.{IsClear, asked_layers}
 use Rattle.core_query.proofs.Asked.{behind, asked-word, asked-count}
 use Rattle.core_query.proofs.Recording.{whole-record}
@@ -88,7 +88,7 @@ module _ (s : Sight) (query : Query) where
       still-clear (layer_after None l) before
       (c.0, subst (λ (x : Load). layer_after None x ≡ Some c.0) same (word-layer None name value c.0 c.1), c.2)
       (λ x among. go x (each-load query (nodes_named name value) more rest whole x
-          (subst (λ (xs : List Load). Contains xs x) (sym behind_it) (Contains-append_left before (node_loads n children ++ later) x among))))
+      (subst (λ (xs : List Load). Contains xs x) (sym behind_it) (Contains-append_left before (node_loads n children ++ later) x among))))
     where
       go : (x : Load) → (layer_of x.name ≡ None) ⊎ Contains more x.name → (layer_of x.name ≡ None) ⊎ IsClearAt s query (layer_of x.name)
       go x (inl none) = inl none

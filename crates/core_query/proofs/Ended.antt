@@ -1,5 +1,5 @@
 -- What the invariants say of a walk that is under way, and what of one that is at its end.
-use Rattle.std.proofs.Common.{◌≡◌, ◌⊎◌, ℕ, suc, ◌+◌, ◌<◌, ◌≤◌, List, [], ◌∷◌, length, true, refl, ap, sym, ◌∙◌, subst, inl, inr, arith}
+use Rattle.std.proofs.Common.{◌≡◌, ℕ, List, true, refl, subst}
 use Rattle.std.specs.Prelude.{Contains}
 use Rattle.fixed_box.specs.Touch.{Touch}
 use Rattle.scene_model.specs.History.{IsDue}
@@ -13,7 +13,7 @@ use Rattle.core_state.specs.Encoding.{Sides}
 use Rattle.core_state.specs.Scope.{sight, word_in}
 use Rattle.core_state.specs.Space.{HadSince}
 use Rattle.core_state.specs.WalkRecord.{IsCandidate}
-use Rattle.core_state.specs.Walking.{Query, Spot, resting, at_child, at_bound, Position, Follows, position_of}
+use Rattle.core_state.specs.Walking.{Query, Spot, resting, Position, Follows, position_of}
 use Rattle.core_state.specs.WalksLead.{walk_scope, WalkLeads, IsAhead, is_found, by_slot, by_main, by_stack, by_child, by_part, LeadsBySpot, LeadsByPart}
 use Rattle.core_state.specs.ReadersCounted.{reader_scope, WalkStays, ReadsInSpace}
 use Rattle.core_state.specs.Invariants.{Invariants}

@@ -1,24 +1,22 @@
 -- What a whole record says of a single load: it is that of a word that was to be read, or one of those of a node that was
 -- read as one. Where no node was walked twice, these are all loads of the node.
-use Rattle.std.proofs.Common.{◌≡◌, ◌≢◌, ◌⊎◌, ℕ, zero, suc, ◌+◌, ◌*◌, ◌<◌, ◌≤◌, List, [], ◌∷◌, ◌++◌, Option, Some, None, true, false, get_or, length, refl, ap, sym, ◌∙◌, subst, inl, inr, arith, append_assoc}
-use Rattle.std.specs.Prelude.{Contains, AllPairs, map, flat_map, ◌==◌, if◌then◌else◌, slice_index}
+use Rattle.std.proofs.Common.{◌≡◌, ◌≢◌, ℕ, suc, ◌<◌, List, [], ◌∷◌, ◌++◌, Some, None, true, false, refl, ap, sym, ◌∙◌, subst, inl, inr, arith}
+use Rattle.std.specs.Prelude.{Contains, map, flat_map, ◌==◌, if◌then◌else◌}
 use Rattle.std.specs.List.{range_with_len}
-use Rattle.std.proofs.lemmas.Bool.{cases_Bool, cases_eq, ne_eqb}
+use Rattle.std.proofs.lemmas.Bool.{cases_Bool}
 use Rattle.std.proofs.lemmas.Option.{none-some, same_Some}
-use Rattle.std.proofs.lemmas.List.Elements.{Contains-append_left, Contains-append_right, Contains-append_cases}
-use Rattle.fixed_box.specs.FixBox.{words_of}
+use Rattle.std.proofs.lemmas.List.Elements.{Contains-append_right, Contains-append_cases}
 use Rattle.word_map.specs.declared.config.Config.{Config}
 use Rattle.word_map.specs.declared.name.Name.{Name}
 use Rattle.word_map.specs.declared.name.Name.TheVariants.{Child, Bound, Parent}
 use Rattle.core_state.specs.declared.item.Load.{Load}
-use Rattle.core_state.specs.Encoding.{Sides, body_child, layer_of}
+use Rattle.core_state.specs.Encoding.{layer_of}
 use Rattle.core_state.specs.Nodes.{node_in}
-use Rattle.core_state.specs.WalkRecord.{IsLoaded, IsCandidate}
 use Rattle.core_state.specs.Walking.{Query, asked_words}
 use Rattle.core_state.proofs.Beginning.{cases_cons}
 use Rattle.core_state.proofs.Opening.{none_in}
-use Rattle.core_query.specs.WholeRecord.{ReadChild, six_words, side_load, child_loads, node_loads, nodes_to_walk, nodes_named, IsWholeRecord, nothing_left, of_word, of_node}
-use Rattle.core_query.specs.Found.{HasRead, IsFound, WalksOnce}
+use Rattle.core_query.specs.WholeRecord.{ReadChild, side_load, child_loads, node_loads, nodes_to_walk, nodes_named, IsWholeRecord, nothing_left, of_word, of_node}
+use Rattle.core_query.specs.Found.{WalksOnce}
 use Rattle.core_query.proofs.Asked.{behind, map-back, flat-back, range-below, asked-word}
 
 abbrev pub child_load : ℕ → ℕ → ℕ → Load
@@ -131,4 +129,3 @@ pub not-again : (first : Load) (front later : List Load) (n value : ℕ) → Wal
 not-again first front later n value once e h =
     let t = Contains-append_right front later (child_load n 0 value) h in
     once 0 (suc t.0) (child_load n 0 value) (omega arith) (omega (arith, t.1)) n e (ap (λ (x : Load). x.name) t.2)
-

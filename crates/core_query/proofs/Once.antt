@@ -1,5 +1,5 @@
 -- No node is walked twice: a walk that is about to read the first child of a node has not read it before.
-use Rattle.std.proofs.Common.{◌≡◌, ◌≢◌, ℕ, zero, List, [], ◌∷◌, ◌++◌, Some, get_or, length, ◌<◌, refl, ap, sym, ◌∙◌, subst, arith}
+use Rattle.std.proofs.Common.{◌≡◌, ◌≢◌, ℕ, List, [], ◌∷◌, ◌++◌, Some, get_or, length, refl, ap, sym, ◌∙◌, subst, arith}
 use Rattle.std.specs.Prelude.{Contains}
 use Rattle.std.proofs.lemmas.Option.{none-some, same_Some}
 use Rattle.std.proofs.lemmas.List.Elements.{Contains-get_or}
@@ -12,7 +12,7 @@ use Rattle.core_state.specs.Core.{Core}
 use Rattle.core_state.specs.Encoding.{layer_of}
 use Rattle.core_state.specs.Scope.{word_in}
 use Rattle.core_state.specs.Walking.{Query, Spot, resting, at_child, at_bound, Position, next_word}
-use Rattle.core_state.specs.ReadersCounted.{reader_scope, ReachesBySpot, the_node, by_spot, IsBegun, IsWalkedAt, WalkStays}
+use Rattle.core_state.specs.ReadersCounted.{reader_scope, ReachesBySpot, the_node, by_spot, IsBegun, IsWalkedAt}
 use Rattle.core_state.specs.Invariants.{Invariants}
 use Rattle.core_query.specs.Ends.{IsWalking, walked_to}
 use Rattle.core_query.specs.Found.{WalksOnce}

@@ -1,21 +1,14 @@
 -- What is so at every position that a walk comes to: its stack is short for the levels of its nodes, and the words that are
 -- still to be read are words of the world.
-use Rattle.std.proofs.Common.{◌≡◌, ◌⊎◌, ℕ, zero, suc, ◌+◌, ◌*◌, ◌<◌, ◌≤◌, List, [], ◌∷◌, ◌++◌, length, true, false, refl, ap, sym, ◌∙◌, subst, inl, inr, arith}
-use Rattle.std.specs.Prelude.{Contains, Bool, Option, Some, None, ⊤, map, flat_map, filter, nat_lt, nat_le, ◌==◌, ◌%◌, ◌-◌, ◌/◌, if◌then◌else◌}
-use Rattle.std.specs.Int.{bit_at}
-use Rattle.std.specs.List.{range_with_len}
-use Rattle.std.proofs.lemmas.Bool.{cond_both, cases_Bool, ltb-true, ltb-false}
-use Rattle.std.proofs.lemmas.Option.{none-some, same_Some}
-use Rattle.std.proofs.lemmas.List.{length_push}
-use Rattle.std.proofs.lemmas.List.Elements.{Contains-append_cases}
-use Rattle.std.proofs.lemmas.List.FromFn.{length-range_with_len, get_or-range_with_len}
+use Rattle.std.proofs.Common.{◌≡◌, ℕ, zero, suc, ◌+◌, ◌*◌, ◌<◌, ◌≤◌, List, [], ◌∷◌, ◌++◌, length, true, false, refl, arith}
+use Rattle.std.specs.Prelude.{Contains, Bool, ⊤, nat_lt, nat_le, ◌==◌, ◌%◌, ◌-◌, ◌/◌, if◌then◌else◌}
+use Rattle.std.proofs.lemmas.Bool.{cond_both, ltb-true}
 use Rattle.word_map.specs.declared.config.Config.{Config}
 use Rattle.word_map.specs.declared.name.Name.{Name}
 use Rattle.word_map.specs.declared.name.Name.TheVariants.{Main, Slot}
-use Rattle.word_map.specs.Names.{IsName}
 use Rattle.core_state.specs.declared.item.Load.{Load}
 use Rattle.core_state.specs.declared.view.Waiting.{Waiting}
-use Rattle.core_state.specs.Walking.{Query, Spot, resting, at_child, at_bound, Position, waiting, words_of_layer, asked_words, start, next_node, next_child, roots_in, pushed, after_side, advance_from, advance, replay, position_of}
+use Rattle.core_state.specs.Walking.{Query, Spot, resting, at_child, at_bound, Position, waiting, start, next_node, next_child, roots_in, pushed, advance_from, advance, replay, position_of}
 use Rattle.core_query.proofs.Asked.{behind, IsAskedWord, asked-word}
 
 -- ---- the stack

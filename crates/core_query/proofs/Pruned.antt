@@ -1,6 +1,6 @@
 -- A walk whose shape is clear of the layers that it asks: of each tree it reads the root alone.
-use Rattle.std.proofs.Common.{◌≡◌, ◌⊎◌, ℕ, zero, suc, ◌+◌, ◌-◌, ◌*◌, ◌<◌, ◌≤◌, List, [], ◌∷◌, ◌++◌, Option, Some, None, true, false, length, refl, ap, sym, ◌∙◌, subst, inl, inr, arith, append_assoc}
-use Rattle.std.specs.Prelude.{Contains, fold, map, flat_map, ◌==◌, IfSome, nat_le}
+use Rattle.std.proofs.Common.{◌≡◌, ℕ, zero, suc, ◌+◌, ◌-◌, ◌*◌, ◌<◌, ◌≤◌, List, [], ◌∷◌, ◌++◌, Option, Some, false, length, refl, ap, sym, ◌∙◌, subst, inl, inr, arith, append_assoc}
+use Rattle.std.specs.Prelude.{Contains, fold, map, ◌==◌, IfSome, nat_le}
 use Rattle.std.specs.List.{range_with_len}
 use Rattle.std.proofs.lemmas.Bool.{cases_Bool, cond_both}
 use Rattle.std.proofs.lemmas.Option.{none-some}
@@ -13,7 +13,7 @@ use Rattle.core_state.specs.declared.view.Waiting.{Waiting}
 use Rattle.core_state.specs.Encoding.{Sides, sides_of, layer_of}
 use Rattle.core_state.specs.Scope.{Sight}
 use Rattle.core_state.specs.Space.{IsInLayer, IsInSpace, IsSideIn}
-use Rattle.core_state.specs.Walking.{Query, waiting, roots_in}
+use Rattle.core_state.specs.Walking.{Query, waiting}
 use Rattle.core_state.specs.ReadersCounted.{layer_after}
 use Rattle.core_query.specs.WholeRecord.{ReadChild, six_words, side_load, child_loads, node_loads, node_to_walk, nodes_to_walk, nodes_named, IsWholeRecord, nothing_left, of_word, of_node}
 use Rattle.core_query.specs.Clear.{IsClearOf}
@@ -178,7 +178,7 @@ module _ (s : Sight) where
         let c = clear name (0, omega arith, refl) in
         let first : Load = record { name = name; value = value } in
         let h = few-loads (layer_after o first) (nodes_named name value) more later whole (lies-later o (first ∷ []) later lies) (λ some. (c.0, word-layer o name value c.0 c.1, c.2))
-            (λ n among. clear n (suc among.0, omega (arith, among.1), among.2)) in
+        (λ n among. clear n (suc among.0, omega (arith, among.1), among.2)) in
         let one = named-few name value in
         omega arith
     few-loads o nodes names loads (of_node n children more words later whole) lies hand clear =

@@ -1,23 +1,20 @@
 -- Nodes that were read: each one that is to be walked, each root that a word names, and, where no node was walked twice, each
 -- whose child word and bound were loaded at any time.
-use Rattle.std.proofs.Common.{◌≡◌, ◌≢◌, ◌⊎◌, ℕ, zero, suc, ◌+◌, ◌-◌, ◌*◌, ◌/◌, ◌%◌, ◌<◌, ◌≤◌, List, [], ◌∷◌, ◌++◌, Option, Some, None, Bool, true, false, length, refl, ap, sym, ◌∙◌, subst, inl, inr, arith, append_assoc}
-use Rattle.std.specs.Prelude.{Contains, map, ◌==◌, nat_le, slice_index}
-use Rattle.std.proofs.lemmas.Bool.{cases_Bool, cases_eq, le-leb, leb-true, eqb-true, eqb-false, ne_eqb, eq-eqb}
-use Rattle.std.proofs.lemmas.Option.{none-some, same_Some}
+use Rattle.std.proofs.Common.{◌≡◌, ◌≢◌, ℕ, zero, suc, ◌-◌, ◌<◌, List, [], ◌∷◌, ◌++◌, Some, None, refl, ap, sym, ◌∙◌, subst, inl, inr, arith, append_assoc}
+use Rattle.std.specs.Prelude.{Contains, nat_le}
+use Rattle.std.proofs.lemmas.Bool.{cases_Bool, cases_eq, le-leb, leb-true}
+use Rattle.std.proofs.lemmas.Option.{none-some}
 use Rattle.std.proofs.lemmas.List.Elements.{Contains-append_left, Contains-append_right, Contains-append_cases}
-use Rattle.fixed_box.specs.FixBox.{words_of}
 use Rattle.word_map.specs.declared.name.Name.{Name}
 use Rattle.word_map.specs.declared.name.Name.TheVariants.{Child, Bound, Main, Slot}
 use Rattle.core_state.specs.declared.item.Load.{Load}
-use Rattle.core_state.specs.Encoding.{Sides, body_child, node_child, layer_of, NamesRoot}
+use Rattle.core_state.specs.Encoding.{Sides, layer_of, NamesRoot}
 use Rattle.core_state.specs.Nodes.{node_in}
-use Rattle.core_state.specs.WalkRecord.{IsLoaded, HasTouchingBound, IsWalked, as_root, as_child, IsCandidate}
 use Rattle.core_state.specs.Walking.{Query}
 use Rattle.core_state.proofs.Beginning.{cases_cons, contains_first}
 use Rattle.core_state.proofs.Opening.{none_in, only}
-use Rattle.core_query.specs.WholeRecord.{ReadChild, six_words, side_load, child_loads, node_loads, node_to_walk, nodes_to_walk, nodes_named, IsWholeRecord, nothing_left, of_word, of_node}
-use Rattle.core_query.specs.Found.{HasRead, IsFound, WalksOnce}
-use Rattle.core_query.proofs.Asked.{behind}
+use Rattle.core_query.specs.WholeRecord.{ReadChild, side_load, node_loads, nodes_to_walk, nodes_named, IsWholeRecord, nothing_left, of_word, of_node}
+use Rattle.core_query.specs.Found.{HasRead, WalksOnce}
 use Rattle.core_query.proofs.Finding.{child_load, IsOfNode, is_child, is_side, node-back, of-none, other-node, AreOfLayers, past-word, fewer, first-read, tail-once, node_rest, not-again}
 
 -- ---- nodes that were read
@@ -175,4 +172,3 @@ module _ (query : Query) (m k x : ℕ) (sides : Sides) where
             read-behind query (node_loads n children) later m k x sides
             (all-read (nodes_to_walk query children ++ more) words later whole layers (tail-once (node_loads n children) later once) (past-node n children later apart h))
       ]
-

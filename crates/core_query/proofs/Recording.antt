@@ -1,17 +1,17 @@
 -- What a query has read when it is at its end is a whole record: the loads of a child, of a node, and of all that is left.
-use Rattle.std.proofs.Common.{◌≡◌, ◌≢◌, ◌⊎◌, ℕ, zero, suc, ◌+◌, ◌*◌, ◌-◌, ◌/◌, ◌%◌, ◌<◌, ◌≤◌, List, [], ◌∷◌, ◌++◌, Bool, true, false, cond, length, refl, ap, sym, ◌∙◌, subst, inl, inr, arith, append_assoc}
-use Rattle.std.specs.Prelude.{map, Option, Some, None, ◌==◌, if◌then◌else◌, slice_index}
+use Rattle.std.proofs.Common.{◌≡◌, ◌≢◌, ℕ, zero, suc, ◌-◌, ◌/◌, ◌%◌, ◌≤◌, List, [], ◌∷◌, ◌++◌, Bool, true, false, cond, length, refl, ap, sym, ◌∙◌, subst, inl, inr, arith, append_assoc}
+use Rattle.std.specs.Prelude.{map, ◌==◌, if◌then◌else◌, slice_index}
 use Rattle.std.proofs.lemmas.Bool.{cases_Bool}
 use Rattle.std.proofs.lemmas.Option.{none-some, same_Some}
 use Rattle.std.proofs.lemmas.List.{length-append}
 use Rattle.word_map.specs.declared.config.Config.{Config}
 use Rattle.word_map.specs.declared.name.Name.{Name}
-use Rattle.word_map.specs.declared.name.Name.TheVariants.{Child, Bound}
+use Rattle.word_map.specs.declared.name.Name.TheVariants.{Child}
 use Rattle.core_state.specs.declared.item.Load.{Load}
 use Rattle.core_state.specs.declared.view.Waiting.{Waiting}
-use Rattle.core_state.specs.Walking.{Query, Spot, resting, at_child, at_bound, Position, waiting, asked_words, start, next_node, next_child, roots_in, pushed, advance_from, replay, FollowsFrom, Follows, position_of}
+use Rattle.core_state.specs.Walking.{Query, resting, at_child, at_bound, Position, waiting, asked_words, next_node, next_child, roots_in, pushed, advance_from, replay, FollowsFrom, Follows, position_of}
 use Rattle.core_query.specs.Ends.{IsAtEnd}
-use Rattle.core_query.specs.WholeRecord.{ReadChild, six_words, child_loads, node_loads, node_to_walk, nodes_to_walk, nodes_named, IsWholeRecord, nothing_left, of_word, of_node}
+use Rattle.core_query.specs.WholeRecord.{ReadChild, six_words, child_loads, node_loads, node_to_walk, nodes_to_walk, IsWholeRecord, nothing_left, of_word, of_node}
 
 -- the loads are what is read from a position on, to the end
 record Ends (query : Query) (at : Position) (loads : List Load) : Type 0 where
@@ -76,11 +76,11 @@ module _ (query : Query) (rest : List Name) where
   by-word stack n level k value name loads same h =
       elim (cases_Bool (value == 0)) [
         | inl none ↦ record {
-            child = record { word = value; bound = λ q. 0 };
-            later = loads;
-            is = rw none (ap (λ (m : Name). record { name = m; value = value } ∷ loads) (sym same));
-            goes_on = rw none (rw none at h);
-          }
+          child = record { word = value; bound = λ q. 0 };
+          later = loads;
+          is = rw none (ap (λ (m : Name). record { name = m; value = value } ∷ loads) (sym same));
+          goes_on = rw none (rw none at h);
+        }
         | inr some ↦ six-sides stack n level k value name loads some same (rw some at h)
       ]
 

@@ -1,17 +1,16 @@
 -- A walk stands at sound nodes of the world, so its stack is short and the word that it reads next is one of the world.
-use Rattle.std.proofs.Common.{◌≡◌, ◌≢◌, ◌⊎◌, ℕ, suc, ◌+◌, ◌*◌, ◌<◌, ◌≤◌, List, [], ◌∷◌, length, true, refl, ap, sym, ◌∙◌, subst, inl, inr, arith}
-use Rattle.std.specs.Prelude.{Contains, Some, None}
+use Rattle.std.proofs.Common.{◌≡◌, ℕ, ◌<◌, ◌≤◌, List, [], ◌∷◌, length, refl, ap, sym, subst, inl, inr, arith}
+use Rattle.std.specs.Prelude.{Contains, Some}
 use Rattle.std.proofs.lemmas.Bool.{cases_lt}
 use Rattle.std.proofs.lemmas.Option.{none-some, same_Some}
-use Rattle.word_map.specs.declared.config.Config.{Config}
 use Rattle.word_map.specs.declared.name.Name.{Name}
 use Rattle.word_map.specs.declared.name.Name.TheVariants.{Child, Bound}
 use Rattle.word_map.specs.Names.{IsName, node_count}
 use Rattle.core_state.specs.declared.view.Waiting.{Waiting}
 use Rattle.core_state.specs.declared.view.View.{View}
 use Rattle.core_state.specs.Core.{Core, word_of}
-use Rattle.core_state.specs.Encoding.{body_child, node_child}
-use Rattle.core_state.specs.Nodes.{Nodes, Home, spare, IsLive, Stands, itself}
+use Rattle.core_state.specs.Encoding.{body_child}
+use Rattle.core_state.specs.Nodes.{IsLive, itself}
 use Rattle.core_state.specs.Scope.{sight, word_in}
 use Rattle.core_state.specs.TreesSound.{tree_scope, IsSoundNode, IsChild, nothing, a_body, a_node}
 use Rattle.core_state.specs.Walking.{Query, Spot, resting, at_child, at_bound, Position, waiting, next_word}
@@ -21,7 +20,7 @@ use Rattle.core_state.proofs.Beginning.{cases_cons, contains_first}
 use Rattle.core_guard.proofs.Leaving.{live-stands}
 use Rattle.core_query.specs.Ends.{IsWalking, walked_to}
 use Rattle.core_query.proofs.Asked.{IsAskedWord}
-use Rattle.core_query.proofs.Positions.{IsShortAt, IsOrderly, position-orderly}
+use Rattle.core_query.proofs.Positions.{IsShortAt, position-orderly}
 use Rattle.core_query.proofs.Ended.{stays}
 
 module _ (core : Core) (h : Invariants core) (query : Query) (seat number : ℕ) (view : View) (w : IsWalking core query seat number view) where

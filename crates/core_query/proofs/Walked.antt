@@ -1,5 +1,5 @@
 -- The nodes that a walk read are those that it had to walk, and the bodies that it found are its candidates.
-use Rattle.std.proofs.Common.{◌≡◌, ◌≢◌, ◌⊎◌, ℕ, zero, suc, ◌+◌, ◌-◌, ◌*◌, ◌/◌, ◌%◌, ◌<◌, ◌≤◌, List, [], ◌∷◌, ◌++◌, Option, Some, None, true, false, length, refl, ap, sym, ◌∙◌, subst, inl, inr, arith}
+use Rattle.std.proofs.Common.{◌≡◌, ◌⊎◌, ℕ, zero, suc, ◌-◌, ◌/◌, ◌%◌, ◌<◌, List, [], ◌∷◌, ◌++◌, Some, true, false, refl, ap, sym, ◌∙◌, subst, inl, inr, arith}
 use Rattle.std.specs.Prelude.{Contains, map, ◌==◌, slice_index}
 use Rattle.std.specs.List.{range_with_len}
 use Rattle.std.proofs.lemmas.Bool.{cases_Bool, eqb-true, eqb-false, ne_eqb, eq-eqb}
@@ -10,17 +10,17 @@ use Rattle.fixed_box.specs.FixBox.{words_of}
 use Rattle.word_map.specs.declared.name.Name.{Name}
 use Rattle.word_map.specs.declared.name.Name.TheVariants.{Child}
 use Rattle.core_state.specs.declared.item.Load.{Load}
-use Rattle.core_state.specs.Encoding.{Sides, body_child, node_child, layer_of}
+use Rattle.core_state.specs.Encoding.{Sides, body_child, node_child}
 use Rattle.core_state.specs.Nodes.{node_in}
 use Rattle.core_state.specs.WalkRecord.{IsLoaded, HasTouchingBound, IsWalked, as_root, as_child, IsCandidate}
 use Rattle.core_state.specs.Walking.{Query}
-use Rattle.core_state.proofs.Beginning.{cases_cons, contains_first, contains_flat}
+use Rattle.core_state.proofs.Beginning.{contains_first, contains_flat}
 use Rattle.core_state.proofs.Opening.{none_in, only, range_contains}
 use Rattle.core_query.specs.WholeRecord.{ReadChild, six_words, side_load, child_loads, node_loads, node_to_walk, nodes_to_walk, nodes_named, IsWholeRecord, nothing_left, of_word, of_node}
 use Rattle.core_query.specs.Found.{IsFound, WalksOnce}
 use Rattle.core_query.proofs.Asked.{behind, flat-back}
 use Rattle.core_query.proofs.Finding.{child_load, loads-some, node-back, of-same, AreOfLayers, past-word, fewer}
-use Rattle.core_query.proofs.Reading.{IsReadNode, AreRead, AreLoaded, all-read, root-read, named-root, root-named}
+use Rattle.core_query.proofs.Reading.{IsReadNode, AreRead, all-read, root-read, named-root, root-named}
 
 -- ---- children that are to be walked
 
@@ -174,9 +174,9 @@ found-candidate query loads index found =
     let later = found.read.1 in
     let body = found.body in
     let within : (l : Load) → Contains (node_loads n found.children) l → Contains loads l =
-        λ l among.
-        subst (λ (all : List Load). Contains all l) (sym found.read.2)
-        (Contains-append_right before (node_loads n found.children ++ later) l (Contains-append_left (node_loads n found.children) later l among))
+    λ l among.
+    subst (λ (all : List Load). Contains all l) (sym found.read.2)
+    (Contains-append_right before (node_loads n found.children ++ later) l (Contains-append_left (node_loads n found.children) later l among))
     in (
       n,
       k,

@@ -1,5 +1,5 @@
 -- A walk that is under way, and one that is at its end: nothing is left to read.
-use Rattle.std.specs.Prelude.{◌≡◌, ℕ, true, List, [], length}
+use Rattle.std.specs.Prelude.{◌≡◌, ℕ, true, [], length}
 use Rattle.scene_model.specs.History.{Interval}
 use Rattle.core_state.specs.declared.view.Walk.{Walk}
 use Rattle.core_state.specs.declared.view.View.{View}

@@ -70,20 +70,20 @@ pub record IsAskedWord (c : Config) (mask : ℕ) (name : Name) : Type 0 where
   pub of_layer : layer_of name ≡ Some layer
   pub named : IsName c name
 
+pub layer-word : (c : Config) (l : ℕ) (name : Name) → l < c.layers → Contains (words_of_layer c l) name → (layer_of name ≡ Some l) × IsName c name
+layer-word c l name below h =
+    elim (Contains-append_cases (map (Slot l) (range_with_len 0 c.slots)) (Main l ∷ []) name h) [
+      | inl slot ↦ let s = map-back (Slot l) (range_with_len 0 c.slots) name slot in (ap layer_of (sym s.2), subst (IsName c) s.2 (below, range-below c.slots s.0 s.1))
+      | inr main ↦ let same = only (Main l) name main in (ap layer_of (sym same), subst (IsName c) same below)
+    ]
+
 pub asked-word : (c : Config) (mask : ℕ) (name : Name) → Contains (asked_words c mask) name → IsAskedWord c mask name
 asked-word c mask name h =
     let l = flat-back (words_of_layer c) (asked_layers c mask) name h in
     let t = filter-back (λ layer. bit_at mask layer == 1) (range_with_len 0 c.layers) l.0 l.1 in
     let below = range-below c.layers l.0 t.0 in
-    let asked = eqb-true (bit_at mask l.0) 1 t.1 in
-    elim (Contains-append_cases (map (Slot l.0) (range_with_len 0 c.slots)) (Main l.0 ∷ []) name l.2) [
-      | inl slot ↦
-          let s = map-back (Slot l.0) (range_with_len 0 c.slots) name slot in
-          record { layer = l.0; below = below; asked = asked; of_layer = ap layer_of (sym s.2); named = subst (IsName c) s.2 (below, range-below c.slots s.0 s.1) }
-      | inr main ↦
-          let same = only (Main l.0) name main in
-          record { layer = l.0; below = below; asked = asked; of_layer = ap layer_of (sym same); named = subst (IsName c) same below }
-    ]
+    let word = layer-word c l.0 name below l.2 in
+    record { layer = l.0; below = below; asked = eqb-true (bit_at mask l.0) 1 t.1; of_layer = word.0; named = word.1 }
 
 -- ---- how many they are
 

@@ -24,7 +24,7 @@ use Rattle.core_query.specs.Clear.{IsClear, asked_layers}
 use Rattle.core_query.proofs.Asked.{behind, asked-word, asked-count}
 use Rattle.core_query.proofs.Recording.{whole-record}
 use Rattle.core_query.proofs.Pruned.{word-layer, LiesFrom, lies-later, node-ends, IsClearAt, few-loads}
-use Rattle.core_query.proofs.Finding.{node-back, of-none, asked-layers}
+use Rattle.core_query.proofs.Finding.{each-load, asked-layers}
 use Rattle.core_query.proofs.Walked.{candidate-found}
 use Rattle.core_query.proofs.Ended.{reads}
 
@@ -40,21 +40,6 @@ same-layer : (o : Option ℕ) (name : Name) (value : ℕ) → layer_of name ≡ 
 same-layer o (Main l) value e = absurd (none-some l (sym e))
 same-layer o (Slot l t) value e = absurd (none-some l (sym e))
 same-layer o _ value e = refl
-
--- each load of a whole record is of a node, or of a word that was to be read
-each-load : (query : Query) (nodes : List ℕ) (names : List Name) (loads : List Load) → IsWholeRecord query nodes names loads → (l : Load) → Contains loads l
-    → (layer_of l.name ≡ None) ⊎ Contains names l.name
-each-load query nodes names loads nothing_left l h = absurd (none_in l h)
-each-load query nodes names loads (of_word name value more later whole) l h =
-    elim (cases_cons (record { name = name; value = value }) later l h) [
-      | inl first ↦ inr (0, omega arith, ap (λ (x : Load). x.name) first)
-      | inr rest ↦ elim (each-load query (nodes_named name value) more later whole l rest) [ inl none ↦ inl none | inr among ↦ inr (behind name more l.name among) ]
-    ]
-each-load query nodes names loads (of_node n children more words later whole) l h =
-    elim (Contains-append_cases (node_loads n children) later l h) [
-      | inl here ↦ inl (of-none n children l (node-back n children l here))
-      | inr rest ↦ each-load query (nodes_to_walk query children ++ more) words later whole l rest
-    ]
 
 module _ (s : Sight) (query : Query) where
   -- a clear layer stays at hand while the loads are of nodes or of clear layers

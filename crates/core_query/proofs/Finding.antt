@@ -1,6 +1,6 @@
 -- What a whole record says of a single load: it is that of a word that was to be read, or one of those of a node that was
 -- read as one. Where no node was walked twice, these are all loads of the node.
-use Rattle.std.proofs.Common.{◌≡◌, ◌≢◌, ℕ, suc, ◌<◌, List, [], ◌∷◌, ◌++◌, Some, None, true, false, refl, ap, sym, ◌∙◌, subst, inl, inr, arith}
+use Rattle.std.proofs.Common.{◌≡◌, ◌≢◌, ◌⊎◌, inl, inr, ℕ, suc, ◌<◌, List, [], ◌∷◌, ◌++◌, Some, None, true, false, refl, ap, sym, ◌∙◌, subst, arith}
 use Rattle.std.specs.Prelude.{Contains, map, flat_map, ◌==◌, if◌then◌else◌}
 use Rattle.std.specs.List.{range_with_len}
 use Rattle.std.proofs.lemmas.Bool.{cases_Bool}
@@ -29,7 +29,7 @@ pub data IsOfNode (n : ℕ) (children : ℕ → ReadChild) (l : Load) : Type 0 w
   is_child : (k : ℕ) → k < 4 → child_load n k (children k).word ≡ l → IsOfNode n children l
   is_side : (k q : ℕ) → k < 4 → q < 6 → ((children k).word == 0) ≡ false → side_load n k (children k).bound q ≡ l → IsOfNode n children l
 
-loads-none : (n k : ℕ) (child : ReadChild) → (child.word == 0) ≡ true → child_loads n k child ≡ child_load n k child.word ∷ []
+pub loads-none : (n k : ℕ) (child : ReadChild) → (child.word == 0) ≡ true → child_loads n k child ≡ child_load n k child.word ∷ []
 loads-none n k child none = rw none refl
 
 pub loads-some : (n k : ℕ) (child : ReadChild) → (child.word == 0) ≡ false → child_loads n k child ≡ child_load n k child.word ∷ map (side_load n k child.bound) (range_with_len 0 6)
@@ -113,6 +113,21 @@ module _ (query : Query) where
             let t = first-read (nodes_to_walk query children ++ more) words later whole layers m l e rest in
             (t.0, Contains-append_right (node_loads n children) later (child_load m 0 t.0) t.1)
       ]
+
+-- each load of a whole record is of a node, or of a word that was to be read
+pub each-load : (query : Query) (nodes : List ℕ) (names : List Name) (loads : List Load) → IsWholeRecord query nodes names loads → (l : Load) → Contains loads l
+    → (layer_of l.name ≡ None) ⊎ Contains names l.name
+each-load query nodes names loads nothing_left l h = absurd (none_in l h)
+each-load query nodes names loads (of_word name value more later whole) l h =
+    elim (cases_cons (record { name = name; value = value }) later l h) [
+      | inl first ↦ inr (0, omega arith, ap (λ (x : Load). x.name) first)
+      | inr rest ↦ elim (each-load query (nodes_named name value) more later whole l rest) [ inl none ↦ inl none | inr among ↦ inr (behind name more l.name among) ]
+    ]
+each-load query nodes names loads (of_node n children more words later whole) l h =
+    elim (Contains-append_cases (node_loads n children) later l h) [
+      | inl here ↦ inl (of-none n children l (node-back n children l here))
+      | inr rest ↦ each-load query (nodes_to_walk query children ++ more) words later whole l rest
+    ]
 
 -- ---- no node twice
 

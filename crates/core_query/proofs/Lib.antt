@@ -7,6 +7,7 @@ pub mod Pruned
 pub mod Finding
 pub mod Reading
 pub mod Walked
+pub mod Apart
 pub mod Ended
 pub mod Once
 pub mod Cleared

@@ -1,5 +1,5 @@
 //! What is proved of the kinds of step of a walk, as the layers above use it. No call here does anything.
-ghost use Rattle.std.specs.Prelude.{◌≡◌, ℕ, ◌+◌, ◌*◌, ◌<◌, ◌≤◌, List, [], ◌∷◌, ◌++◌, length, Contains, Some};
+ghost use Rattle.std.specs.Prelude.{◌≡◌, ◌≢◌, ℕ, ◌+◌, ◌*◌, ◌<◌, ◌≤◌, List, [], ◌∷◌, ◌++◌, length, AllPairs, Contains, Some};
 ghost use Rattle.fixed_box.specs.Touch.{Touch};
 ghost use Rattle.scene_model.specs.History.{IsDue};
 ghost use Rattle.word_map.specs.declared.name.Name.{Name};
@@ -65,10 +65,14 @@ pub fn stacks_of_walks_are_short()
 
 /// What a query has read when nothing is left is a whole record, and nothing else: for each asked layer, ascending, one load
 /// of each slot and then of the main word, each followed by the walk of its tree; of each node that is walked one load of
-/// each of its four children, and six of the bound of each child that is not 0.
+/// each of its four children, and six of the bound of each child that is not 0. No word that is asked for is asked for twice,
+/// so where no node was walked twice no word was read twice.
 pub fn records_of_walks_are_whole()
-    ensures { (c : Config) (query : Query) (loads : List Load) → Follows c query loads → IsAtEnd (position_of c query loads)
+    ensures whole { (c : Config) (query : Query) (loads : List Load) → Follows c query loads → IsAtEnd (position_of c query loads)
         → IsWholeRecord query [] (asked_words c query.mask) loads }
+    ensures words { (c : Config) (mask : ℕ) → AllPairs (λ a b. a ≢ b) (asked_words c mask) }
+    ensures once { (c : Config) (query : Query) (loads : List Load) → Follows c query loads → IsAtEnd (position_of c query loads) → WalksOnce loads
+        → AllPairs (λ a b. a.name ≢ b.name) loads }
 {}
 
 /// The nodes that were read when nothing is left are just those that a walk has to walk, each root and each child with a

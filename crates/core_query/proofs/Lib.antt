@@ -9,6 +9,7 @@ pub mod Reading
 pub mod Walked
 pub mod Apart
 pub mod Ended
-pub mod Once
 pub mod Cleared
 pub mod Stacks
+pub mod NextLoad
+pub mod Hulls

@@ -1,6 +1,8 @@
 //! What is proved of the kinds of step of a walk, as the layers above use it. No call here does anything.
 ghost use Rattle.std.specs.Prelude.{◌≡◌, ◌≢◌, ℕ, ◌+◌, ◌*◌, ◌<◌, ◌≤◌, List, [], ◌∷◌, ◌++◌, length, AllPairs, Contains, Some};
 ghost use Rattle.fixed_box.specs.Touch.{Touch};
+ghost use Rattle.fixed_box.specs.declared.fix_box.FixBox.{FixBox};
+ghost use Rattle.fixed_box.specs.declared.shape.Shape.{Shape};
 ghost use Rattle.scene_model.specs.History.{IsDue};
 ghost use Rattle.word_map.specs.declared.name.Name.{Name};
 ghost use Rattle.word_map.specs.declared.name.Name.TheVariants.{Child};
@@ -10,19 +12,19 @@ ghost use Rattle.core_state.specs.declared.item.Load.{Load};
 ghost use Rattle.core_state.specs.declared.view.View.{View};
 ghost use Rattle.core_state.specs.declared.view.Waiting.{Waiting};
 ghost use Rattle.core_state.specs.Core.{Core, word_of};
-ghost use Rattle.core_state.specs.Encoding.{body_child};
+ghost use Rattle.core_state.specs.Scope.{Sight};
 ghost use Rattle.core_state.specs.Kind.{Steps};
 ghost use Rattle.core_state.specs.Walks.{MayBegin, begin_walk, MayEnd, end_walk};
 ghost use Rattle.core_state.specs.Formed.{IsFormed};
 ghost use Rattle.core_state.specs.Guards.{GuardsHold};
 ghost use Rattle.core_state.specs.Invariants.{Invariants};
 ghost use Rattle.core_state.specs.WalkRecord.{IsLoaded, IsWalked, IsCandidate};
-ghost use Rattle.core_state.specs.Walking.{Query, at_child, next_word, Follows, asked_words, position_of};
+ghost use Rattle.core_state.specs.Walking.{Query, next_word, Follows, asked_words, position_of};
 ghost use Rattle.core_state.specs.ReadersCounted.{waiting_at};
 ghost use Rattle.core_query.specs.Ends.{IsWalking, walked_to, IsAtEnd, since};
 ghost use Rattle.core_query.specs.WholeRecord.{ReadChild, IsWholeRecord};
-ghost use Rattle.core_query.specs.Found.{HasRead, IsFound, WalksOnce};
-ghost use Rattle.core_query.specs.Clear.{IsClear, asked_layers};
+ghost use Rattle.core_query.specs.Found.{HasRead, IsFound, WalksOnce, ReadsBodies};
+ghost use Rattle.core_query.specs.Clear.{IsClear, IsClearOf, asked_layers, IsHullOf};
 
 /// The beginning and the end of a walk keep all invariants: when it begins, each body that it has to find is ahead of it.
 pub fn walks_begin_and_end()
@@ -44,12 +46,15 @@ pub fn walks_find_all_due()
         → IsDue (Touch query.shape) query.mask core.config.bodies (since core view.walk) index generation → IsCandidate query.shape view.walk.loads index }
 {}
 
-/// A walk reads words of the world. A child that is a body is one of the world, so each candidate is.
+/// A walk reads words of the world. Where each body that it has read as a child is one of the world, that is so with the next
+/// load too, and each candidate is one.
 pub fn walks_stay_in_the_world()
     ensures words { (core : Core) (query : Query) (seat number : ℕ) (view : View) → Invariants core → IsWalking core query seat number view
         → (name : Name) → next_word (walked_to core query view).rest (walked_to core query view).spot ≡ Some name → IsName core.config name }
-    ensures bodies { (core : Core) (query : Query) (seat number : ℕ) (view : View) → Invariants core → IsWalking core query seat number view
-        → (n level k index : ℕ) → (walked_to core query view).spot ≡ at_child n level k → word_of core (Child n k) ≡ body_child index → index < core.config.bodies }
+    ensures bodies { (core : Core) (query : Query) (seat number : ℕ) (view : View) → Invariants core → IsWalking core query seat number view → ReadsBodies core.config view.walk.loads
+        → (name : Name) → next_word (walked_to core query view).rest (walked_to core query view).spot ≡ Some name
+        → ReadsBodies core.config (view.walk.loads ++ record { name = name; value = word_of core name } ∷ []) }
+    ensures candidates { (c : Config) (query : Query) (loads : List Load) → ReadsBodies c loads → (index : ℕ) → IsCandidate query.shape loads index → index < c.bodies }
 {}
 
 /// The stack of a walk is short: trees have ten levels, and of each at most three nodes wait below the one at hand. With
@@ -105,4 +110,9 @@ pub fn clear_walks_read_roots_alone()
         → IsAtEnd (walked_to core query view) → IsClear core query → (index : ℕ) → ¬ IsFound query view.walk.loads index }
     ensures candidates { (core : Core) (query : Query) (seat number : ℕ) (view : View) → Invariants core → IsWalking core query seat number view
         → IsAtEnd (walked_to core query view) → IsClear core query → WalksOnce view.walk.loads → (index : ℕ) → ¬ IsCandidate query.shape view.walk.loads index }
+{}
+
+/// A shape is clear of a layer where it does not touch a box that reaches as far as all that counts for its space.
+pub fn hulls_tell_what_is_clear()
+    ensures { (s : Sight) (shape : Shape) (layer : ℕ) (hull : FixBox) → IsHullOf s layer hull → ¬ Touch shape hull → IsClearOf s shape layer }
 {}

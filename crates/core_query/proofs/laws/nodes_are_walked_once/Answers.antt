@@ -1,4 +1,4 @@
-use Rattle.core_query.proofs.Once.{once-more}
+use Rattle.core_query.proofs.NextLoad.{once-more}
 use Rattle.core_query.proofs.laws.nodes_are_walked_once.Goals as goal
 
 pub returns : goal.returns

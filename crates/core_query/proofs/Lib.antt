@@ -9,3 +9,16 @@ pub mod Staying
 pub mod Spots
 pub mod WalkLoads
 pub mod Keeping
+pub mod Asked
+pub mod Positions
+pub mod Recording
+pub mod Pruned
+pub mod Finding
+pub mod Reading
+pub mod Walked
+pub mod Apart
+pub mod Ended
+pub mod Cleared
+pub mod Stacks
+pub mod NextLoad
+pub mod Hulls

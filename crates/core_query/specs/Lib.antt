@@ -1,0 +1,4 @@
+pub mod Ends
+pub mod WholeRecord
+pub mod Found
+pub mod Clear

@@ -1,10 +1,30 @@
 //! What is proved of the kinds of step of a walk, as the layers above use it. No call here does anything.
-ghost use Rattle.core_state.specs.Core.{Core};
+ghost use Rattle.std.specs.Prelude.{◌≡◌, ◌≢◌, ℕ, ◌+◌, ◌*◌, ◌<◌, ◌≤◌, List, [], ◌∷◌, ◌++◌, length, AllPairs, Contains, Some};
+ghost use Rattle.fixed_box.specs.Touch.{Touch};
+ghost use Rattle.fixed_box.specs.declared.fix_box.FixBox.{FixBox};
+ghost use Rattle.fixed_box.specs.declared.shape.Shape.{Shape};
+ghost use Rattle.scene_model.specs.History.{IsDue};
+ghost use Rattle.word_map.specs.declared.name.Name.{Name};
+ghost use Rattle.word_map.specs.declared.name.Name.TheVariants.{Child};
+ghost use Rattle.word_map.specs.Names.{IsName};
+ghost use Rattle.word_map.specs.declared.config.Config.{Config};
+ghost use Rattle.core_state.specs.declared.item.Load.{Load};
+ghost use Rattle.core_state.specs.declared.view.View.{View};
+ghost use Rattle.core_state.specs.declared.view.Waiting.{Waiting};
+ghost use Rattle.core_state.specs.Core.{Core, word_of};
+ghost use Rattle.core_state.specs.Scope.{Sight};
 ghost use Rattle.core_state.specs.Kind.{Steps};
 ghost use Rattle.core_state.specs.Walks.{MayBegin, begin_walk, MayEnd, end_walk, MayWalkSlot, walk_slot, MayWalkMain, walk_main, MayWalkChild, walk_child, MayWalkBound, walk_bound};
 ghost use Rattle.core_state.specs.Formed.{IsFormed};
 ghost use Rattle.core_state.specs.Guards.{GuardsHold};
 ghost use Rattle.core_state.specs.Invariants.{Invariants};
+ghost use Rattle.core_state.specs.WalkRecord.{IsLoaded, IsWalked, IsCandidate};
+ghost use Rattle.core_state.specs.Walking.{Query, next_word, Follows, asked_words, position_of};
+ghost use Rattle.core_state.specs.ReadersCounted.{waiting_at};
+ghost use Rattle.core_query.specs.Ends.{IsWalking, walked_to, IsAtEnd, since};
+ghost use Rattle.core_query.specs.WholeRecord.{ReadChild, IsWholeRecord};
+ghost use Rattle.core_query.specs.Found.{HasRead, IsFound, WalksOnce, ReadsBodies};
+ghost use Rattle.core_query.specs.Clear.{IsClear, IsClearOf, asked_layers, IsHullOf};
 
 /// The beginning and the end of a walk keep all invariants: when it begins, each body that it has to find is ahead of it.
 pub fn walks_begin_and_end()
@@ -29,4 +49,83 @@ pub fn walks_are_guarded()
     ensures mains { (before after : Core) → Steps MayWalkMain walk_main before after → IsFormed before → Invariants before → GuardsHold before → GuardsHold after }
     ensures children { (before after : Core) → Steps MayWalkChild walk_child before after → IsFormed before → Invariants before → GuardsHold before → GuardsHold after }
     ensures bounds { (before after : Core) → Steps MayWalkBound walk_bound before after → IsFormed before → Invariants before → GuardsHold before → GuardsHold after }
+{}
+
+/// Where a walk has nothing left to read, every body that it has to find is a candidate: each one that at every point since
+/// the walk began was in the broad phase, in an asked layer, with a box that touches the shape.
+pub fn walks_find_all_due()
+    ensures { (core : Core) (query : Query) (seat number : ℕ) (view : View) → Invariants core → IsWalking core query seat number view
+        → IsAtEnd (walked_to core query view) → (index generation : ℕ)
+        → IsDue (Touch query.shape) query.mask core.config.bodies (since core view.walk) index generation → IsCandidate query.shape view.walk.loads index }
+{}
+
+/// A walk reads words of the world. Where each body that it has read as a child is one of the world, that is so with the next
+/// load too, and each candidate is one.
+pub fn walks_stay_in_the_world()
+    ensures words { (core : Core) (query : Query) (seat number : ℕ) (view : View) → Invariants core → IsWalking core query seat number view
+        → (name : Name) → next_word (walked_to core query view).rest (walked_to core query view).spot ≡ Some name → IsName core.config name }
+    ensures bodies { (core : Core) (query : Query) (seat number : ℕ) (view : View) → Invariants core → IsWalking core query seat number view → ReadsBodies core.config view.walk.loads
+        → (name : Name) → next_word (walked_to core query view).rest (walked_to core query view).spot ≡ Some name
+        → ReadsBodies core.config (view.walk.loads ++ record { name = name; value = word_of core name } ∷ []) }
+    ensures candidates { (c : Config) (query : Query) (loads : List Load) → ReadsBodies c loads → (index : ℕ) → IsCandidate query.shape loads index → index < c.bodies }
+{}
+
+/// The stack of a walk is short: trees have ten levels, and of each at most three nodes wait below the one at hand. With
+/// that one they are never more than 31, and the stack has room for one more.
+pub fn stacks_of_walks_are_short()
+    ensures levels { (core : Core) (query : Query) (seat number : ℕ) (view : View) → Invariants core → IsWalking core query seat number view
+        → (w : Waiting) → Contains (waiting_at (walked_to core query view).spot (walked_to core query view).stack) w → w.level ≤ 10 }
+    ensures nodes { (core : Core) (query : Query) (seat number : ℕ) (view : View) → Invariants core → IsWalking core query seat number view
+        → length (waiting_at (walked_to core query view).spot (walked_to core query view).stack) ≤ 31 }
+    ensures room { (core : Core) (query : Query) (seat number : ℕ) (view : View) → Invariants core → IsWalking core query seat number view
+        → length (walked_to core query view).stack < 31 }
+{}
+
+/// What a query has read when nothing is left is a whole record, and nothing else: for each asked layer, ascending, one load
+/// of each slot and then of the main word, each followed by the walk of its tree; of each node that is walked one load of
+/// each of its four children, and six of the bound of each child that is not 0. No word that is asked for is asked for twice,
+/// so where no node was walked twice no word was read twice.
+pub fn records_of_walks_are_whole()
+    ensures whole { (c : Config) (query : Query) (loads : List Load) → Follows c query loads → IsAtEnd (position_of c query loads)
+        → IsWholeRecord query [] (asked_words c query.mask) loads }
+    ensures words { (c : Config) (mask : ℕ) → AllPairs (λ a b. a ≢ b) (asked_words c mask) }
+    ensures once { (c : Config) (query : Query) (loads : List Load) → Follows c query loads → IsAtEnd (position_of c query loads) → WalksOnce loads
+        → AllPairs (λ a b. a.name ≢ b.name) loads }
+{}
+
+/// The nodes that were read when nothing is left are just those that a walk has to walk, each root and each child with a
+/// bound that touches, and the bodies that it found are just its candidates. That a node's four children were read one after
+/// the other, and a bound with the child that has it, is so where no node was walked twice.
+pub fn walked_nodes_are_read()
+    ensures read { (c : Config) (query : Query) (loads : List Load) → Follows c query loads → IsAtEnd (position_of c query loads) → WalksOnce loads
+        → (n : ℕ) → IsWalked query.shape loads n → (children : ℕ → ReadChild) × HasRead loads n children }
+    ensures only { (c : Config) (query : Query) (loads : List Load) → Follows c query loads → IsAtEnd (position_of c query loads)
+        → (n k value : ℕ) → IsLoaded loads (Child n k) value → IsWalked query.shape loads n }
+    ensures found { (c : Config) (query : Query) (loads : List Load) → Follows c query loads → IsAtEnd (position_of c query loads) → WalksOnce loads
+        → (index : ℕ) → IsCandidate query.shape loads index → IsFound query loads index }
+    ensures candidates { (query : Query) (loads : List Load) (index : ℕ) → IsFound query loads index → IsCandidate query.shape loads index }
+{}
+
+/// No node is walked twice: where that is so of what a walk has read, it is so with the next load too.
+pub fn nodes_are_walked_once()
+    ensures { (core : Core) (query : Query) (seat number : ℕ) (view : View) → Invariants core → IsWalking core query seat number view → WalksOnce view.walk.loads
+        → (name : Name) → next_word (walked_to core query view).rest (walked_to core query view).spot ≡ Some name → (value : ℕ)
+        → WalksOnce (view.walk.loads ++ record { name = name; value = value } ∷ []) }
+{}
+
+/// Where the shape touches no box in the space of an asked layer, as it stands when nothing is left to read, a walk has read
+/// of each tree no more than the root: 29 loads for each slot and main word. It found no body, and has no candidate.
+pub fn clear_walks_read_roots_alone()
+    ensures loads { (core : Core) (query : Query) (seat number : ℕ) (view : View) → Invariants core → IsWalking core query seat number view
+        → IsAtEnd (walked_to core query view) → IsClear core query
+        → length view.walk.loads ≤ 29 * ((core.config.slots + 1) * length (asked_layers core.config query.mask)) }
+    ensures found { (core : Core) (query : Query) (seat number : ℕ) (view : View) → Invariants core → IsWalking core query seat number view
+        → IsAtEnd (walked_to core query view) → IsClear core query → (index : ℕ) → ¬ IsFound query view.walk.loads index }
+    ensures candidates { (core : Core) (query : Query) (seat number : ℕ) (view : View) → Invariants core → IsWalking core query seat number view
+        → IsAtEnd (walked_to core query view) → IsClear core query → WalksOnce view.walk.loads → (index : ℕ) → ¬ IsCandidate query.shape view.walk.loads index }
+{}
+
+/// A shape is clear of a layer where it does not touch a box that reaches as far as all that counts for its space.
+pub fn hulls_tell_what_is_clear()
+    ensures { (s : Sight) (shape : Shape) (layer : ℕ) (hull : FixBox) → IsHullOf s layer hull → ¬ Touch shape hull → IsClearOf s shape layer }
 {}

@@ -3,7 +3,8 @@ ghost use Rattle.std.specs.Prelude.{◌≡◌, ◌<◌, [], IfOk, IfErr, OnOk};
 ghost use Rattle.pass_table.specs.Passes.{view_of, IsIdle};
 ghost use Rattle.pass_table.specs.Work.{Tells};
 ghost use Rattle.pass_table.specs.Belongings.{belongings_of};
-ghost use Rattle.body_slots.specs.Answers.{HasCreated, WasFull, KnowsLawful};
+ghost use Rattle.pass_table.specs.Knowing.{KnowsLawful};
+ghost use Rattle.body_slots.specs.Answers.{HasCreated, WasFull};
 ghost use Rattle.body_slots.specs.Destroying.{HasDestroyed, WasRefused};
 
 use crate::answers::{DestroyRefused, Full};

@@ -1,11 +1,10 @@
-use Rattle.std.proofs.Common.{refl, subst, arith}
+use Rattle.std.proofs.Common.{refl, arith}
 use Rattle.word_map.specs.Names.{index_lock}
 use Rattle.core_state.specs.declared.view.Mode.TheVariants.{Write}
 use Rattle.pass_table.specs.TakeTurns.{taking_of}
 use Rattle.pass_table.specs.Passes.{view_of}
 use Rattle.pass_table.proofs.Calling.{some-left}
 use Rattle.body_slots.specs.declared.create_op.CreateStage.TheVariants.{Taking, Locked}
-use Rattle.body_slots.specs.Creating.{AtCreate}
 use Rattle.pass_table.proofs.Stages.{went-on, take-more, take-again}
 use Rattle.body_slots.proofs.CreateTurns.{create_stages}
 use Rattle.body_slots.proofs.CreateEnds.{take-done, take-on}

@@ -1,11 +1,10 @@
-use Rattle.std.proofs.Common.{refl, subst, arith}
+use Rattle.std.proofs.Common.{refl, arith}
 use Rattle.word_map.specs.Names.{index_lock}
 use Rattle.core_state.specs.declared.view.Mode.TheVariants.{Write}
 use Rattle.pass_table.specs.TakeTurns.{taking_of}
 use Rattle.pass_table.specs.Passes.{view_of}
 use Rattle.pass_table.proofs.Calling.{some-left}
 use Rattle.body_slots.specs.declared.destroy_op.DestroyStage.TheVariants.{TakingList, Locked}
-use Rattle.body_slots.specs.Destroying.{AtDestroy}
 use Rattle.pass_table.proofs.Stages.{went-on, take-more, take-again}
 use Rattle.body_slots.proofs.DestroyTurns.{destroy_stages, list-done, list-on}
 use Rattle.body_slots.proofs.destroy_op.DestroyOp.take_list.Goals as goal

@@ -56,6 +56,7 @@ went-on turn before new stage after view next goes is at step made less keeps =
       step = step;
       made = made;
       turned = inl (subst (λ (s : DrawStage). stage_left (node_count before.planner) after < stage_left (node_count before.planner) s) (sym at) less);
+      loads = tt;
       keeps = λ first start drawing. (drawing.0, keeps start (subst (AtDraw (planned_of before) start view) at drawing.1));
       answered = λ first start drawing. tt;
     }))
@@ -506,6 +507,7 @@ module _ (turn : Turn (Unit {0})) (before new : TreeDrawing) (view next : View) 
         step = node-step view next name word store;
         made = node-made view next name word store number pass;
         turned = tt;
+        loads = tt;
         keeps = λ first start drawing. tt;
         answered = λ first start drawing.
             let at_parent : AtDraw So start view (Parent n) = subst (AtDraw So start view) stage drawing.1 in

@@ -9,7 +9,7 @@ use Rattle.pass_table.specs.declared.take_op.TakeOp.{TakeOp}
 use Rattle.pass_table.specs.declared.turn.Turn.{Turn}
 use Rattle.pass_table.specs.declared.turn.Turn.TheVariants.{Done, More, Again}
 use Rattle.pass_table.specs.TakeTurns.{turns_after, turns_left}
-use Rattle.pass_table.specs.Turning.{AtMostOneStep, MadeBy, Turned, GoesOn, Answers, IsUnderWay}
+use Rattle.pass_table.specs.Turning.{AtMostOneStep, MadeBy, Turned, LoadsNow, GoesOn, Answers, IsUnderWay}
 use Rattle.pass_table.proofs.Calling.{turned-more, turned-again}
 use Rattle.batch_add.specs.declared.kept_batch.KeptBatch.{KeptBatch}
 use Rattle.batch_add.specs.declared.giving_up.GiveStage.{GiveStage}
@@ -17,7 +17,7 @@ use Rattle.batch_add.specs.declared.giving_up.GiveStage.TheVariants.{Striping, S
 use Rattle.batch_add.specs.declared.giving_up.GivingUp.{GivingUp}
 use Rattle.batch_add.specs.Parts.{HasGivenUp}
 use Rattle.batch_add.specs.Keeping.{IsBegunFor}
-use Rattle.batch_add.specs.GivingUp.{AtGiving, ComesNext, IsGivingUp, HasGiven, left_at, IsGiveTurn}
+use Rattle.batch_add.specs.GivingUp.{AtGiving, ComesNext, IsGivingUp, HasGiven, left_at, takes_at, IsGiveTurn}
 
 -- a turn that goes from a stage to a stage keeps to the stages of the operation
 abbrev pub KeepsStage : KeptBatch → View → View → GiveStage → GiveStage → Type 0
@@ -59,20 +59,21 @@ keeps_on operation stage new made view next at keeps first start giving = record
 
 -- a turn that goes on to a stage, with the entry that it made
 pub went-on-made : (turn : Turn (Unit {0})) (operation new : GivingUp) (stage later : GiveStage) (made : Option Made) (view next : View) → turn ≡ More → new ≡ at_stage operation later made → operation.stage ≡ stage
-    → AtMostOneStep view next → MadeBy view next made → left_at operation.kept later < left_at operation.kept stage → KeepsStage operation.kept view next stage later → IsGiveTurn turn operation new view next
-went-on-made turn operation new stage later made view next goes is at step by less keeps =
+    → AtMostOneStep view next → MadeBy view next made → left_at operation.kept later < left_at operation.kept stage → LoadsNow view next (takes_at later) → KeepsStage operation.kept view next stage later → IsGiveTurn turn operation new view next
+went-on-made turn operation new stage later made view next goes is at step by less loads keeps =
     subst (λ (t : Turn (Unit {0})). IsGiveTurn t operation new view next) (sym goes)
     (subst (λ (o : GivingUp). IsGiveTurn More operation o view next) (sym is) (record {
       step = step;
       made = by;
       turned = inl (subst (λ (s : GiveStage). left_at operation.kept later < left_at operation.kept s) (sym at) less);
+      loads = loads;
       keeps = keeps_on operation stage later made view next at keeps;
       answered = λ first start giving. tt;
     }))
 
 -- without one
 pub went-on : (turn : Turn (Unit {0})) (operation new : GivingUp) (stage later : GiveStage) (view next : View) → turn ≡ More → new ≡ record operation { stage = later; made = None } → operation.stage ≡ stage
-    → AtMostOneStep view next → MadeBy view next None → left_at operation.kept later < left_at operation.kept stage → KeepsStage operation.kept view next stage later → IsGiveTurn turn operation new view next
+    → AtMostOneStep view next → MadeBy view next None → left_at operation.kept later < left_at operation.kept stage → LoadsNow view next (takes_at later) → KeepsStage operation.kept view next stage later → IsGiveTurn turn operation new view next
 went-on turn operation new stage later view next = went-on-made turn operation new stage later None view next
 
 -- the last turn
@@ -83,6 +84,7 @@ ended operation stage view next at step by gives = record {
   step = step;
   made = by;
   turned = tt;
+  loads = tt;
   keeps = λ first start giving. tt;
   answered = λ first start giving before batch after begun.
       let here : IsBegunFor operation.kept start before batch after = subst (λ (k : KeptBatch). IsBegunFor k start before batch after) (sym giving.kept) begun in
@@ -113,28 +115,31 @@ next-less kept done view (Given free) comes = absurd comes
 next-less kept done view Counted comes = absurd comes
 
 -- a turn of taking a lock, that is to be made again or after which there is more to do
-module _ (stage_of : TakeOp → GiveStage) (more : ℕ) (operation new : GivingUp) (lefts : (taking : TakeOp) → left_at operation.kept (stage_of taking) ≡ more + turns_left taking) (taking after : TakeOp) (view next : View)
-    (is : new ≡ record operation { stage = stage_of after; made = None }) (at : operation.stage ≡ stage_of taking) (step : AtMostOneStep view next) (made : MadeBy view next None)
+module _ (stage_of : TakeOp → GiveStage) (more : ℕ) (operation new : GivingUp) (lefts : (taking : TakeOp) → left_at operation.kept (stage_of taking) ≡ more + turns_left taking) (takes : (taking : TakeOp) → takes_at (stage_of taking) ≡ Some taking) (taking after : TakeOp) (view next : View)
+    (is : new ≡ record operation { stage = stage_of after; made = None }) (at : operation.stage ≡ stage_of taking) (step : AtMostOneStep view next) (made : MadeBy view next None) (loads : LoadsNow view next (Some after))
     (keeps : KeepsStage operation.kept view next (stage_of taking) (stage_of after)) where
-  take_turn : (turn : Turn (Unit {0})) → Turned turn view next Write (more + turns_left taking) (more + turns_left after)
+  take_turn : (turn : Turn (Unit {0})) → Turned turn view next (Some taking) (more + turns_left taking) (more + turns_left after)
+      → (LoadsNow view next (takes_at (stage_of after)) → GoesOn turn (LoadsNow view next (takes_at (stage_of after))))
       → ((first : GivingUp) (start : View) → IsGivingUp first start (at_stage operation (stage_of after) None) next → GoesOn turn (IsGivingUp first start (at_stage operation (stage_of after) None) next))
       → ((first : GivingUp) (start : View) → Answers turn (HasGiven first start (at_stage operation (stage_of after) None) next)) → IsGiveTurn turn operation new view next
-  take_turn turn turned goes answers =
+  take_turn turn turned new_load goes answers =
       subst (λ (o : GivingUp). IsGiveTurn turn operation o view next) (sym is) (record {
         step = step;
         made = made;
         turned =
-            subst (λ (n : ℕ). Turned turn view next Write n (left_at operation.kept (stage_of after))) (sym (ap (left_at operation.kept) at ∙ lefts taking))
-            (subst (λ (n : ℕ). Turned turn view next Write (more + turns_left taking) n) (sym (lefts after)) turned);
+            subst (λ (t : Option TakeOp). Turned turn view next t (left_at operation.kept operation.stage) (left_at operation.kept (stage_of after))) (sym (ap takes_at at ∙ takes taking))
+            (subst (λ (n : ℕ). Turned turn view next (Some taking) n (left_at operation.kept (stage_of after))) (sym (ap (left_at operation.kept) at ∙ lefts taking))
+            (subst (λ (n : ℕ). Turned turn view next (Some taking) (more + turns_left taking) n) (sym (lefts after)) turned));
+        loads = new_load (subst (LoadsNow view next) (sym (takes after)) loads);
         keeps = λ first start giving. goes first start (keeps_on operation (stage_of taking) (stage_of after) None view next at keeps first start giving);
         answered = λ first start giving. answers first start;
       })
 
-  pub take-more : (turn : Turn (Unit {0})) → turn ≡ More → (mode : Mode) → mode ≡ Write → Turned {T = Unit {0}} More view next mode (turns_left taking) (turns_left after) → IsGiveTurn turn operation new view next
-  take-more turn goes mode same turned =
+  pub take-more : (turn : Turn (Unit {0})) → turn ≡ More → Turned {T = Unit {0}} More view next (Some taking) (turns_left taking) (turns_left after) → IsGiveTurn turn operation new view next
+  take-more turn goes turned =
       subst (λ (t : Turn (Unit {0})). IsGiveTurn t operation new view next) (sym goes)
-      (take_turn More (turned-more (Unit {0}) (Unit {0}) more view next mode (turns_left taking) (turns_left after) same turned) (λ first start giving. giving) (λ first start. tt))
+      (take_turn More (turned-more (Unit {0}) (Unit {0}) more view next (Some taking) (turns_left taking) (turns_left after) turned) (λ l. l) (λ first start giving. giving) (λ first start. tt))
 
-  pub take-again : (lock found : ℕ) (mode : Mode) → mode ≡ Write → Turned {T = Unit {0}} (Again lock found) view next mode (turns_left taking) (turns_left after) → IsGiveTurn (Again lock found) operation new view next
-  take-again lock found mode same turned =
-      take_turn (Again lock found) (turned-again (Unit {0}) (Unit {0}) more view next mode (turns_left taking) (turns_left after) lock found same turned) (λ first start giving. giving) (λ first start. tt)
+  pub take-again : (lock found : ℕ) → Turned {T = Unit {0}} (Again lock found) view next (Some taking) (turns_left taking) (turns_left after) → IsGiveTurn (Again lock found) operation new view next
+  take-again lock found turned =
+      take_turn (Again lock found) (turned-again (Unit {0}) (Unit {0}) more view next (Some taking) (turns_left taking) (turns_left after) lock found turned) (λ l. l) (λ first start giving. giving) (λ first start. tt)

@@ -24,7 +24,7 @@ use Rattle.pass_table.specs.declared.turn.Turn.TheVariants.{Done, More}
 use Rattle.pass_table.specs.Stepping.{Stored}
 use Rattle.pass_table.specs.TakeTurns.{taking_of, IsTaking}
 use Rattle.pass_table.specs.Holding.{MayLetGo, LetGo}
-use Rattle.pass_table.specs.Turning.{MadeBy, IsUnderWay}
+use Rattle.pass_table.specs.Turning.{MadeBy, IsUnderWay, LoadsNow}
 use Rattle.pass_table.specs.Calls.{AtPoint}
 use Rattle.pass_table.proofs.Knowing.{known-more}
 use Rattle.pass_table.proofs.Calling.{point-later, released-step, released-made}
@@ -34,7 +34,7 @@ use Rattle.batch_add.specs.declared.mark_op.MarkStage.TheVariants.{Taking, Boxed
 use Rattle.batch_add.specs.declared.mark_op.Marking.{Marking}
 use Rattle.pass_table.specs.Work.{HasWorked, HasDone}
 use Rattle.batch_add.specs.Parts.{IsNewest, HasMarked, HasMarkedBefore, marks_outcome, IsMarkRefusedAt}
-use Rattle.batch_add.specs.Marking.{Marks, marks_of, marked_bodies, current, IsBegunFor, marks_work, HasStripe, AtMark, GoesOnFrom, IsMarking, Notes, mark_left, IsMarkTurn}
+use Rattle.batch_add.specs.Marking.{Marks, marks_of, marked_bodies, current, IsBegunFor, marks_work, HasStripe, AtMark, GoesOnFrom, IsMarking, Notes, mark_left, IsMarkTurn, takes_at}
 use Rattle.batch_add.specs.MarkLater.{stripe-held}
 use Rattle.pass_table.proofs.WorkLater.{worked-sizes, worked-mode}
 use Rattle.pass_table.proofs.Working.{worked-released, worked-done}
@@ -129,6 +129,7 @@ module _ (operation new : Marking) (number : ℕ) (bounds : FixBox) (stripe : �
             subst (MadeBy view next) (sym notes.made)
             (mark-made operation.layer operation.slot way.start goes.before goes.batch (marks_of operation) goes.begun view bounds here value joins next stored number pass);
         turned = inl (omega arith);
+        loads = subst (λ (s : MarkStage). LoadsNow view next (takes_at s)) (sym notes.stage) tt;
         keeps = λ first start marking. record {
           layer = notes.layer ∙ marking.layer;
           slot = notes.slot ∙ marking.slot;
@@ -199,6 +200,7 @@ done-turn operation stripe view next number found pass at all go = record {
   step = released-step view next stripe found go;
   made = released-made view next stripe found go number pass;
   turned = tt;
+  loads = tt;
   keeps = λ first start marking. tt;
   answered = λ first start marking.
       let goes = marking.goes in
@@ -225,6 +227,7 @@ refused-turn operation refused view next number stripe found pass at same go = r
   step = released-step view next stripe found go;
   made = released-made view next stripe found go number pass;
   turned = tt;
+  loads = tt;
   keeps = λ first start marking. tt;
   answered = λ first start marking.
       let goes = marking.goes in

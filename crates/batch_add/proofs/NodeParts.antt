@@ -1,4 +1,6 @@
 -- Taking nodes, as the second part of a preparation.
+use Rattle.pass_table.specs.TakeTurns.{LoadedNone}
+use Rattle.pass_table.proofs.TakingTurns.{loads-none}
 use Rattle.std.specs.Prelude.{option_and_then}
 use Rattle.std.proofs.Common.{◌≡◌, ℕ, ◌+◌, ◌*◌, ◌<◌, ◌≤◌, List, [], All, length, map, Option, None, Result, Ok, Err, refl, ap, sym, ◌∙◌, subst, arith}
 use Rattle.body_ident.specs.Id.{Id}
@@ -12,7 +14,7 @@ use Rattle.core_state.specs.declared.view.View.{View}
 use Rattle.core_state.specs.Batches.{new_batch}
 use Rattle.pass_table.specs.declared.turn.Turn.TheVariants.{More, Again}
 use Rattle.pass_table.specs.Holding.{IsAtRest}
-use Rattle.pass_table.specs.Turning.{AtMostOneStep, MadeBy, Turned, IsUnderWay}
+use Rattle.pass_table.specs.Turning.{AtMostOneStep, MadeBy, Turned, IsUnderWay, LoadsNow}
 use Rattle.batch_add.specs.declared.node_taking.NodeTaking.{NodeTaking}
 use Rattle.batch_add.specs.declared.mark_op.Marking.{Marking}
 use Rattle.batch_add.specs.declared.giving_up.GivingUp.{GivingUp}
@@ -21,14 +23,14 @@ use Rattle.batch_add.specs.declared.prepare_op.Undone.TheVariants.{NoNodes}
 use Rattle.batch_add.specs.declared.prepare_op.PrepareStage.TheVariants.{TakingNodes, Marking as MarkingStage}
 use Rattle.batch_add.specs.declared.prepare_op.PrepareOp.{PrepareOp}
 use Rattle.batch_add.specs.Parts.{HasReserved, HasNodes, FoundFewNodes}
-use Rattle.batch_add.specs.TakingNodes.{IsTakingNodes, HasTakenNodes, nodes_left}
-use Rattle.batch_add.specs.Marking.{IsForNewest, IsMarking, mark_left}
+use Rattle.batch_add.specs.TakingNodes.{IsTakingNodes, HasTakenNodes, nodes_left, nodes_takes}
+use Rattle.batch_add.specs.Marking.{IsForNewest, IsMarking, mark_left, mark_takes}
 use Rattle.batch_add.specs.Keeping.{IsBegunFor}
 use Rattle.batch_add.specs.GivingUp.{IsGivingUp, stage_left as give_stage_left, left_at, give_left}
-use Rattle.batch_add.specs.Preparing.{ids_of, count_of, need_of, CanPlan, IsInSome, HasSlotAndNodes, with_slot_nodes, CameToGive, AtPrepare, IsPreparing, left_after, part_left, stage_left, prepare_left, entry_at, entry_of, kept_of, BeginsUndoing, IsPrepareTurn}
+use Rattle.batch_add.specs.Preparing.{ids_of, count_of, need_of, CanPlan, IsInSome, HasSlotAndNodes, with_slot_nodes, CameToGive, AtPrepare, IsPreparing, left_after, part_left, stage_left, prepare_left, entry_at, entry_of, kept_of, BeginsUndoing, IsPrepareTurn, takes_at}
 use Rattle.batch_add.proofs.Searching.{reserved-newest}
 use Rattle.batch_add.proofs.TakingNodes.{taken-newest}
-use Rattle.batch_add.proofs.PartTurns.{goes-on, part-more, part-again}
+use Rattle.batch_add.proofs.PartTurns.{goes-on, part-more, part-again, undoing-loads}
 use Rattle.batch_add.proofs.PartsLeft.{nodes-some, give-few, marks-after, few-after}
 
 module _ (op : PrepareOp) (view : View) (at : op.stage ≡ TakingNodes) where
@@ -96,12 +98,12 @@ module _ (op : PrepareOp) (view : View) (at : op.stage ≡ TakingNodes) where
 
     -- it goes on
     module _ (step : AtMostOneStep view next) (made : MadeBy view next None) (keeps : Keeps) where
-      pub nodes-more : Turned {T = Result (Unit {0}) ℕ} More view next Write (nodes_left op.taking) (nodes_left taking) → IsPrepareTurn More op taken view next
-      nodes-more turned = part-more op taken view next step (nodes_made made) (nodes_keep keeps) (Result (Unit {0}) ℕ) rest (nodes_left op.taking) (nodes_left taking) left_same left_then turned
+      pub nodes-more : Turned {T = Result (Unit {0}) ℕ} More view next (nodes_takes op.taking) (nodes_left op.taking) (nodes_left taking) → LoadsNow view next (nodes_takes taking) → IsPrepareTurn More op taken view next
+      nodes-more turned loads = part-more op taken view next step (nodes_made made) (nodes_keep keeps) (Result (Unit {0}) ℕ) rest (nodes_left op.taking) (nodes_left taking) left_same left_then (nodes_takes op.taking) (nodes_takes taking) (ap (takes_at op) at) (ap (takes_at taken) at) turned loads
 
-      pub nodes-again : (lock word : ℕ) → Turned {T = Result (Unit {0}) ℕ} (Again lock word) view next Write (nodes_left op.taking) (nodes_left taking) → IsPrepareTurn (Again lock word) op taken view next
-      nodes-again lock word turned =
-          part-again op taken view next step (nodes_made made) (nodes_keep keeps) (Result (Unit {0}) ℕ) rest (nodes_left op.taking) (nodes_left taking) left_same left_then lock word turned
+      pub nodes-again : (lock word : ℕ) → Turned {T = Result (Unit {0}) ℕ} (Again lock word) view next (nodes_takes op.taking) (nodes_left op.taking) (nodes_left taking) → LoadsNow view next (nodes_takes taking) → IsPrepareTurn (Again lock word) op taken view next
+      nodes-again lock word turned loads =
+          part-again op taken view next step (nodes_made made) (nodes_keep keeps) (Result (Unit {0}) ℕ) rest (nodes_left op.taking) (nodes_left taking) left_same left_then (nodes_takes op.taking) (nodes_takes taking) (ap (takes_at op) at) (ap (takes_at taken) at) lock word turned loads
 
     -- what it answers
     abbrev Ends : Result (Unit {0}) ℕ → Type 0
@@ -152,7 +154,7 @@ module _ (op : PrepareOp) (view : View) (at : op.stage ≡ TakingNodes) where
         )
 
       module _ (step : AtMostOneStep view next) (made : MadeBy view next None) (marking : Marking) (layer : marking.layer ≡ op.layer) (slot : marking.slot ≡ op.slot) (ids : marking.ids.items ≡ ids_of op)
-          (unmade : marking.made ≡ None) (few : mark_left marking ≤ 13 * count_of op) (goes : IsMarking marking next marking next) where
+          (unmade : marking.made ≡ None) (few : mark_left marking ≤ 13 * count_of op) (goes : IsMarking marking next marking next) (unloaded : LoadedNone (mark_takes marking)) where
         abbrev pub marking_next : PrepareOp
         marking_next = record op { taking = taking; stage = MarkingStage; marking = marking }
 
@@ -203,7 +205,7 @@ module _ (op : PrepareOp) (view : View) (at : op.stage ≡ TakingNodes) where
             (subst (λ (n : ℕ). n < nodes_left op.taking + rest) (sym marks_left) (marks-after (mark_left marking) (nodes_left op.taking) (count_of op) after_marks few (left_some h)))
 
         pub nodes-end : IsUnderWay IsPreparing op view → IsPrepareTurn More op marking_next view next
-        nodes-end h = goes-on op marking_next view next step (subst (MadeBy view next) (sym unmade) made) marks_keep (marks_less h)
+        nodes-end h = goes-on op marking_next view next step (subst (MadeBy view next) (sym unmade) made) marks_keep (marks_less h) (loads-none view next (mark_takes marking) unloaded)
 
     -- fewer were free, and the slot is let go
     module _ (free : ℕ) (ends : Ends (Err free)) where
@@ -287,4 +289,4 @@ module _ (op : PrepareOp) (view : View) (at : op.stage ≡ TakingNodes) where
         unmade = ap (entry_at after) begins.stage ∙ (ap (option_and_then (λ (g : GivingUp). g.made)) begins.is ∙ begins.made)
 
         pub nodes-few : IsUnderWay IsPreparing op view → IsPrepareTurn More op after view next
-        nodes-few h = goes-on op after view next step (subst (MadeBy view next) (sym unmade) made) few_keep (few_less h)
+        nodes-few h = goes-on op after view next step (subst (MadeBy view next) (sym unmade) made) few_keep (few_less h) (undoing-loads view next after taken (NoNodes free) begins)

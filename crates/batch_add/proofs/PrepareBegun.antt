@@ -21,6 +21,7 @@ empty-turn op view number pass at = record {
   step = inl refl;
   made = subst (MadeBy view view) (sym (ap (entry_at op) at)) (still-made view number pass);
   turned = tt;
+  loads = tt;
   keeps = λ first start h. tt;
   answered = λ first start h.
       let a : AtPrepare op start view Empty = subst (AtPrepare op start view) at h.at in

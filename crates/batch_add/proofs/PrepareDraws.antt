@@ -32,7 +32,7 @@ use Rattle.batch_add.specs.Parts.{stored_as, StoresFrom, HasMarked, marked_as, r
 use Rattle.batch_add.specs.Prepared.{IsTheBatch}
 use Rattle.batch_add.specs.TakingNodes.{from-later}
 use Rattle.batch_add.specs.DrawStages.{IsDrawing, HasDrawnAll, draw_left}
-use Rattle.batch_add.specs.Preparing.{ids_of, need_of, prepared_outcome, HasPrepared, HasPreparedOr, HasSlotAndNodes, with_slot_nodes, with_marks, IsInPart, IsInSome, CameToDraw, AtPrepare, IsPreparing, part_left, stage_left, prepare_left, entry_at, entry_of, IsPrepareTurn}
+use Rattle.batch_add.specs.Preparing.{ids_of, need_of, prepared_outcome, HasPrepared, HasPreparedOr, HasSlotAndNodes, with_slot_nodes, with_marks, IsInPart, IsInSome, CameToDraw, AtPrepare, IsPreparing, part_left, stage_left, prepare_left, entry_at, entry_of, IsPrepareTurn, takes_at}
 use Rattle.pass_table.proofs.Working.{done-then, done-prefix}
 use Rattle.batch_add.proofs.DrawBegun.{IsDrawnNow, drawn-newest}
 use Rattle.batch_add.proofs.Parting.{from-from}
@@ -100,11 +100,11 @@ module _ (before : PrepareOp) (drawing new : TreeDrawing) (view next : View) (st
     draws_made : MadeBy view next (entry_of on)
     draws_made = subst (λ (s : PrepareStage). MadeBy view next (entry_at on s)) (sym stage) made
 
-    pub draws-more : Turned {T = Unit {0}} More view next Write (draw_left drawing) (draw_left new) → IsPrepareTurn More before on view next
-    draws-more turned = part-more before on view next step draws_made draws_keep (Unit {0}) 0 (draw_left drawing) (draw_left new) draws_before draws_on turned
+    pub draws-more : Turned {T = Unit {0}} More view next None (draw_left drawing) (draw_left new) → IsPrepareTurn More before on view next
+    draws-more turned = part-more before on view next step draws_made draws_keep (Unit {0}) 0 (draw_left drawing) (draw_left new) draws_before draws_on None None (ap (takes_at before) stage) (ap (takes_at on) stage) turned tt
 
-    pub draws-again : (lock word : ℕ) → Turned {T = Unit {0}} (Again lock word) view next Write (draw_left drawing) (draw_left new) → IsPrepareTurn (Again lock word) before on view next
-    draws-again lock word turned = part-again before on view next step draws_made draws_keep (Unit {0}) 0 (draw_left drawing) (draw_left new) draws_before draws_on lock word turned
+    pub draws-again : (lock word : ℕ) → Turned {T = Unit {0}} (Again lock word) view next None (draw_left drawing) (draw_left new) → IsPrepareTurn (Again lock word) before on view next
+    draws-again lock word turned = part-again before on view next step draws_made draws_keep (Unit {0}) 0 (draw_left drawing) (draw_left new) draws_before draws_on None None (ap (takes_at before) stage) (ap (takes_at on) stage) lock word turned tt
 
   -- ---- the tree is drawn
 
@@ -283,6 +283,7 @@ module _ (before : PrepareOp) (drawing new : TreeDrawing) (view next : View) (st
       step = step;
       made = subst (λ (s : PrepareStage). MadeBy view next (entry_at after s)) (sym at) made;
       turned = tt;
+      loads = tt;
       keeps = λ first start preparing. tt;
       answered = λ first start preparing. answers first start preparing;
     }

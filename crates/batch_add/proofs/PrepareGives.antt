@@ -1,5 +1,5 @@
 -- Giving a batch up, as the last part of a preparation that is refused.
-use Rattle.std.specs.Prelude.{take, slice_index_or, Err}
+use Rattle.std.specs.Prelude.{take, slice_index_or, Err, option_and_then}
 use Rattle.std.proofs.Common.{◌≡◌, ℕ, ◌+◌, ◌<◌, List, [], ◌∷◌, ◌++◌, length, map, Option, Some, refl, ap, sym, ◌∙◌, subst, arith}
 use Rattle.std.proofs.lemmas.List.{append-nil}
 use Rattle.body_ident.specs.Id.{Id}
@@ -18,7 +18,7 @@ use Rattle.core_state.specs.Batches.{new_batch, written_outside}
 use Rattle.tree_plan.proofs.Slots.{need_some}
 use Rattle.pass_table.specs.declared.turn.Turn.TheVariants.{Done, More, Again}
 use Rattle.pass_table.specs.Calls.{AtPoint}
-use Rattle.pass_table.specs.Turning.{AtMostOneStep, MadeBy, Turned, IsUnderWay}
+use Rattle.pass_table.specs.Turning.{AtMostOneStep, MadeBy, Turned, IsUnderWay, LoadsNow}
 use Rattle.pass_table.proofs.Calling.{point-later}
 use Rattle.core_state.specs.declared.view.Mode.TheVariants.{Write}
 use Rattle.batch_add.specs.declared.answers.PrepareRefused.{PrepareRefused}
@@ -32,9 +32,9 @@ use Rattle.batch_add.specs.declared.prepare_op.PrepareOp.{PrepareOp}
 use Rattle.batch_add.specs.declared.giving_up.GivingUp.{GivingUp}
 use Rattle.pass_table.specs.Work.{Outcome, HasDone, followed, idle}
 use Rattle.batch_add.specs.Parts.{stored_as, StoresFrom, reserved_outcome, nodes_outcome, marks_outcome, marked_as, IsMarkRefusedAt, given_stores, given_outcome, HasGivenUp}
-use Rattle.batch_add.specs.GivingUp.{IsGivingUp, HasGiven, give_left}
+use Rattle.batch_add.specs.GivingUp.{IsGivingUp, HasGiven, give_left, give_takes}
 use Rattle.batch_add.specs.GivingLater.{from-later}
-use Rattle.batch_add.specs.Preparing.{ids_of, need_of, HadFewNodes, HadBadId, WasRefused, IsInPart, IsInSome, CameToGive, HasSlotAndNodes, HasFailed, AtPrepare, IsPreparing, with_slot_nodes, with_marks, refusal_of, refusal_of_mark, part_left, stage_left, prepare_left, entry_at, entry_of, IsPrepareTurn}
+use Rattle.batch_add.specs.Preparing.{ids_of, need_of, HadFewNodes, HadBadId, WasRefused, IsInPart, IsInSome, CameToGive, HasSlotAndNodes, HasFailed, AtPrepare, IsPreparing, with_slot_nodes, with_marks, refusal_of, refusal_of_mark, part_left, stage_left, prepare_left, entry_at, entry_of, IsPrepareTurn, prepare_takes, takes_at}
 use Rattle.pass_table.proofs.Working.{done-then, done-prefix, point-from}
 use Rattle.batch_add.proofs.Parting.{from-from}
 use Rattle.batch_add.proofs.PartTurns.{part-more, part-again}
@@ -248,15 +248,21 @@ module _ (operation : PrepareOp) (undone : Undone) (giving : GivingUp) (stage : 
     left_before : prepare_left operation ≡ 0 + give_left giving
     left_before = let same : prepare_left operation ≡ give_left giving = ap (stage_left operation) stage ∙ ap (part_left give_left) there in omega arith
 
+    takes_before : prepare_takes operation ≡ give_takes giving
+    takes_before = ap (takes_at operation) stage ∙ ap (option_and_then give_takes) there
+
+    takes_on : prepare_takes given_on ≡ give_takes new
+    takes_on = ap (takes_at given_on) stage
+
     left_on : prepare_left given_on ≡ 0 + give_left new
     left_on = let same : prepare_left given_on ≡ give_left new = ap (stage_left given_on) stage in omega arith
 
     module _ (keeps : (first : GivingUp) (start : View) → IsGivingUp first start giving view → IsGivingUp first start new next) where
-      pub giving-more : Turned {T = Unit {0}} More view next Write (give_left giving) (give_left new) → IsPrepareTurn More operation given_on view next
-      giving-more turned = part-more operation given_on view next step made_on (keeps_on keeps) (Unit {0}) 0 (give_left giving) (give_left new) left_before left_on turned
+      pub giving-more : Turned {T = Unit {0}} More view next (give_takes giving) (give_left giving) (give_left new) → LoadsNow view next (give_takes new) → IsPrepareTurn More operation given_on view next
+      giving-more turned loads = part-more operation given_on view next step made_on (keeps_on keeps) (Unit {0}) 0 (give_left giving) (give_left new) left_before left_on (give_takes giving) (give_takes new) takes_before takes_on turned loads
 
-      pub giving-again : (lock found : ℕ) → Turned {T = Unit {0}} (Again lock found) view next Write (give_left giving) (give_left new) → IsPrepareTurn (Again lock found) operation given_on view next
-      giving-again lock found turned = part-again operation given_on view next step made_on (keeps_on keeps) (Unit {0}) 0 (give_left giving) (give_left new) left_before left_on lock found turned
+      pub giving-again : (lock found : ℕ) → Turned {T = Unit {0}} (Again lock found) view next (give_takes giving) (give_left giving) (give_left new) → LoadsNow view next (give_takes new) → IsPrepareTurn (Again lock found) operation given_on view next
+      giving-again lock found turned loads = part-again operation given_on view next step made_on (keeps_on keeps) (Unit {0}) 0 (give_left giving) (give_left new) left_before left_on (give_takes giving) (give_takes new) takes_before takes_on lock found turned loads
 
     -- the last turn
     module _ (answers : (first : GivingUp) (start : View) → IsGivingUp first start giving view → HasGiven first start new next tt) (refusal : PrepareRefused) (is : refusal ≡ refusal_of operation.taking.count undone) where
@@ -271,4 +277,4 @@ module _ (operation : PrepareOp) (undone : Undone) (giving : GivingUp) (stage : 
           (refused-so operation start part.mid next part.so.batch given undone part.so.failed)))
 
       pub giving-done : IsPrepareTurn (Done (Err refusal)) operation given_on view next
-      giving-done = record { step = step; made = made_on; turned = tt; keeps = λ first start preparing. tt; answered = refused_as }
+      giving-done = record { step = step; made = made_on; turned = tt; loads = tt; keeps = λ first start preparing. tt; answered = refused_as }

@@ -18,7 +18,7 @@ use Rattle.tree_plan.proofs.Slots.{need_some}
 use Rattle.pass_table.specs.declared.turn.Turn.TheVariants.{More, Again}
 use Rattle.pass_table.specs.TakeTurns.{turns_after}
 use Rattle.pass_table.specs.Holding.{IsAtRest}
-use Rattle.pass_table.specs.Turning.{AtMostOneStep, MadeBy, Turned, IsUnderWay}
+use Rattle.pass_table.specs.Turning.{AtMostOneStep, MadeBy, Turned, IsUnderWay, LoadsNow}
 use Rattle.batch_add.specs.declared.mark_op.MarkRefused.{MarkRefused}
 use Rattle.batch_add.specs.declared.mark_op.Marking.{Marking}
 use Rattle.batch_add.specs.declared.draw_stage.DrawStage.{DrawStage}
@@ -34,13 +34,13 @@ use Rattle.batch_add.specs.declared.prepare_op.PrepareStage.{PrepareStage}
 use Rattle.batch_add.specs.declared.prepare_op.PrepareStage.TheVariants.{Marking as MarkingStage}
 use Rattle.batch_add.specs.declared.prepare_op.PrepareOp.{PrepareOp}
 use Rattle.batch_add.specs.Parts.{HasReserved, HasNodes, HasMarked, HasMarkedBefore, marked_as}
-use Rattle.batch_add.specs.Marking.{IsMarking, HasMadeMarks, mark_left, marked_bodies}
+use Rattle.batch_add.specs.Marking.{IsMarking, HasMadeMarks, mark_left, marked_bodies, mark_takes}
 use Rattle.batch_add.specs.DrawStages.{IsToDraw, IsOfPlan, IsDrawing, draw_left, stage_left as draw_stage_left}
 use Rattle.batch_add.specs.Keeping.{IsBegunFor}
 use Rattle.batch_add.specs.GivingUp.{IsGivingUp, give_left, stage_left as give_stage_left, left_at}
-use Rattle.batch_add.specs.Preparing.{CanPlan, ids_of, count_of, need_of, HasSlotAndNodes, with_slot_nodes, with_marks, IsWanted, IsInPart, IsInSome, CameToMarks, CameToDraw, CameToGive, AtPrepare, IsPreparing, BeginsTree, BeginsUndoing, kept_of, left_after, part_left, stage_left, prepare_left, entry_at, entry_of, IsPrepareTurn}
+use Rattle.batch_add.specs.Preparing.{CanPlan, ids_of, count_of, need_of, HasSlotAndNodes, with_slot_nodes, with_marks, IsWanted, IsInPart, IsInSome, CameToMarks, CameToDraw, CameToGive, AtPrepare, IsPreparing, BeginsTree, BeginsUndoing, kept_of, left_after, part_left, stage_left, prepare_left, entry_at, entry_of, IsPrepareTurn, takes_at}
 use Rattle.batch_add.proofs.TakingNodes.{taken-newest}
-use Rattle.batch_add.proofs.PartTurns.{goes-on, part-more, part-again}
+use Rattle.batch_add.proofs.PartTurns.{goes-on, part-more, part-again, undoing-loads}
 
 -- ---- operations for the same bodies
 
@@ -137,12 +137,12 @@ module _ (before : PrepareOp) (marking : Marking) (view next : View) (stage : be
       made_on : MadeBy view next (entry_of on)
       made_on = subst (λ (s : PrepareStage). MadeBy view next (entry_at on s)) (sym stage) made
 
-      pub marks-more : Turned {T = Result (Unit {0}) MarkRefused} More view next Write (mark_left before.marking) (mark_left marking) → IsPrepareTurn More before on view next
-      marks-more turned = part-more before on view next step made_on marks_keep (Result (Unit {0}) MarkRefused) more (mark_left before.marking) (mark_left marking) left_before left_on turned
+      pub marks-more : Turned {T = Result (Unit {0}) MarkRefused} More view next (mark_takes before.marking) (mark_left before.marking) (mark_left marking) → LoadsNow view next (mark_takes marking) → IsPrepareTurn More before on view next
+      marks-more turned loads = part-more before on view next step made_on marks_keep (Result (Unit {0}) MarkRefused) more (mark_left before.marking) (mark_left marking) left_before left_on (mark_takes before.marking) (mark_takes marking) (ap (takes_at before) stage) (ap (takes_at on) stage) turned loads
 
-      pub marks-again : (lock word : ℕ) → Turned {T = Result (Unit {0}) MarkRefused} (Again lock word) view next Write (mark_left before.marking) (mark_left marking) → IsPrepareTurn (Again lock word) before on view next
-      marks-again lock word turned =
-          part-again before on view next step made_on marks_keep (Result (Unit {0}) MarkRefused) more (mark_left before.marking) (mark_left marking) left_before left_on lock word turned
+      pub marks-again : (lock word : ℕ) → Turned {T = Result (Unit {0}) MarkRefused} (Again lock word) view next (mark_takes before.marking) (mark_left before.marking) (mark_left marking) → LoadsNow view next (mark_takes marking) → IsPrepareTurn (Again lock word) before on view next
+      marks-again lock word turned loads =
+          part-again before on view next step made_on marks_keep (Result (Unit {0}) MarkRefused) more (mark_left before.marking) (mark_left marking) left_before left_on (mark_takes before.marking) (mark_takes marking) (ap (takes_at before) stage) (ap (takes_at on) stage) lock word turned loads
 
 -- ---- lists
 
@@ -287,7 +287,7 @@ module _ (before : PrepareOp) (marking : Marking) (after : PrepareOp) (view next
       goes-on before after view next step
       (subst (λ (s : PrepareStage). MadeBy view next (entry_at after s)) (sym begins.stage)
       (subst (MadeBy view next) (tree_all under.first under.start under.goes).made made))
-      tree_begun (tree_less under.first under.start under.goes)
+      tree_begun (tree_less under.first under.start under.goes) (subst (LoadsNow view next) (sym (ap (takes_at after) begins.stage)) tt)
 
 -- ---- one is refused
 
@@ -450,4 +450,4 @@ module _ (before : PrepareOp) (marking : Marking) (view next : View) (refused : 
         goes-on before after view next step
         (subst (λ (s : PrepareStage). MadeBy view next (entry_at after s)) (sym begins.stage)
         (subst (MadeBy view next) ((so_far under.first under.start under.goes).made ∙ sym (ap (option_and_then (λ (g : GivingUp). g.made)) begins.is ∙ begins.made)) made))
-        undo_begun (undo_less under.first under.start under.goes)
+        undo_begun (undo_less under.first under.start under.goes) (undoing-loads view next after _ undone begins)

@@ -1,4 +1,6 @@
 -- Looking for a slot, as the first part of a preparation.
+use Rattle.pass_table.proofs.TakingTurns.{loads-none}
+use Rattle.pass_table.specs.TakeTurns.{LoadedNone}
 use Rattle.std.proofs.Common.{◌≡◌, ℕ, ◌+◌, ◌*◌, ◌<◌, List, length, Option, Some, None, Result, Err, refl, ap, sym, ◌∙◌, subst, arith}
 use Rattle.core_state.specs.declared.view.Mode.TheVariants.{Write}
 use Rattle.core_state.specs.declared.view.View.{View}
@@ -15,8 +17,8 @@ use Rattle.batch_add.specs.declared.prepare_op.PrepareStage.TheVariants.{Searchi
 use Rattle.batch_add.specs.declared.prepare_op.PrepareOp.{PrepareOp}
 use Rattle.batch_add.specs.Parts.{HasReserved, FoundNoSlot}
 use Rattle.batch_add.specs.Searching.{IsSearching, HasSearched, search_left}
-use Rattle.batch_add.specs.TakingNodes.{IsTakingNodes, nodes_left}
-use Rattle.batch_add.specs.Preparing.{ids_of, count_of, need_of, AtPrepare, IsPreparing, left_after, stage_left, prepare_left, entry_at, entry_of, label_of, stage_label, IsPrepareTurn}
+use Rattle.batch_add.specs.TakingNodes.{IsTakingNodes, nodes_left, nodes_takes}
+use Rattle.batch_add.specs.Preparing.{ids_of, count_of, need_of, AtPrepare, IsPreparing, left_after, stage_left, prepare_left, entry_at, entry_of, label_of, stage_label, IsPrepareTurn, takes_at}
 use Rattle.batch_add.proofs.PartTurns.{goes-on, part-more, part-again}
 use Rattle.batch_add.proofs.PartsLeft.{search-some, nodes-most, nodes-after, some-ids}
 
@@ -90,13 +92,13 @@ module _ (op : PrepareOp) (view : View) (at : op.stage ≡ Searching) where
 
     -- it goes on
     module _ (step : AtMostOneStep view next) (made : MadeBy view next None) (keeps : Keeps) where
-      pub search-more : Turned {T = Option ℕ} More view next Write (search_left op.search) (search_left search) → IsPrepareTurn More op searched view next
+      pub search-more : Turned {T = Option ℕ} More view next None (search_left op.search) (search_left search) → IsPrepareTurn More op searched view next
       search-more turned =
-          part-more op searched view next step (search-made made) (search_keeps keeps) (Option ℕ) (3 * need_of op + 6 + rest) (search_left op.search) (search_left search) left_same left_then turned
+          part-more op searched view next step (search-made made) (search_keeps keeps) (Option ℕ) (3 * need_of op + 6 + rest) (search_left op.search) (search_left search) left_same left_then None None (ap (takes_at op) at) (ap (takes_at searched) at) turned tt
 
-      pub search-again : (lock word : ℕ) → Turned {T = Option ℕ} (Again lock word) view next Write (search_left op.search) (search_left search) → IsPrepareTurn (Again lock word) op searched view next
+      pub search-again : (lock word : ℕ) → Turned {T = Option ℕ} (Again lock word) view next None (search_left op.search) (search_left search) → IsPrepareTurn (Again lock word) op searched view next
       search-again lock word turned =
-          part-again op searched view next step (search-made made) (search_keeps keeps) (Option ℕ) (3 * need_of op + 6 + rest) (search_left op.search) (search_left search) left_same left_then lock word turned
+          part-again op searched view next step (search-made made) (search_keeps keeps) (Option ℕ) (3 * need_of op + 6 + rest) (search_left op.search) (search_left search) left_same left_then None None (ap (takes_at op) at) (ap (takes_at searched) at) lock word turned tt
 
     -- what it answers
     abbrev Ends : Option ℕ → Type 0
@@ -111,7 +113,7 @@ module _ (op : PrepareOp) (view : View) (at : op.stage ≡ Searching) where
         subst (λ (v : View). HasReserved op.layer v next slot) p.so.here (subst (λ (l : ℕ). HasReserved l p.mid next slot) p.so.layer (ends p.first p.mid p.goes))
 
     -- a slot is reserved, and nodes are taken next
-    module _ (step : AtMostOneStep view next) (made : MadeBy view next None) (slot : ℕ) (ends : Ends (Some slot)) (taking : NodeTaking) (count : taking.count ≡ op.taking.count) (goes : IsTakingNodes taking next taking next) where
+    module _ (step : AtMostOneStep view next) (made : MadeBy view next None) (slot : ℕ) (ends : Ends (Some slot)) (taking : NodeTaking) (count : taking.count ≡ op.taking.count) (goes : IsTakingNodes taking next taking next) (unloaded : LoadedNone (nodes_takes taking)) where
       abbrev pub taking_next : PrepareOp
       taking_next = record op { search = search; slot = slot; stage = TakingNodes; taking = taking }
 
@@ -136,7 +138,7 @@ module _ (op : PrepareOp) (view : View) (at : op.stage ≡ Searching) where
           (nodes-after (nodes_left taking) (search_left op.search) taking.count (need_of op) rest (nodes-most taking) (count ∙ search-nodes h) (search-some op.search))
 
       pub search-ends : IsUnderWay IsPreparing op view → IsPrepareTurn More op taking_next view next
-      search-ends h = goes-on op taking_next view next step made nodes_keep (nodes_less h)
+      search-ends h = goes-on op taking_next view next step made nodes_keep (nodes_less h) (loads-none view next (nodes_takes taking) unloaded)
 
       pub search-labelled : Labelled {T = Result Prepared PrepareRefused} More (label_of op) (label_of taking_next)
       search-labelled label reached = absurd (subst (λ (s : PrepareStage). HasReached (stage_label s) label) at reached)
@@ -148,6 +150,7 @@ module _ (op : PrepareOp) (view : View) (at : op.stage ≡ Searching) where
         step = step;
         made = subst (MadeBy view next) (sym (ap (entry_at (record op { search = last })) at)) made;
         turned = tt;
+        loads = tt;
         keeps = λ first start h. tt;
         answered = λ first start h.
             let a = search-at first start h in

@@ -182,6 +182,7 @@ module _ (before after : SlotSearch) (found : ℕ) (view next : View) (noted : H
         step = step;
         made = made;
         turned = tt;
+        loads = tt;
         keeps = λ first start searching. tt;
         answered = λ first start searching. noted-last first start searching (eqb-true (suc before.slot) (length before.words.items) e);
       }
@@ -191,6 +192,7 @@ module _ (before after : SlotSearch) (found : ℕ) (view next : View) (noted : H
             step = step;
             made = made;
             turned = inl (noted-less inside short);
+            loads = tt;
             keeps = λ first start searching. noted-on first start searching short;
             answered = λ first start searching. tt;
           }
@@ -217,6 +219,7 @@ empty-turn before view next unread more step made = record {
   step = step;
   made = made;
   turned = inl (let two : slot_turns before.is_empty ≡ 2 = ap slot_turns unread in omega arith);
+  loads = tt;
   keeps = λ first start searching. let on = searching-later first start before view next more searching in record {
     layer = on.layer;
     in_layers = on.in_layers;
@@ -343,6 +346,7 @@ reserved-turn before view next number own pass is stepped =
       step = reserve-step view next before.layer before.slot own 0 stepped;
       made = reserved_made view next before.layer before.slot number pass exact;
       turned = tt;
+      loads = tt;
       keeps = λ first start searching. tt;
       answered = λ first start searching.
           subst (λ (l : ℕ). HasReserved l start next before.slot) searching.layer (has-reserved view next before.layer before.slot number pass exact start searching.worked searching.rest searching.below);

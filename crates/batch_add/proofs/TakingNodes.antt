@@ -30,7 +30,7 @@ use Rattle.pass_table.specs.declared.turn.Turn.{Turn}
 use Rattle.pass_table.specs.declared.turn.Turn.TheVariants.{Done, More, Again}
 use Rattle.pass_table.specs.Stepping.{Stepped}
 use Rattle.pass_table.specs.TakeTurns.{taking_of, IsTaking, HasTaken, turns_left}
-use Rattle.pass_table.specs.Turning.{AtMostOneStep, MadeBy, Turned, GoesOn, Answers, IsUnderWay}
+use Rattle.pass_table.specs.Turning.{AtMostOneStep, MadeBy, Turned, LoadsNow, GoesOn, Answers, IsUnderWay}
 use Rattle.pass_table.specs.Holding.{MayLetGo, LetGo, IsAtRest}
 use Rattle.pass_table.specs.Calls.{StoresWord}
 use Rattle.pass_table.proofs.Knowing.{known-more, step-alone}
@@ -44,7 +44,7 @@ use Rattle.batch_add.specs.declared.node_taking.NodeTaking.{NodeTaking}
 use Rattle.pass_table.specs.Work.{Work, begun, with_lock, HasWorked, HasDone, outcome_of}
 use Rattle.pass_table.proofs.WorkLater.{worked-sizes, worked-pass, worked-batches, worked-loose, worked-written, worked-more}
 use Rattle.batch_add.specs.Parts.{with_nodes, StoresFrom, IsNewest, HasNodes, FoundFewNodes}
-use Rattle.batch_add.specs.TakingNodes.{with_more, pooling, pool_step, locked_work, taking_work, counted_work, HasTakenSome, IsFirstNode, AtEnd, AtNodes, IsTakingNodes, IsNodesAnswer, HasTakenNodes, stage_left, nodes_left, IsNodesTurn, HasNotedNode, pool-locked, pool-steady, from-later, some-later, first-later}
+use Rattle.batch_add.specs.TakingNodes.{with_more, pooling, pool_step, locked_work, taking_work, counted_work, HasTakenSome, IsFirstNode, AtEnd, AtNodes, IsTakingNodes, IsNodesAnswer, HasTakenNodes, stage_left, nodes_left, IsNodesTurn, HasNotedNode, pool-locked, pool-steady, from-later, some-later, first-later, nodes_takes, takes_at}
 use Rattle.pass_table.proofs.Working.{worked-begun, worked-waited, worked-taken, worked-released, worked-told, worked-untold, worked-done}
 use Rattle.batch_add.proofs.TakenNodes.{some-newest, newest-some, with-none, with-one, with-some, with-newest, taken-distinct, taken-others, taken-below}
 
@@ -52,12 +52,13 @@ use Rattle.batch_add.proofs.TakenNodes.{some-newest, newest-some, with-none, wit
 
 -- a turn after which there is more to do
 pub nodes-on : (before after : NodeTaking) (stage : NodeStage) (view next : View) → before.stage ≡ stage → after.count ≡ before.count → length after.nodes.items ≡ length before.nodes.items
-    → AtMostOneStep view next → MadeBy view next None → nodes_left after < stage_left before.count before.taken stage
+    → AtMostOneStep view next → MadeBy view next None → nodes_left after < stage_left before.count before.taken stage → LoadsNow view next (nodes_takes after)
     → ((first : NodeTaking) (start : View) → IsTakingNodes first start before view → AtNodes start before view stage → AtNodes start after next after.stage) → IsNodesTurn More before after view next
-nodes-on before after stage view next at count long step made less keeps = record {
+nodes-on before after stage view next at count long step made less loads keeps = record {
   step = step;
   made = made;
   turned = inl (subst (λ (s : NodeStage). nodes_left after < stage_left before.count before.taken s) (sym at) less);
+  loads = loads;
   keeps = λ first start taking. record {
     count = count ∙ taking.count;
     long = long ∙ (taking.long ∙ sym count);
@@ -68,6 +69,14 @@ nodes-on before after stage view next at count long step made less keeps = recor
   };
   answered = λ first start taking. tt;
 }
+
+-- after a node more no lock is taken
+pub noted-loads : (before : NodeTaking) (node : ℕ) (after : NodeTaking) (view next : View) → HasNotedNode before node after → LoadsNow view next (nodes_takes after)
+noted-loads before node after view next noted = subst (λ (s : NodeStage). LoadsNow view next (takes_at s)) (sym noted.stage) (go (eqb (suc before.taken) before.count))
+  where
+    go : (t : Bool) → LoadsNow view next (takes_at (cond t Taken Next))
+    go true = tt
+    go false = tt
 
 -- ---- what the pass may do under the lock
 
@@ -138,18 +147,20 @@ lock-on start operation view next taking after goes by at =
     (worked-waited start view next (begun start) at.0 (pool_lock start.config) goes.waited by goes.alone, taking-anew _ view after next goes, at.2)
 
 -- a turn that is to be made again, or after which there is more to do
-module _ (before : NodeTaking) (taking after : TakeOp) (view next : View) (at : before.stage ≡ Locking taking) (step : AtMostOneStep view next) (made : MadeBy view next None)
+module _ (before : NodeTaking) (taking after : TakeOp) (view next : View) (at : before.stage ≡ Locking taking) (step : AtMostOneStep view next) (made : MadeBy view next None) (loads : LoadsNow view next (Some after))
     (keeps : (start : View) → AtNodes start before view (Locking taking) → AtNodes start before next (Locking after)) where
   abbrev Waiting : NodeTaking
   Waiting = record before { stage = Locking after }
 
-  lock_turn : (turn : Turn (Result (Unit {0}) ℕ)) → Turned turn view next Write (3 * before.count + 3 + turns_left taking) (3 * before.count + 3 + turns_left after)
+  lock_turn : (turn : Turn (Result (Unit {0}) ℕ)) → Turned turn view next (Some taking) (3 * before.count + 3 + turns_left taking) (3 * before.count + 3 + turns_left after)
+      → (LoadsNow view next (Some after) → GoesOn turn (LoadsNow view next (Some after)))
       → ((first : NodeTaking) (start : View) → IsTakingNodes first start Waiting next → GoesOn turn (IsTakingNodes first start Waiting next))
       → ((first : NodeTaking) (start : View) → Answers turn (HasTakenNodes first start Waiting next)) → IsNodesTurn turn before Waiting view next
-  lock_turn turn turned goes answers = record {
+  lock_turn turn turned new_load goes answers = record {
     step = step;
     made = made;
-    turned = subst (λ (s : NodeStage). Turned turn view next Write (stage_left before.count before.taken s) (3 * before.count + 3 + turns_left after)) (sym at) turned;
+    turned = subst (λ (s : NodeStage). Turned turn view next (takes_at s) (stage_left before.count before.taken s) (3 * before.count + 3 + turns_left after)) (sym at) turned;
+    loads = new_load loads;
     keeps = λ first start under_way. goes first start (record {
       count = under_way.count;
       long = under_way.long;
@@ -161,13 +172,13 @@ module _ (before : NodeTaking) (taking after : TakeOp) (view next : View) (at : 
     answered = λ first start under_way. answers first start;
   }
 
-  pub lock-more : (mode : Mode) → mode ≡ Write → Turned {T = Unit {0}} More view next mode (turns_left taking) (turns_left after) → IsNodesTurn More before Waiting view next
-  lock-more mode same turned =
-      lock_turn More (turned-more (Unit {0}) (Result (Unit {0}) ℕ) (3 * before.count + 3) view next mode (turns_left taking) (turns_left after) same turned) (λ first start under_way. under_way) (λ first start. tt)
+  pub lock-more : Turned {T = Unit {0}} More view next (Some taking) (turns_left taking) (turns_left after) → IsNodesTurn More before Waiting view next
+  lock-more turned =
+      lock_turn More (turned-more (Unit {0}) (Result (Unit {0}) ℕ) (3 * before.count + 3) view next (Some taking) (turns_left taking) (turns_left after) turned) (λ l. l) (λ first start under_way. under_way) (λ first start. tt)
 
-  pub lock-again : (lock found : ℕ) (mode : Mode) → mode ≡ Write → Turned {T = Unit {0}} (Again lock found) view next mode (turns_left taking) (turns_left after) → IsNodesTurn (Again lock found) before Waiting view next
-  lock-again lock found mode same turned =
-      lock_turn (Again lock found) (turned-again (Unit {0}) (Result (Unit {0}) ℕ) (3 * before.count + 3) view next mode (turns_left taking) (turns_left after) lock found same turned) (λ first start under_way. under_way)
+  pub lock-again : (lock found : ℕ) → Turned {T = Unit {0}} (Again lock found) view next (Some taking) (turns_left taking) (turns_left after) → IsNodesTurn (Again lock found) before Waiting view next
+  lock-again lock found turned =
+      lock_turn (Again lock found) (turned-again (Unit {0}) (Result (Unit {0}) ℕ) (3 * before.count + 3) view next (Some taking) (turns_left taking) (turns_left after) lock found turned) (λ l. l) (λ first start under_way. under_way)
       (λ first start. tt)
 
 -- ---- loads
@@ -493,6 +504,7 @@ leave-turn before answer view next number lock found pass at same go = record {
   step = released-step view next lock found go;
   made = released-made view next lock found go number pass;
   turned = tt;
+  loads = tt;
   keeps = λ first start under_way. tt;
   answered = λ first start under_way.
       let there = subst (AtNodes start before view) at under_way.stage in

@@ -196,4 +196,4 @@ abbrev pub draw_left : TreeDrawing → ℕ
 draw_left operation = stage_left (node_count operation.planner) operation.stage
 
 abbrev pub IsDrawTurn : Turn (Unit {0}) → TreeDrawing → TreeDrawing → View → View → Type 0
-IsDrawTurn turn before after view next = IsTurn IsDrawing (λ first start end answer. HasDrawnAll first start after end) draw_left (λ operation. None) Write turn before after view next
+IsDrawTurn turn before after view next = IsTurn IsDrawing (λ first start end answer. HasDrawnAll first start after end) draw_left (λ operation. None) (λ operation. None) turn before after view next

@@ -1,5 +1,5 @@
 -- How a batch is given up, turn by turn.
-use Rattle.std.specs.Prelude.{◌≡◌, ℕ, zero, suc, ◌+◌, ◌-◌, ◌*◌, ◌<◌, ◌≤◌, List, [], ◌∷◌, ◌++◌, length, map, false, None}
+use Rattle.std.specs.Prelude.{◌≡◌, ℕ, zero, suc, ◌+◌, ◌-◌, ◌*◌, ◌<◌, ◌≤◌, List, [], ◌∷◌, ◌++◌, length, map, false, None, Option, Some}
 use Rattle.scene_model.specs.declared.entry.Entry.{Entry}
 use Rattle.scene_model.specs.declared.entry.Entry.TheVariants.{Unmark}
 use Rattle.word_map.specs.declared.name.Name.TheVariants.{Slot, PoolHead, PoolNext, PoolFree}
@@ -14,6 +14,7 @@ use Rattle.core_state.specs.declared.view.Batch.{Batch}
 use Rattle.core_state.specs.declared.view.View.{View}
 use Rattle.core_state.specs.View.{known_word, mode_of}
 use Rattle.core_state.specs.Batches.{written_outside}
+use Rattle.pass_table.specs.declared.take_op.TakeOp.{TakeOp}
 use Rattle.pass_table.specs.declared.turn.Turn.{Turn}
 use Rattle.pass_table.specs.TakeTurns.{taking_of, IsTaking, turns_left}
 use Rattle.pass_table.specs.Calls.{IsTurn}
@@ -168,9 +169,18 @@ left_at kept stage = stage_left kept.marked kept.node_count stage
 abbrev pub give_left : GivingUp → ℕ
 give_left operation = left_at operation.kept operation.stage
 
+-- the lock that it takes
+abbrev pub takes_at : GiveStage → Option TakeOp
+takes_at (Striping done taking) = Some taking
+takes_at (Locking taking) = Some taking
+takes_at _ = None
+
+abbrev pub give_takes : GivingUp → Option TakeOp
+give_takes operation = takes_at operation.stage
+
 abbrev pub IsGiveTurn : Turn (Unit {0}) → GivingUp → GivingUp → View → View → Type 0
 IsGiveTurn turn before after view next =
-    IsTurn IsGivingUp (λ first start last answer. HasGiven first start after last answer) give_left (λ operation. operation.made) Write turn before after view next
+    IsTurn IsGivingUp (λ first start last answer. HasGiven first start after last answer) give_left (λ operation. operation.made) give_takes turn before after view next
 
 -- what comes when so many bodies are unmarked
 abbrev pub ComesNext : KeptBatch → ℕ → View → GiveStage → Type 0

@@ -1,5 +1,5 @@
 -- How marking the bodies of a batch goes, turn by turn, and what it answers.
-use Rattle.std.specs.Prelude.{◌≡◌, ℕ, suc, ◌+◌, ◌-◌, ◌*◌, ◌<◌, ◌≤◌, List, [], ◌∷◌, ◌++◌, All, length, map, take, slice_index, slice_index_or, slice_set, Some, None, Result, Ok, Err}
+use Rattle.std.specs.Prelude.{◌≡◌, ℕ, suc, ◌+◌, ◌-◌, ◌*◌, ◌<◌, ◌≤◌, List, [], ◌∷◌, ◌++◌, All, length, map, take, slice_index, slice_index_or, slice_set, Some, None, Result, Ok, Err, Option}
 use Rattle.fixed_box.specs.FixBox.{words_of}
 use Rattle.fixed_box.specs.declared.fix_box.FixBox.{FixBox}
 use Rattle.body_ident.specs.Id.{Id}
@@ -16,6 +16,7 @@ use Rattle.core_state.specs.View.{known_word, mode_of}
 use Rattle.core_state.specs.Encoding.{phase_out}
 use Rattle.core_state.specs.Bodies.{IsForSlot}
 use Rattle.tree_plan.specs.Arranged.{AreApart}
+use Rattle.pass_table.specs.declared.take_op.TakeOp.{TakeOp}
 use Rattle.pass_table.specs.declared.turn.Turn.{Turn}
 use Rattle.pass_table.specs.TakeTurns.{taking_of, IsTaking, turns_left}
 use Rattle.pass_table.specs.Holding.{IsAtRest}
@@ -188,8 +189,16 @@ bodies_left all marked stage = all - suc marked
 abbrev pub mark_left : Marking → ℕ
 mark_left operation = stage_left operation.stage + turns_each * bodies_left (length operation.ids.items) operation.marked operation.stage
 
+-- the lock that it takes
+abbrev pub takes_at : MarkStage → Option TakeOp
+takes_at (Taking taking) = Some taking
+takes_at _ = None
+
+abbrev pub mark_takes : Marking → Option TakeOp
+mark_takes operation = takes_at operation.stage
+
 abbrev pub IsMarkTurn : Turn (Result (Unit {0}) MarkRefused) → Marking → Marking → View → View → Type 0
-IsMarkTurn turn before after view next = IsTurn IsMarking (λ first start end answer. HasMadeMarks first start after end answer) mark_left (λ operation. operation.made) Write turn before after view next
+IsMarkTurn turn before after view next = IsTurn IsMarking (λ first start end answer. HasMadeMarks first start after end answer) mark_left (λ operation. operation.made) mark_takes turn before after view next
 
 -- a body is noted as marked by the pass with this number
 pub record Notes (before after : Marking) (number index : ℕ) (bounds : FixBox) (stripe : ℕ) : Type 0 where

@@ -1,4 +1,5 @@
 -- How a batch is prepared, turn by turn, and what it answers.
+use Rattle.pass_table.specs.TakeTurns.{LoadedNone}
 use Rattle.std.specs.Prelude.{◌≡◌, ◌≢◌, ℕ, ◌+◌, ◌*◌, ◌<◌, ◌≤◌, List, [], ◌∷◌, ◌++◌, length, map, take, slice_index_or, All, Option, Some, None, Result, Ok, Err, false}
 use Rattle.std.specs.Prelude.{option_and_then}
 use Rattle.std.specs.List.Sorted.{IsPermutation}
@@ -16,6 +17,7 @@ use Rattle.core_state.specs.Log.{word}
 use Rattle.core_state.specs.View.{IsPass}
 use Rattle.core_state.specs.Encoding.{reserved_by}
 use Rattle.core_state.specs.Batches.{new_batch, written_outside}
+use Rattle.pass_table.specs.declared.take_op.TakeOp.{TakeOp}
 use Rattle.pass_table.specs.declared.turn.Turn.{Turn}
 use Rattle.pass_table.specs.Holding.{IsAtRest}
 use Rattle.pass_table.specs.Calls.{AtPoint, IsTurn}
@@ -40,11 +42,11 @@ use Rattle.pass_table.specs.Work.{Outcome, HasWorked, HasDone, begun, idle}
 use Rattle.batch_add.specs.Parts.{stored_as, StoresFrom, HasReserved, FoundNoSlot, with_nodes, HasNodes, FoundFewNodes, marked_as, HasMarked, HasMarkedBefore, IsMarkRefusedAt}
 use Rattle.batch_add.specs.Prepared.{IsGood}
 use Rattle.batch_add.specs.Searching.{IsSearching, search_left}
-use Rattle.batch_add.specs.TakingNodes.{IsTakingNodes, nodes_left}
-use Rattle.batch_add.specs.Marking.{IsMarking, mark_left}
+use Rattle.batch_add.specs.TakingNodes.{IsTakingNodes, nodes_left, nodes_takes}
+use Rattle.batch_add.specs.Marking.{IsMarking, mark_left, mark_takes}
 use Rattle.batch_add.specs.DrawStages.{IsDrawing, draw_left}
 use Rattle.batch_add.specs.Keeping.{IsBegunFor}
-use Rattle.batch_add.specs.GivingUp.{IsGivingUp, give_left}
+use Rattle.batch_add.specs.GivingUp.{IsGivingUp, give_left, give_takes}
 
 -- ---- answers
 
@@ -274,6 +276,7 @@ pub record BeginsNodes (before : PrepareOp) (slot : ℕ) (after : PrepareOp) (vi
   pub is : after ≡ record before { slot = slot; stage = TakingNodes; taking = taking }
   pub count : taking.count ≡ before.taking.count
   pub goes : IsTakingNodes taking view taking view
+  pub unloaded : LoadedNone (nodes_takes taking)
 
 -- marking is begun
 pub record BeginsMarks (before after : PrepareOp) (view : View) : Type 0 where
@@ -285,6 +288,7 @@ pub record BeginsMarks (before after : PrepareOp) (view : View) : Type 0 where
   pub made : marking.made ≡ None
   pub left : mark_left marking ≤ 13 * count_of before
   pub goes : IsMarking marking view marking view
+  pub unloaded : LoadedNone (mark_takes marking)
 
 -- the tree is begun, over the bodies that were marked, in any order
 pub record BeginsTree (before after : PrepareOp) (view : View) : Type 0 where
@@ -331,6 +335,7 @@ pub record BeginsUndoing (before : PrepareOp) (undone : Undone) (after : Prepare
   pub kept : giving.kept ≡ kept_of before undone
   pub made : giving.made ≡ None
   pub goes : IsGivingUp giving view giving view
+  pub unloaded : LoadedNone (give_takes giving)
 
 -- the refusal once all is undone
 abbrev pub refusal_of_mark : ℕ → MarkRefused → PrepareRefused
@@ -381,5 +386,15 @@ entry_at operation _ = None
 abbrev pub entry_of : PrepareOp → Option Made
 entry_of operation = entry_at operation operation.stage
 
+-- the lock that it takes
+abbrev pub takes_at : PrepareOp → PrepareStage → Option TakeOp
+takes_at operation TakingNodes = nodes_takes operation.taking
+takes_at operation MarkingStage = mark_takes operation.marking
+takes_at operation (GivingUpStage undone) = option_and_then give_takes operation.giving
+takes_at operation _ = None
+
+abbrev pub prepare_takes : PrepareOp → Option TakeOp
+prepare_takes operation = takes_at operation operation.stage
+
 abbrev pub IsPrepareTurn : Turn (Result Prepared PrepareRefused) → PrepareOp → PrepareOp → View → View → Type 0
-IsPrepareTurn turn before after view next = IsTurn IsPreparing (λ first start last answer. HasPreparedOr first start last answer) prepare_left entry_of Write turn before after view next
+IsPrepareTurn turn before after view next = IsTurn IsPreparing (λ first start last answer. HasPreparedOr first start last answer) prepare_left entry_of prepare_takes turn before after view next

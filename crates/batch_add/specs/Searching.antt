@@ -54,7 +54,7 @@ abbrev pub search_left : SlotSearch → ℕ
 search_left operation = 2 * (length operation.words.items - suc operation.slot) + slot_turns operation.is_empty
 
 abbrev pub IsSearchTurn : Turn (Option ℕ) → SlotSearch → SlotSearch → View → View → Type 0
-IsSearchTurn turn before after view next = IsTurn IsSearching (λ first start last answer. HasSearched first start after last answer) search_left (λ operation. None) Write turn before after view next
+IsSearchTurn turn before after view next = IsTurn IsSearching (λ first start last answer. HasSearched first start after last answer) search_left (λ operation. None) (λ operation. None) turn before after view next
 
 -- the word of the slot is noted, and the next one is looked at
 pub record HasNoted (before : SlotSearch) (found : ℕ) (after : SlotSearch) : Type 0 where

@@ -20,6 +20,7 @@ use Rattle.core_state.specs.View.{Holds, known_word, mode_of}
 use Rattle.core_state.specs.Guards.{guard_of, by_lock}
 use Rattle.core_state.specs.Quietly.{IsSteady, of_pass}
 use Rattle.core_state.specs.Batches.{change_newest}
+use Rattle.pass_table.specs.declared.take_op.TakeOp.{TakeOp}
 use Rattle.pass_table.specs.declared.turn.Turn.{Turn}
 use Rattle.pass_table.specs.Knowing.{KnowsMore}
 use Rattle.pass_table.specs.TakeTurns.{taking_of, IsTaking, turns_left, taking-later}
@@ -128,8 +129,16 @@ stage_left count taken (Leaving answer) = 1
 abbrev pub nodes_left : NodeTaking → ℕ
 nodes_left operation = stage_left operation.count operation.taken operation.stage
 
+-- the lock that it takes
+abbrev pub takes_at : NodeStage → Option TakeOp
+takes_at (Locking taking) = Some taking
+takes_at _ = None
+
+abbrev pub nodes_takes : NodeTaking → Option TakeOp
+nodes_takes operation = takes_at operation.stage
+
 abbrev pub IsNodesTurn : Turn (Result (Unit {0}) ℕ) → NodeTaking → NodeTaking → View → View → Type 0
-IsNodesTurn turn before after view next = IsTurn IsTakingNodes (λ first start last answer. HasTakenNodes first start after last answer) nodes_left (λ operation. None) Write turn before after view next
+IsNodesTurn turn before after view next = IsTurn IsTakingNodes (λ first start last answer. HasTakenNodes first start after last answer) nodes_left (λ operation. None) nodes_takes turn before after view next
 
 -- a node more is taken, and it is the last one or not
 pub record HasNotedNode (before : NodeTaking) (node : ℕ) (after : NodeTaking) : Type 0 where

@@ -19,8 +19,7 @@ pub struct AbortOp {
 }
 
 impl Operation for AbortOp {
-    ghost use Rattle.core_state.specs.declared.view.Mode.TheVariants.{Write};
-    ghost use Rattle.batch_add.specs.GivingUp.{HasGiven, give_left};
+    ghost use Rattle.batch_add.specs.GivingUp.{HasGiven, give_left, give_takes};
     ghost use Rattle.batch_add.specs.Aborting.{IsAborting};
     ghost use Rattle.batch_add.specs.AbortLater.{aborting-later};
 
@@ -32,7 +31,7 @@ impl Operation for AbortOp {
 
     ghost left = { λ operation. give_left operation.giving };
 
-    ghost takes = { λ operation. Write };
+    ghost takes = { λ operation. give_takes operation.giving };
 
     ghost reached = { λ operation. None };
 

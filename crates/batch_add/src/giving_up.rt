@@ -6,9 +6,10 @@ ghost use Rattle.core_state.specs.View.{HoldsNot};
 ghost use Rattle.pass_table.specs.declared.turn.Turn.TheVariants.{More};
 ghost use Rattle.pass_table.specs.Passes.{view_of, IsOf};
 ghost use Rattle.pass_table.specs.Turning.{IsUnderWay};
+ghost use Rattle.pass_table.specs.TakeTurns.{LoadedNone};
 ghost use Rattle.batch_add.specs.declared.giving_up.GiveStage.TheVariants.{Striping, Striped, Cleared, Unmarked, Bare, Locking, Locked, Next, Headed, Linked, Given, Counted};
 ghost use Rattle.batch_add.specs.Keeping.{IsBegunFor};
-ghost use Rattle.batch_add.specs.GivingUp.{ComesNext, IsGivingUp, IsGiveTurn};
+ghost use Rattle.batch_add.specs.GivingUp.{ComesNext, takes_at, give_takes, IsGivingUp, IsGiveTurn};
 
 use crate::kept_batch::KeptBatch;
 use core_state::Mode;
@@ -56,8 +57,7 @@ pub(crate) struct GivingUp {
 }
 
 impl Operation for GivingUp {
-    ghost use Rattle.core_state.specs.declared.view.Mode.TheVariants.{Write};
-    ghost use Rattle.batch_add.specs.GivingUp.{IsGivingUp, HasGiven, give_left};
+    ghost use Rattle.batch_add.specs.GivingUp.{IsGivingUp, HasGiven, give_left, give_takes};
     ghost use Rattle.batch_add.specs.GivingLater.{giving-later};
 
     type Done = ();
@@ -68,7 +68,7 @@ impl Operation for GivingUp {
 
     ghost left = { give_left };
 
-    ghost takes = { λ operation. Write };
+    ghost takes = { give_takes };
 
     ghost reached = { λ operation. None };
 
@@ -97,6 +97,7 @@ fn stage_after(world: &World, pass: &mut Pass, kept: &KeptBatch, done: u32) -> G
     requires free { (lock : ℕ) → HoldsNot (view_of pass.old) lock }
     ensures pass { pass.new ≡ pass.old }
     ensures stage { ComesNext kept.now done (view_of pass.old) result }
+    ensures unloaded { LoadedNone (takes_at result) }
 {
     if done == kept.marked {
         return GiveStage::Bare;
@@ -115,6 +116,7 @@ impl GivingUp {
         requires begun { (before : List Batch) × (batch : Batch) × (after : List Batch) × IsBegunFor kept (view_of pass.old) before batch after }
         ensures pass { pass.new ≡ pass.old }
         ensures kept { result.kept ≡ kept }
+        ensures unloaded { LoadedNone (give_takes result) }
         ensures made { result.made ≡ None }
         ensures under_way { IsGivingUp result (view_of pass.old) result (view_of pass.new) }
     {

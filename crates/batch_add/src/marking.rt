@@ -6,8 +6,9 @@ ghost use Rattle.pass_table.specs.declared.turn.Turn.TheVariants.{More};
 ghost use Rattle.pass_table.specs.Holding.{IsAtRest};
 ghost use Rattle.pass_table.specs.Passes.{view_of, IsOf};
 ghost use Rattle.pass_table.specs.Turning.{IsUnderWay};
+ghost use Rattle.pass_table.specs.TakeTurns.{LoadedNone};
 ghost use Rattle.batch_add.specs.declared.mark_op.MarkStage.TheVariants.{Taking, Striped, Live, Joining, Placed, Outside, Sides, Boxed, Leaving, Refusing};
-ghost use Rattle.batch_add.specs.Marking.{marks_of, current, IsForNewest, IsMarking, IsMarkTurn, Notes, mark_left};
+ghost use Rattle.batch_add.specs.Marking.{marks_of, current, IsForNewest, IsMarking, IsMarkTurn, Notes, mark_left, mark_takes};
 
 use crate::mark_op::{MarkRefused, MarkStage, Marking};
 use body_ident::BodyId;
@@ -18,8 +19,7 @@ use scene_model::{Entry, Made};
 use word_map::{Name, PhaseWord, SlotWord, StateWord};
 
 impl Operation for Marking {
-    ghost use Rattle.core_state.specs.declared.view.Mode.TheVariants.{Write};
-    ghost use Rattle.batch_add.specs.Marking.{IsMarking, HasMadeMarks, mark_left};
+    ghost use Rattle.batch_add.specs.Marking.{IsMarking, HasMadeMarks, mark_left, mark_takes};
     ghost use Rattle.batch_add.specs.MarkLater.{marking-later};
 
     type Done = Result<(), MarkRefused>;
@@ -30,7 +30,7 @@ impl Operation for Marking {
 
     ghost left = { mark_left };
 
-    ghost takes = { λ operation. Write };
+    ghost takes = { mark_takes };
 
     ghost reached = { λ operation. None };
 
@@ -73,6 +73,7 @@ impl Marking {
         ensures ids { result.ids.items ≡ ids.items }
         ensures made { result.made ≡ None }
         ensures left { mark_left result ≤ 13 * length ids.items }
+        ensures unloaded { LoadedNone (mark_takes result) }
         ensures under_way { IsMarking result (view_of pass.old) result (view_of pass.new) }
     {
         let stripe = world.stripe_of(ids[0].index());

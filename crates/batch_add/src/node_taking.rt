@@ -4,8 +4,9 @@ ghost use Rattle.pass_table.specs.declared.turn.Turn.TheVariants.{More};
 ghost use Rattle.pass_table.specs.Holding.{IsAtRest};
 ghost use Rattle.pass_table.specs.Passes.{view_of, IsOf};
 ghost use Rattle.pass_table.specs.Turning.{IsUnderWay};
+ghost use Rattle.pass_table.specs.TakeTurns.{LoadedNone};
 ghost use Rattle.batch_add.specs.declared.node_taking.NodeStage.TheVariants.{Locking, Locked, Next, First, Linked, Taken, Leaving};
-ghost use Rattle.batch_add.specs.TakingNodes.{IsTakingNodes, HasNotedNode, IsNodesTurn};
+ghost use Rattle.batch_add.specs.TakingNodes.{IsTakingNodes, HasNotedNode, nodes_takes, IsNodesTurn};
 
 use core_state::Mode;
 use free_list::{load_count, load_pool_head, load_pool_link, store_count, take_node_off};
@@ -48,8 +49,7 @@ pub(crate) struct NodeTaking {
 }
 
 impl Operation for NodeTaking {
-    ghost use Rattle.core_state.specs.declared.view.Mode.TheVariants.{Write};
-    ghost use Rattle.batch_add.specs.TakingNodes.{IsTakingNodes, HasTakenNodes, nodes_left, taking_nodes-later};
+    ghost use Rattle.batch_add.specs.TakingNodes.{IsTakingNodes, HasTakenNodes, nodes_left, nodes_takes, taking_nodes-later};
 
     type Done = Result<(), u32>;
 
@@ -59,7 +59,7 @@ impl Operation for NodeTaking {
 
     ghost left = { nodes_left };
 
-    ghost takes = { λ operation. Write };
+    ghost takes = { nodes_takes };
 
     ghost reached = { λ operation. None };
 
@@ -90,6 +90,7 @@ impl NodeTaking {
         requires rest { IsAtRest (view_of pass.old) }
         ensures pass { pass.new ≡ pass.old }
         ensures count { result.count ≡ count }
+        ensures unloaded { LoadedNone (nodes_takes result) }
         ensures under_way { IsTakingNodes result (view_of pass.old) result (view_of pass.new) }
     {
         let lock = world.pool_lock();

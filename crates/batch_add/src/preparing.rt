@@ -23,8 +23,7 @@ use scene_model::Made;
 use std::mem;
 
 impl Operation for PrepareOp {
-    ghost use Rattle.core_state.specs.declared.view.Mode.TheVariants.{Write};
-    ghost use Rattle.batch_add.specs.Preparing.{IsPreparing, HasPreparedOr, prepare_left, label_of, entry_of};
+    ghost use Rattle.batch_add.specs.Preparing.{IsPreparing, HasPreparedOr, prepare_left, prepare_takes, label_of, entry_of};
     ghost use Rattle.batch_add.specs.PrepareLater.{preparing-later};
 
     type Done = Result<Prepared, PrepareRefused>;
@@ -35,7 +34,7 @@ impl Operation for PrepareOp {
 
     ghost left = { prepare_left };
 
-    ghost takes = { λ operation. Write };
+    ghost takes = { prepare_takes };
 
     ghost reached = { label_of };
 

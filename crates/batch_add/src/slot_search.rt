@@ -25,7 +25,6 @@ pub(crate) struct SlotSearch {
 }
 
 impl Operation for SlotSearch {
-    ghost use Rattle.core_state.specs.declared.view.Mode.TheVariants.{Write};
     ghost use Rattle.batch_add.specs.Searching.{IsSearching, HasSearched, search_left, searching-later};
 
     type Done = Option<u32>;
@@ -36,7 +35,7 @@ impl Operation for SlotSearch {
 
     ghost left = { search_left };
 
-    ghost takes = { λ operation. Write };
+    ghost takes = { λ operation. None };
 
     ghost reached = { λ operation. None };
 

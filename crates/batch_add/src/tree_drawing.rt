@@ -37,7 +37,6 @@ pub(crate) struct TreeDrawing {
 }
 
 impl Operation for TreeDrawing {
-    ghost use Rattle.core_state.specs.declared.view.Mode.TheVariants.{Write};
     ghost use Rattle.batch_add.specs.DrawStages.{IsDrawing, HasDrawnAll, draw_left};
     ghost use Rattle.batch_add.specs.DrawLater.{drawing-later};
 
@@ -49,7 +48,7 @@ impl Operation for TreeDrawing {
 
     ghost left = { draw_left };
 
-    ghost takes = { λ operation. Write };
+    ghost takes = { λ operation. None };
 
     ghost reached = { λ operation. None };
 

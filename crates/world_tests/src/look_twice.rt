@@ -1,6 +1,5 @@
 //! An operation of two looks, as a caller may write one.
 ghost use Rattle.std.specs.Prelude.{ℕ, ◌≡◌, ◌-◌, ◌≤◌, None, Some, ◌==◌, if◌then◌else◌};
-ghost use Rattle.core_state.specs.declared.view.Mode.TheVariants.{Read};
 ghost use Rattle.core_state.specs.declared.view.View.{View};
 
 use pass_table::{Label, Operation, Pass, Turn, World};
@@ -24,7 +23,7 @@ impl Operation for LookTwice {
 
     ghost left = { λ operation. 3 - operation.looks };
 
-    ghost takes = { λ operation. Read };
+    ghost takes = { λ operation. None };
 
     ghost reached = { λ operation. if operation.looks == 0 then None else Some operation.looks };
 

@@ -3,10 +3,11 @@ use Rattle.core_state.specs.declared.view.Mode.TheVariants.{Write}
 use Rattle.pass_table.specs.declared.pass.Pass.{Pass}
 use Rattle.pass_table.specs.Holding.{MayLetGo, LetGo}
 use Rattle.pass_table.specs.Passes.{view_of}
+use Rattle.pass_table.proofs.TakingTurns.{loads-none}
 use Rattle.pass_table.proofs.Calling.{released-step, released-made}
 use Rattle.batch_add.specs.declared.giving_up.GiveStage.TheVariants.{Unmarked}
 use Rattle.pass_table.proofs.WorkLater.{worked-sizes}
-use Rattle.batch_add.specs.GivingUp.{ComesNext, IsGiveTurn}
+use Rattle.batch_add.specs.GivingUp.{ComesNext, takes_at, IsGiveTurn}
 use Rattle.batch_add.specs.GivingLater.{free-lock, under-lock}
 use Rattle.batch_add.proofs.GiveTurns.{at-stage, went-on, next-less}
 use Rattle.batch_add.proofs.GiveBodies.{body-room, body-less, stripe-is, body-left, next-body}
@@ -68,6 +69,7 @@ returns-clause-turn c =
     subst (λ (p : Pass). IsGiveTurn c.go_on.result operation c.go_on.new.self view (view_of p)) (sym c.stage_after-stage.ensures.pass)
     (went-on c.go_on.result operation c.go_on.new.self (Unmarked done) stage view mid c.go_on.ensures.more c.go_on.ensures.stage c.requires.stage (released-step view mid c.stripe.result found go)
     (released-made view mid c.stripe.result found go c.args.pass.now.number c.args.pass.now.numbered) (next-less operation.kept done mid stage comes)
+    (loads-none view mid (takes_at stage) c.stage_after-stage.ensures.unloaded)
     (λ start before batch after begun at.
     let same =
     stripe-is start before batch after operation.kept begun view c.args.world.now.map c.requires.of.sizes (worked-sizes start view _ at.1.worked) done c.stripe.result at.0 c.stripe.ensures.value

@@ -1,8 +1,10 @@
-use Rattle.std.proofs.Common.{◌≡◌, ℕ, ◌+◌, ◌<◌, sym, ◌∙◌, ap, subst, arith}
+use Rattle.std.proofs.Common.{◌≡◌, ℕ, ◌+◌, ◌<◌, Some, sym, ◌∙◌, ap, subst, arith}
 use Rattle.word_map.specs.declared.config.Config.{Config}
 use Rattle.word_map.specs.Names.{pool_lock, lock_count}
 use Rattle.core_state.specs.declared.view.Mode.TheVariants.{Write}
 use Rattle.core_state.specs.declared.view.View.{View}
+use Rattle.pass_table.specs.declared.take_op.TakeOp.{TakeOp}
+use Rattle.pass_table.proofs.TakingTurns.{loads-none}
 use Rattle.pass_table.specs.TakeTurns.{taking_of, IsTaking}
 use Rattle.pass_table.specs.Passes.{view_of}
 use Rattle.batch_add.specs.declared.giving_up.GiveStage.TheVariants.{Bare, Locking}
@@ -53,6 +55,7 @@ returns-clause-turn c =
     subst (λ (v : View). IsGiveTurn c.go_on.result operation c.go_on.new.self view v) (sym still)
     (went-on c.go_on.result operation c.go_on.new.self Bare (Locking taking) view mid c.go_on.ensures.more c.go_on.ensures.stage c.requires.stage (slot-step view mid kept.layer kept.slot stored)
     (slot-turn-made view mid kept.layer kept.slot stored c.args.pass.now.number c.args.pass.now.numbered) (omega arith)
+    (loads-none view mid (Some taking) (ap (λ (t : TakeOp). t.loaded) c.new-taking.ensures.begun))
     (λ start before batch after begun at.
     let many = nodes-many kept batch begun.keeps in
     let some = c.if-self-eq0.false in

@@ -17,7 +17,7 @@ returns-clause-turn c =
     let many = nodes-many operation.kept now.batch now.begun.keeps in
     let some = now.at.0 in
     went-on c.go_on.result operation c.go_on.new.self Locked (Next free 0) view next c.go_on.ensures.more c.go_on.ensures.stage c.requires.stage (load-count-step view next free loaded) (load-count-made view next free loaded)
-    (omega arith) (λ start before batch after begun at. count-known start before batch after operation.kept begun view next free loaded at.0 at.1)
+    (omega arith) tt (λ start before batch after begun at. count-known start before batch after operation.kept begun view next free loaded at.0 at.1)
 
 pub load_count-free-requires-clause-pool : goal.load_count-free-requires-clause-pool
 load_count-free-requires-clause-pool c =

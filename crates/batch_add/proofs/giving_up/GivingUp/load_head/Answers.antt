@@ -15,7 +15,7 @@ returns-clause-turn c =
     let free = c.args.free in
     let given = c.args.given in
     went-on c.go_on.result operation c.go_on.new.self (Next free given) (Headed free given head) view next c.go_on.ensures.more c.go_on.ensures.stage c.requires.stage (load-head-step view next head loaded)
-    (load-head-made view next head loaded) (omega arith) (λ start before batch after begun at. head-known start before batch after operation.kept begun view free given at next head loaded)
+    (load-head-made view next head loaded) (omega arith) tt (λ start before batch after begun at. head-known start before batch after operation.kept begun view free given at next head loaded)
 
 pub load_pool_head-head-requires-clause-pool : goal.load_pool_head-head-requires-clause-pool
 load_pool_head-head-requires-clause-pool c =

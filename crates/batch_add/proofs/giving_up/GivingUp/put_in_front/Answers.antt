@@ -50,7 +50,7 @@ returns-then-given-last-clause-turn c =
     let last : suc given ≡ operation.kept.node_count = omega arith in
     went-on c.go_on.result operation c.go_on.new.self (Linked free given) (Given free) view next c.go_on.ensures.more c.go_on.ensures.stage c.requires.stage
     (front-step now.start now.before now.batch now.after operation.kept now.begun view free given now.at.0 next here)
-    (front-made now.start now.before now.batch now.after operation.kept now.begun view free given now.at.0 next here c.args.pass.now.number c.args.pass.now.numbered) (omega arith)
+    (front-made now.start now.before now.batch now.after operation.kept now.begun view free given now.at.0 next here c.args.pass.now.number c.args.pass.now.numbered) (omega arith) tt
     (λ start before batch after begun at.
     front-all start before batch after operation.kept begun view free given at.0 next
     (subst (λ (n : ℕ). GaveNode view next n) (c.node.ensures.value ∙ node-kept operation.kept batch begun.keeps given at.0.at) gave) last)
@@ -71,7 +71,7 @@ returns-clause-turn c =
     let one : given + 1 ≡ suc given = omega arith in
     went-on c.go_on-2.result operation c.go_on-2.new.self (Linked free given) (Next free (given + 1)) view next c.go_on-2.ensures.more c.go_on-2.ensures.stage c.requires.stage
     (front-step now.start now.before now.batch now.after operation.kept now.begun view free given now.at.0 next here)
-    (front-made now.start now.before now.batch now.after operation.kept now.begun view free given now.at.0 next here c.args.pass.now.number c.args.pass.now.numbered) (omega arith)
+    (front-made now.start now.before now.batch now.after operation.kept now.begun view free given now.at.0 next here c.args.pass.now.number c.args.pass.now.numbered) (omega arith) tt
     (λ start before batch after begun at.
     subst (IsPutting start before batch after next free) (sym one)
     (front-next start before batch after operation.kept begun view free given at.0 next

@@ -22,7 +22,7 @@ returns-clause-turn c =
     in
     went-on c.go_on.result operation c.go_on.new.self (Given free) Counted view next c.go_on.ensures.more c.go_on.ensures.stage c.requires.stage
     (count-step now.start now.before now.batch now.after operation.kept now.begun view free now.at.0 now.at.1 now.at.2 next here)
-    (count-made now.start now.before now.batch now.after operation.kept now.begun view free now.at.0 now.at.1 now.at.2 next here c.args.pass.now.number c.args.pass.now.numbered) (omega arith)
+    (count-made now.start now.before now.batch now.after operation.kept now.begun view free now.at.0 now.at.1 now.at.2 next here c.args.pass.now.number c.args.pass.now.numbered) (omega arith) tt
     (λ start before batch after begun at.
     let then_here = subst (λ (n : ℕ). StoredCount view next (free + n)) (c.from.ensures ∙ sym (nodes-many operation.kept batch begun.keeps)) stored in (
       at.0,

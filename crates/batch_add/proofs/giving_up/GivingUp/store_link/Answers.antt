@@ -37,7 +37,7 @@ returns-clause-turn c =
     let here = subst (λ (n : ℕ). LinkedNode view next n head) (c.node.ensures.value ∙ node-kept operation.kept now.batch now.begun.keeps given now.at.0.at) linked in
     went-on c.go_on.result operation c.go_on.new.self (Headed free given head) (Linked free given) view next c.go_on.ensures.more c.go_on.ensures.stage c.requires.stage
     (link-step now.start now.before now.batch now.after operation.kept now.begun view free given now.at.0 next head here)
-    (link-made now.start now.before now.batch now.after operation.kept now.begun view free given now.at.0 next head here c.args.pass.now.number c.args.pass.now.numbered) (omega arith)
+    (link-made now.start now.before now.batch now.after operation.kept now.begun view free given now.at.0 next head here c.args.pass.now.number c.args.pass.now.numbered) (omega arith) tt
     (λ start before batch after begun at.
     link-known start before batch after operation.kept begun view free given at.0 next head
     (subst (λ (n : ℕ). LinkedNode view next n head) (c.node.ensures.value ∙ node-kept operation.kept batch begun.keeps given at.0.at) linked) at.1)

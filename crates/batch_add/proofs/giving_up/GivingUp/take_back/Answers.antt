@@ -37,7 +37,7 @@ returns-clause-turn c =
     let index = c.index-index.result in
     let stored = c.step_25.ensures.step in
     went-on c.go_on.result c.args.self.now c.go_on.new.self (Striped done) (Cleared done) view next c.go_on.ensures.more c.go_on.ensures.stage c.requires.stage (back-step view next index stored)
-    (back-made view next index stored c.args.pass.now.number c.args.pass.now.numbered) (omega arith)
+    (back-made view next index stored c.args.pass.now.number c.args.pass.now.numbered) (omega arith) tt
     (λ start before batch after begun at. (
       at.0,
       back-taken start before batch after kept begun view done at.0 at.1 next

@@ -17,7 +17,7 @@ returns-then-self-clause-turn c =
     let taking = c.args.taking in
     let left = some-left taking in
     went-on c.go_on.result c.args.self.now c.go_on.new.self (Striping c.args.done taking) (Striped c.args.done) view next c.go_on.ensures.more c.go_on.ensures.stage c.requires.stage c.turn.ensures.step c.turn.ensures.made
-    (omega arith)
+    (omega arith) tt
     (λ start before batch after begun at.
     let stripe = stripe_of start.config at.0.m.index in (at.0, free-taken start view next _ stripe (c.in-Done.ensures.answers (taking_of stripe Write) view at.2) c.turn.ensures.made at.1))
 
@@ -29,7 +29,7 @@ returns-else-self-clause-turn c =
     let left = some-left taking in
     let done = c.args.done in
     went-on c.go_on-in-Done.result c.args.self.now c.go_on-in-Done.new.self (Striping done taking) (Cleared done) view next c.go_on-in-Done.ensures.more c.go_on-in-Done.ensures.stage c.requires.stage c.turn.ensures.step c.turn.ensures.made
-    (omega arith)
+    (omega arith) tt
     (λ start before batch after begun at.
     let stripe = stripe_of start.config at.0.m.index in (
       at.0,
@@ -44,13 +44,12 @@ returns-in-More-clause-turn c =
     let taking = c.args.taking in
     let done = c.args.done in
     let kept = c.args.self.now.kept in
-    let now = at-stage c.args.self.now (Striping done taking) view c.requires.under_way c.requires.stage in
-    take-more (Striping done) (3 * kept.node_count + 6 + 6 * (kept.marked - suc done) + 3) c.args.self.now c.go_on-in-More.new.self (λ t. refl) taking c.turn.new.self view next c.go_on-in-More.ensures.stage c.requires.stage
-    c.turn.ensures.step c.turn.ensures.made
+    take-more (Striping done) (3 * kept.node_count + 6 + 6 * (kept.marked - suc done) + 3) c.args.self.now c.go_on-in-More.new.self (λ t. refl) (λ t. refl) taking c.turn.new.self view next c.go_on-in-More.ensures.stage c.requires.stage
+    c.turn.ensures.step c.turn.ensures.made c.in-More.ensures.loads
     (λ start before batch after begun at.
     let stripe = stripe_of start.config at.0.m.index in
     let on = free-goes start view next _ stripe c.turn.new.self (c.in-More.ensures.keeps (taking_of stripe Write) view at.2) c.turn.ensures.made at.1 in (at.0, on.0, on.1))
-    c.go_on-in-More.result c.go_on-in-More.ensures.more taking.mode now.at.2.mode c.in-More.ensures.turned
+    c.go_on-in-More.result c.go_on-in-More.ensures.more c.in-More.ensures.turned
 
 pub returns-in-Again-clause-turn : goal.returns-in-Again-clause-turn
 returns-in-Again-clause-turn c =
@@ -59,10 +58,9 @@ returns-in-Again-clause-turn c =
     let taking = c.args.taking in
     let done = c.args.done in
     let kept = c.args.self.now.kept in
-    let now = at-stage c.args.self.now (Striping done taking) view c.requires.under_way c.requires.stage in
-    take-again (Striping done) (3 * kept.node_count + 6 + 6 * (kept.marked - suc done) + 3) c.args.self.now c.go_on-in-Again.new.self (λ t. refl) taking c.turn.new.self view next c.go_on-in-Again.ensures.stage c.requires.stage
-    c.turn.ensures.step c.turn.ensures.made
+    take-again (Striping done) (3 * kept.node_count + 6 + 6 * (kept.marked - suc done) + 3) c.args.self.now c.go_on-in-Again.new.self (λ t. refl) (λ t. refl) taking c.turn.new.self view next c.go_on-in-Again.ensures.stage c.requires.stage
+    c.turn.ensures.step c.turn.ensures.made c.in-Again.ensures.loads
     (λ start before batch after begun at.
     let stripe = stripe_of start.config at.0.m.index in
     let on = free-goes start view next _ stripe c.turn.new.self (c.in-Again.ensures.keeps (taking_of stripe Write) view at.2) c.turn.ensures.made at.1 in (at.0, on.0, on.1))
-    c.in-Again.lock c.in-Again.word taking.mode now.at.2.mode c.in-Again.ensures.turned
+    c.in-Again.lock c.in-Again.word c.in-Again.ensures.turned

@@ -42,7 +42,7 @@ returns-clause-turn c =
     let stored = c.step_26.ensures.step in
     let pass : IsPass view c.number.result = ap (λ (v : View). number_of v) (sym stored.1.leaves) ∙ c.number.ensures in
     went-on-made More operation (at_stage operation (Unmarked done) (Some (record { pass = c.number.result; entry = Unmark index }))) (Cleared done) (Unmarked done) (Some (record { pass = c.number.result; entry = Unmark index })) view next
-    refl refl c.requires.stage (unmark-step view next index stored) (unmark-made view next index stored c.number.result pass) (omega arith)
+    refl refl c.requires.stage (unmark-step view next index stored) (unmark-made view next index stored c.number.result pass) (omega arith) tt
     (λ start before batch after begun at. (
       at.0,
       unmarked-work start before batch after operation.kept begun view done at.0 at.1 next

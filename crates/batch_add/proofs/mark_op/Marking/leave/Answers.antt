@@ -1,8 +1,10 @@
-use Rattle.std.proofs.Common.{◌≡◌, ℕ, ◌<◌, length, ◌∙◌, sym, ap, subst, arith, refl}
+use Rattle.std.proofs.Common.{◌≡◌, ℕ, ◌<◌, Some, length, ◌∙◌, sym, ap, subst, arith, refl}
 use Rattle.word_map.specs.declared.config.Config.{Config}
 use Rattle.word_map.specs.Names.{stripe_of, lock_count}
 use Rattle.core_state.specs.declared.view.Mode.TheVariants.{Write}
 use Rattle.pass_table.specs.declared.pass.Pass.{Pass}
+use Rattle.pass_table.specs.declared.take_op.TakeOp.{TakeOp}
+use Rattle.pass_table.proofs.TakingTurns.{loads-none}
 use Rattle.pass_table.specs.TakeTurns.{taking_of, IsTaking, turns_left}
 use Rattle.pass_table.specs.Passes.{view_of}
 use Rattle.pass_table.proofs.Calling.{released-step, released-made}
@@ -46,6 +48,7 @@ returns-clause-turn c =
     subst (λ (p : Pass). IsMarkTurn c.go_on.result operation c.go_on.new.self view (view_of p)) (sym c.new-taking.ensures.pass)
     (went-on c.go_on.result operation c.go_on.new.self (Leaving stripe) (Taking taking) view next c.go_on.ensures.more c.go_on.ensures.stage c.requires.stage
     (released-step view next stripe _ go) (released-made view next stripe _ go c.args.pass.now.number c.args.pass.now.numbered) (omega arith)
+    (loads-none view next (Some taking) (ap (λ (t : TakeOp). t.loaded) c.new-taking.ensures.begun))
     (λ start before batch begun at.
     let sizes = sym c.requires.of.sizes ∙ worked-sizes start view _ at.0.worked in
     then-next start before batch operation.layer operation.slot (marks_of operation) begun view next stripe _ at.0 go more taking

@@ -47,7 +47,7 @@ returns-clause-turn c =
     let phase = c.args.phase in
     let stepped = c.step_15-layer.ensures.step in
     went-on c.go_on.result operation c.go_on.new.self (Joining phase) (Placed phase layer) view next c.go_on.ensures.more c.go_on.ensures.stage c.requires.stage
-    (body-load-step view next (Layer c.index.result) layer stepped) (body-load-made view next (Layer c.index.result) layer stepped) (omega arith)
+    (body-load-step view next (Layer c.index.result) layer stepped) (body-load-made view next (Layer c.index.result) layer stepped) (omega arith) tt
     (λ start before batch begun at.
     layer-placed operation.layer operation.slot start before batch (marks_of operation) begun view next phase layer
     (subst (λ (n : ℕ). Stepped MayLoadBody load_body view (Layer n) 0 0 layer next) (c.index.ensures.value ∙ ap (λ (i : Id). i.index) c.id.ensures) stepped) at)

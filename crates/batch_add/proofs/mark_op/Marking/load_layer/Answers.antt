@@ -35,7 +35,7 @@ returns-then-layer-from-clause-turn c =
     let layer = c.step_15-layer.result in
     let stepped = c.step_15-layer.ensures.step in
     went-on c.go_on.result operation c.go_on.new.self Outside (Sides none_loaded 0) view next c.go_on.ensures.more c.go_on.ensures.stage c.requires.stage
-    (body-load-step view next (Layer c.index.result) layer stepped) (body-load-made view next (Layer c.index.result) layer stepped) (omega arith)
+    (body-load-step view next (Layer c.index.result) layer stepped) (body-load-made view next (Layer c.index.result) layer stepped) (omega arith) tt
     (λ start before batch begun at.
     layer-here operation.layer operation.slot start before batch (marks_of operation) begun view next layer
     (subst (λ (n : ℕ). Stepped MayLoadBody load_body view (Layer n) 0 0 layer next) (c.index.ensures.value ∙ ap (λ (i : Id). i.index) c.id.ensures) stepped) at none_loaded
@@ -49,7 +49,7 @@ returns-clause-turn c =
     let layer = c.step_15-layer.result in
     let stepped = c.step_15-layer.ensures.step in
     went-on c.go_on-2.result operation c.go_on-2.new.self Outside (Refusing (WrongLayer layer)) view next c.go_on-2.ensures.more c.go_on-2.ensures.stage c.requires.stage
-    (body-load-step view next (Layer c.index.result) layer stepped) (body-load-made view next (Layer c.index.result) layer stepped) (omega arith)
+    (body-load-step view next (Layer c.index.result) layer stepped) (body-load-made view next (Layer c.index.result) layer stepped) (omega arith) tt
     (λ start before batch begun at.
     layer-wrong operation.layer operation.slot start before batch (marks_of operation) begun view next layer
     (subst (λ (n : ℕ). Stepped MayLoadBody load_body view (Layer n) 0 0 layer next) (c.index.ensures.value ∙ ap (λ (i : Id). i.index) c.id.ensures) stepped) at

@@ -30,7 +30,7 @@ returns-then-phase-eq0-clause-turn c =
     let phase = c.step_15-phase.result in
     let stepped = c.step_15-phase.ensures.step in
     went-on c.go_on.result operation c.go_on.new.self Live Outside view next c.go_on.ensures.more c.go_on.ensures.stage c.requires.stage
-    (body-load-step view next (Phase c.index.result) phase stepped) (body-load-made view next (Phase c.index.result) phase stepped) (omega arith)
+    (body-load-step view next (Phase c.index.result) phase stepped) (body-load-made view next (Phase c.index.result) phase stepped) (omega arith) tt
     (λ start before batch begun at.
     phase-out operation.layer operation.slot start before batch (marks_of operation) begun view next phase
     (subst (λ (n : ℕ). Stepped MayLoadBody load_body view (Phase n) 0 0 phase next) (c.index.ensures.value ∙ ap (λ (i : Id). i.index) c.id.ensures) stepped) at c.if-phase-eq0.true)
@@ -43,7 +43,7 @@ returns-then-phase-eq1-clause-turn c =
     let phase = c.step_15-phase.result in
     let stepped = c.step_15-phase.ensures.step in
     went-on c.go_on-then-phase-eq1.result operation c.go_on-then-phase-eq1.new.self Live (Refusing (AlreadyIn phase)) view next c.go_on-then-phase-eq1.ensures.more c.go_on-then-phase-eq1.ensures.stage c.requires.stage
-    (body-load-step view next (Phase c.index.result) phase stepped) (body-load-made view next (Phase c.index.result) phase stepped) (omega arith)
+    (body-load-step view next (Phase c.index.result) phase stepped) (body-load-made view next (Phase c.index.result) phase stepped) (omega arith) tt
     (λ start before batch begun at.
     phase-is_in operation.layer operation.slot start before batch (marks_of operation) begun view next phase
     (subst (λ (n : ℕ). Stepped MayLoadBody load_body view (Phase n) 0 0 phase next) (c.index.ensures.value ∙ ap (λ (i : Id). i.index) c.id.ensures) stepped) at c.if-phase-eq1.true)
@@ -56,7 +56,7 @@ returns-clause-turn c =
     let phase = c.step_15-phase.result in
     let stepped = c.step_15-phase.ensures.step in
     went-on c.go_on-2.result operation c.go_on-2.new.self Live (Joining phase) view next c.go_on-2.ensures.more c.go_on-2.ensures.stage c.requires.stage
-    (body-load-step view next (Phase c.index.result) phase stepped) (body-load-made view next (Phase c.index.result) phase stepped) (omega arith)
+    (body-load-step view next (Phase c.index.result) phase stepped) (body-load-made view next (Phase c.index.result) phase stepped) (omega arith) tt
     (λ start before batch begun at.
     phase-joins operation.layer operation.slot start before batch (marks_of operation) begun view next phase
     (subst (λ (n : ℕ). Stepped MayLoadBody load_body view (Phase n) 0 0 phase next) (c.index.ensures.value ∙ ap (λ (i : Id). i.index) c.id.ensures) stepped) at c.if-phase-eq0.false c.if-phase-eq1.false)

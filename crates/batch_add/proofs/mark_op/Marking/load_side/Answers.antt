@@ -33,7 +33,7 @@ returns-then-loaded-lt5-clause-turn c =
     let stepped = c.step_15.ensures.step in
     let less = c.if-loaded-lt5.true in
     went-on c.go_on.result operation c.go_on.new.self (Sides words loaded) (Sides (set words loaded found) (loaded + 1)) view next c.go_on.ensures.more c.go_on.ensures.stage c.requires.stage
-    (body-load-step view next (BoxWord c.index.result loaded) found stepped) (body-load-made view next (BoxWord c.index.result loaded) found stepped) (omega arith)
+    (body-load-step view next (BoxWord c.index.result loaded) found stepped) (body-load-made view next (BoxWord c.index.result loaded) found stepped) (omega arith) tt
     (λ start before batch begun at.
     side-next operation.layer operation.slot start before batch (marks_of operation) begun view next words loaded found
     (subst (λ (n : ℕ). Stepped MayLoadBody load_body view (BoxWord n loaded) 0 0 found next) (c.index.ensures.value ∙ ap (λ (i : Id). i.index) c.id.ensures) stepped) at less)
@@ -65,7 +65,7 @@ returns-clause-turn c =
     let way = c.requires.under_way in
     let room = (going-at operation (Sides words loaded) way.start view way.goes.goes c.requires.stage).2 in
     went-on c.go_on-in-Some.result operation c.go_on-in-Some.new.self (Sides words loaded) (Boxed c.in-Some.bounds) view next c.go_on-in-Some.ensures.more c.go_on-in-Some.ensures.stage c.requires.stage
-    (body-load-step view next (BoxWord c.index.result loaded) found stepped) (body-load-made view next (BoxWord c.index.result loaded) found stepped) (omega arith)
+    (body-load-step view next (BoxWord c.index.result loaded) found stepped) (body-load-made view next (BoxWord c.index.result loaded) found stepped) (omega arith) tt
     (λ start before batch begun at.
     side-last operation.layer operation.slot start before batch (marks_of operation) begun view next words loaded found
     (subst (λ (n : ℕ). Stepped MayLoadBody load_body view (BoxWord n loaded) 0 0 found next) (c.index.ensures.value ∙ ap (λ (i : Id). i.index) c.id.ensures) stepped) at last c.in-Some.bounds c.in-Some.ensures.some)

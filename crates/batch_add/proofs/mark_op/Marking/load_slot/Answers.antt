@@ -20,7 +20,7 @@ returns-clause-turn c =
     let found = c.step_17-slot.result in
     let stepped = c.step_17-slot.ensures.step in
     went-on c.go_on-2.result operation c.go_on-2.new.self (Placed phase lies) (Refusing (Held found)) view next c.go_on-2.ensures.more c.go_on-2.ensures.stage c.requires.stage
-    (slot-load-step view next (Slot lies (phase - 2)) found stepped) (slot-load-made view next (Slot lies (phase - 2)) found stepped) (omega arith)
+    (slot-load-step view next (Slot lies (phase - 2)) found stepped) (slot-load-made view next (Slot lies (phase - 2)) found stepped) (omega arith) tt
     (λ start before batch begun at. slot-is_held operation.layer operation.slot start before batch (marks_of operation) begun view next phase lies (phase - 2) found stepped at refl (no-tree found c.names_tree.ensures.1 c.if-names_tree.false))
 
 pub returns-then-names_tree-clause-turn : goal.returns-then-names_tree-clause-turn
@@ -34,5 +34,5 @@ returns-then-names_tree-clause-turn c =
     let stepped = c.step_17-slot.ensures.step in
     let high : 1024 ≤ found = c.names_tree.ensures.0 c.if-names_tree.true in
     went-on c.go_on.result operation c.go_on.new.self (Placed phase lies) (Refusing (AlreadyIn phase)) view next c.go_on.ensures.more c.go_on.ensures.stage c.requires.stage
-    (slot-load-step view next (Slot lies (phase - 2)) found stepped) (slot-load-made view next (Slot lies (phase - 2)) found stepped) (omega arith)
+    (slot-load-step view next (Slot lies (phase - 2)) found stepped) (slot-load-made view next (Slot lies (phase - 2)) found stepped) (omega arith) tt
     (λ start before batch begun at. slot-is_in operation.layer operation.slot start before batch (marks_of operation) begun view next phase lies (phase - 2) found stepped at refl high)

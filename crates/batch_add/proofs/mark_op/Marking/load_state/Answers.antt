@@ -30,7 +30,7 @@ returns-then-state-to_word-clause-turn c =
     let state = c.step_15-state.result in
     let stepped = c.step_15-state.ensures.step in
     went-on c.go_on.result operation c.go_on.new.self Striped Live view next c.go_on.ensures.more c.go_on.ensures.stage c.requires.stage
-    (body-load-step view next (State c.index.result) state stepped) (body-load-made view next (State c.index.result) state stepped) (omega arith)
+    (body-load-step view next (State c.index.result) state stepped) (body-load-made view next (State c.index.result) state stepped) (omega arith) tt
     (λ start before batch begun at.
     state-live operation.layer operation.slot start before batch (marks_of operation) begun view next state
     (subst (λ (n : ℕ). Stepped MayLoadBody load_body view (State n) 0 0 state next) (c.index.ensures.value ∙ ap (λ (i : Id). i.index) c.id-id.ensures) stepped) at
@@ -44,7 +44,7 @@ returns-clause-turn c =
     let state = c.step_15-state.result in
     let stepped = c.step_15-state.ensures.step in
     went-on c.go_on-2.result operation c.go_on-2.new.self Striped (Refusing (Gone state)) view next c.go_on-2.ensures.more c.go_on-2.ensures.stage c.requires.stage
-    (body-load-step view next (State c.index.result) state stepped) (body-load-made view next (State c.index.result) state stepped) (omega arith)
+    (body-load-step view next (State c.index.result) state stepped) (body-load-made view next (State c.index.result) state stepped) (omega arith) tt
     (λ start before batch begun at.
     state-gone operation.layer operation.slot start before batch (marks_of operation) begun view next state
     (subst (λ (n : ℕ). Stepped MayLoadBody load_body view (State n) 0 0 state next) (c.index.ensures.value ∙ ap (λ (i : Id). i.index) c.id-id.ensures) stepped) at

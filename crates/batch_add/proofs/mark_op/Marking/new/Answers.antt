@@ -4,6 +4,7 @@ use Rattle.body_ident.specs.Id.{Id}
 use Rattle.word_map.specs.declared.config.Config.{Config}
 use Rattle.word_map.specs.Names.{stripe_of}
 use Rattle.core_state.specs.declared.view.Mode.TheVariants.{Write}
+use Rattle.pass_table.specs.declared.take_op.TakeOp.{TakeOp}
 use Rattle.pass_table.specs.TakeTurns.{taking_of, IsTaking}
 use Rattle.pass_table.specs.Passes.{view_of}
 use Rattle.batch_add.proofs.MarkBegun.{marking-begun}
@@ -20,3 +21,6 @@ returns-clause-under_way c =
     marking-begun _ view next c.args.pass.now.number c.new-taking.result refl refl c.args.pass.now.numbered c.requires.rest (ap view_of c.new-taking.ensures.pass) c.requires.some c.requires.room
     (subst (λ (s : Config). All (λ (id : Id). id.index < s.bodies) ids) (sym sizes) c.requires.below) c.requires.newest
     (subst (λ (l : ℕ). IsTaking (taking_of l Write) view c.new-taking.result next) (c.stripe_of-stripe.ensures.value ∙ (λ i. stripe_of ((sym sizes) i) (index i))) c.new-taking.ensures.under_way)
+
+pub returns-clause-unloaded : goal.returns-clause-unloaded
+returns-clause-unloaded c = ap (λ (t : TakeOp). t.loaded) c.new-taking.ensures.begun

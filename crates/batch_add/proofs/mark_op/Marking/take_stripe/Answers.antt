@@ -17,7 +17,7 @@ returns-in-Done-clause-turn c =
     let operation = c.args.self.now in
     let taking = c.args.taking in
     let left = some-left taking in
-    went-on c.go_on.result operation c.go_on.new.self (Taking taking) Striped view next c.go_on.ensures.more c.go_on.ensures.stage c.requires.stage c.turn.ensures.step c.turn.ensures.made (omega arith)
+    went-on c.go_on.result operation c.go_on.new.self (Taking taking) Striped view next c.go_on.ensures.more c.go_on.ensures.stage c.requires.stage c.turn.ensures.step c.turn.ensures.made (omega arith) tt
     (λ start before batch begun at.
     stripe-done start before batch (marks_of operation) view next taking at (c.in-Done.ensures.answers (taking_of (stripe_of start.config (current (marks_of operation)).index) Write) view at.1) c.turn.ensures.made)
 
@@ -28,12 +28,10 @@ returns-in-More-clause-turn c =
     let operation = c.args.self.now in
     let taking = c.args.taking in
     let after = c.turn.new.self in
-    let way = c.requires.under_way in
-    let now = going-at operation (Taking taking) way.start view way.goes.goes c.requires.stage in
-    take-more operation c.go_on-in-More.new.self taking after view next c.go_on-in-More.ensures.stage c.requires.stage c.turn.ensures.step c.turn.ensures.made
+    take-more operation c.go_on-in-More.new.self taking after view next c.go_on-in-More.ensures.stage c.requires.stage c.turn.ensures.step c.turn.ensures.made c.in-More.ensures.loads
     (λ start before batch begun at.
     stripe-on start before batch (marks_of operation) view next taking at after (c.in-More.ensures.keeps (taking_of (stripe_of start.config (current (marks_of operation)).index) Write) view at.1) c.turn.ensures.made)
-    c.go_on-in-More.result c.go_on-in-More.ensures.more taking.mode now.1.mode c.in-More.ensures.turned
+    c.go_on-in-More.result c.go_on-in-More.ensures.more c.in-More.ensures.turned
 
 pub returns-in-Again-clause-turn : goal.returns-in-Again-clause-turn
 returns-in-Again-clause-turn c =
@@ -42,9 +40,7 @@ returns-in-Again-clause-turn c =
     let operation = c.args.self.now in
     let taking = c.args.taking in
     let after = c.turn.new.self in
-    let way = c.requires.under_way in
-    let now = going-at operation (Taking taking) way.start view way.goes.goes c.requires.stage in
-    take-again operation c.go_on-in-Again.new.self taking after view next c.go_on-in-Again.ensures.stage c.requires.stage c.turn.ensures.step c.turn.ensures.made
+    take-again operation c.go_on-in-Again.new.self taking after view next c.go_on-in-Again.ensures.stage c.requires.stage c.turn.ensures.step c.turn.ensures.made c.in-Again.ensures.loads
     (λ start before batch begun at.
     stripe-on start before batch (marks_of operation) view next taking at after (c.in-Again.ensures.keeps (taking_of (stripe_of start.config (current (marks_of operation)).index) Write) view at.1) c.turn.ensures.made)
-    c.in-Again.lock c.in-Again.word taking.mode now.1.mode c.in-Again.ensures.turned
+    c.in-Again.lock c.in-Again.word c.in-Again.ensures.turned

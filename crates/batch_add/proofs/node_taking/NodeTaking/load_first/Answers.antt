@@ -35,7 +35,7 @@ returns-clause-turn c =
     let next = view_of c.load_pool_head-head.new.pass in
     let head = c.load_pool_head-head.result in
     let loaded = c.load_pool_head-head.ensures.loaded in
-    nodes-on operation (record operation { stage = First (head - 1) }) Next view next c.requires.stage refl refl (pool-step view next PoolHead head loaded.step) (pool-made view next PoolHead head loaded.step) (omega arith)
+    nodes-on operation (record operation { stage = First (head - 1) }) Next view next c.requires.stage refl refl (pool-step view next PoolHead head loaded.step) (pool-made view next PoolHead head loaded.step) (omega arith) tt
     (λ first start under_way at.
     head-first start operation view next head (head - 1) under_way.rest loaded (names head (head-some start operation view next head under_way.rest loaded at)) at)
 

@@ -13,7 +13,7 @@ returns-then-free-from-clause-turn c =
     let next = view_of c.load_count-free.new.pass in
     let free = c.load_count-free.result in
     let loaded = c.load_count-free.ensures.loaded in
-    nodes-on operation (record operation { stage = Leaving (Err free) }) Locked view next c.requires.stage refl refl (pool-step view next PoolFree free loaded.step) (pool-made view next PoolFree free loaded.step) (omega arith)
+    nodes-on operation (record operation { stage = Leaving (Err free) }) Locked view next c.requires.stage refl refl (pool-step view next PoolFree free loaded.step) (pool-made view next PoolFree free loaded.step) (omega arith) tt
     (λ first start under_way at. free-few start operation view next free loaded at (let few = c.if-free-from.true in let is = c.from.ensures in omega arith))
 
 pub returns-clause-turn : goal.returns-clause-turn
@@ -24,7 +24,7 @@ returns-clause-turn c =
     let free = c.load_count-free.result in
     let loaded = c.load_count-free.ensures.loaded in
     nodes-on operation (record operation { free = free; stage = Next }) Locked view next c.requires.stage refl refl (pool-step view next PoolFree free loaded.step) (pool-made view next PoolFree free loaded.step)
-    (omega arith) (λ first start under_way at. free-enough start operation view next free loaded at under_way.some (let enough = c.if-free-from.false in let is = c.from.ensures in omega arith))
+    (omega arith) tt (λ first start under_way at. free-enough start operation view next free loaded at under_way.some (let enough = c.if-free-from.false in let is = c.from.ensures in omega arith))
 
 pub load_count-free-requires-clause-pool : goal.load_count-free-requires-clause-pool
 load_count-free-requires-clause-pool c =

@@ -17,7 +17,7 @@ returns-clause-turn c =
     let link = c.load_pool_link-link.result in
     let loaded = c.load_pool_link-link.ensures.loaded in
     nodes-on operation (record operation { stage = Linked node link }) (First node) view next c.requires.stage refl refl (pool-step view next (PoolNext node) link loaded.step) (pool-made view next (PoolNext node) link loaded.step)
-    (omega arith) (λ first start under_way at. link-linked start operation view next node link under_way.rest loaded at)
+    (omega arith) tt (λ first start under_way at. link-linked start operation view next node link under_way.rest loaded at)
 
 pub load_pool_link-link-requires-clause-pool : goal.load_pool_link-link-requires-clause-pool
 load_pool_link-link-requires-clause-pool c =

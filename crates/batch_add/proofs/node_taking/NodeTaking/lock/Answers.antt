@@ -16,7 +16,7 @@ returns-in-Done-clause-turn c =
     let next = view_of c.turn.new.pass in
     let taking = c.args.taking in
     let left = some-left taking in
-    nodes-on operation (record operation { stage = Locked }) (Locking taking) view next c.requires.stage refl refl c.turn.ensures.step c.turn.ensures.made (omega arith)
+    nodes-on operation (record operation { stage = Locked }) (Locking taking) view next c.requires.stage refl refl c.turn.ensures.step c.turn.ensures.made (omega arith) tt
     (λ first start under_way at. lock-done start operation view next taking (c.in-Done.ensures.answers (taking_of (pool_lock start.config) Write) view at.1) c.turn.ensures.made at)
 
 pub returns-in-More-clause-turn : goal.returns-in-More-clause-turn
@@ -26,10 +26,8 @@ returns-in-More-clause-turn c =
     let next = view_of c.turn.new.pass in
     let taking = c.args.taking in
     let after = c.turn.new.self in
-    let under_way = c.requires.under_way in
-    let now = subst (AtNodes under_way.start operation view) c.requires.stage under_way.goes.stage in
-    lock-more operation taking after view next c.requires.stage c.turn.ensures.step c.turn.ensures.made
-    (λ start at. lock-on start operation view next taking after (c.in-More.ensures.keeps (taking_of (pool_lock start.config) Write) view at.1) c.turn.ensures.made at) taking.mode now.1.mode c.in-More.ensures.turned
+    lock-more operation taking after view next c.requires.stage c.turn.ensures.step c.turn.ensures.made c.in-More.ensures.loads
+    (λ start at. lock-on start operation view next taking after (c.in-More.ensures.keeps (taking_of (pool_lock start.config) Write) view at.1) c.turn.ensures.made at) c.in-More.ensures.turned
 
 pub returns-in-Again-clause-turn : goal.returns-in-Again-clause-turn
 returns-in-Again-clause-turn c =
@@ -38,8 +36,6 @@ returns-in-Again-clause-turn c =
     let next = view_of c.turn.new.pass in
     let taking = c.args.taking in
     let after = c.turn.new.self in
-    let under_way = c.requires.under_way in
-    let now = subst (AtNodes under_way.start operation view) c.requires.stage under_way.goes.stage in
-    lock-again operation taking after view next c.requires.stage c.turn.ensures.step c.turn.ensures.made
-    (λ start at. lock-on start operation view next taking after (c.in-Again.ensures.keeps (taking_of (pool_lock start.config) Write) view at.1) c.turn.ensures.made at) c.in-Again.lock c.in-Again.word taking.mode now.1.mode
+    lock-again operation taking after view next c.requires.stage c.turn.ensures.step c.turn.ensures.made c.in-Again.ensures.loads
+    (λ start at. lock-on start operation view next taking after (c.in-Again.ensures.keeps (taking_of (pool_lock start.config) Write) view at.1) c.turn.ensures.made at) c.in-Again.lock c.in-Again.word
     c.in-Again.ensures.turned

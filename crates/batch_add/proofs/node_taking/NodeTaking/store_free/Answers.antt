@@ -14,7 +14,7 @@ returns-clause-turn c =
     let view = view_of c.args.pass.now in
     let next = view_of c.store_count.new.pass in
     let stored = c.store_count.ensures.stored in
-    nodes-on operation (record operation { stage = Leaving (Ok tt) }) Taken view next c.requires.stage refl refl (count-step view next _ stored) (count-made view next _ stored c.args.pass.now.number c.args.pass.now.numbered) (omega arith)
+    nodes-on operation (record operation { stage = Leaving (Ok tt) }) Taken view next c.requires.stage refl refl (count-step view next _ stored) (count-made view next _ stored c.args.pass.now.number c.args.pass.now.numbered) (omega arith) tt
     (λ first start under_way at. count-stored view next _ stored start operation under_way.rest under_way.long (let is = c.from.ensures in omega arith) at)
 
 pub store_count-requires-clause-pool : goal.store_count-requires-clause-pool

@@ -3,7 +3,7 @@ use Rattle.std.proofs.lemmas.List.{length-set}
 use Rattle.pass_table.specs.Passes.{view_of}
 use Rattle.batch_add.specs.declared.node_taking.NodeStage.TheVariants.{Linked}
 use Rattle.batch_add.specs.TakingNodes.{AtNodes}
-use Rattle.batch_add.proofs.TakingNodes.{nodes-on, takes-node, took-step, took-made, took-noted, noted-less, taking-pool}
+use Rattle.batch_add.proofs.TakingNodes.{noted-loads, nodes-on, takes-node, took-step, took-made, took-noted, noted-less, taking-pool}
 use Rattle.batch_add.proofs.node_taking.NodeTaking.take_off.Goals as goal
 
 pub take_node_off-requires-clause-takes : goal.take_node_off-requires-clause-takes
@@ -27,6 +27,7 @@ returns-clause-turn c =
     let noted = c.note.ensures in
     nodes-on operation after (Linked node link) view next c.requires.stage noted.count (ap length noted.nodes ∙ length-set operation.nodes.items operation.taken node) (took-step view next node link took)
     (took-made view next node link took c.args.pass.now.number c.args.pass.now.numbered) (noted-less operation after node link at.0.short noted)
+    (noted-loads operation node after view next noted)
     (λ first start other there. took-noted view next node link took start operation after other.rest other.long noted there)
 
 pub take_node_off-requires-clause-pool : goal.take_node_off-requires-clause-pool

@@ -10,4 +10,5 @@ returns-clause-begins c = record {
   is = refl;
   count = c.new-2.ensures.count;
   goes = subst (λ (v : View). IsTakingNodes c.new-2.result (view_of c.args.pass.now) c.new-2.result v) (ap view_of c.new-2.ensures.pass) c.new-2.ensures.under_way;
+  unloaded = c.new-2.ensures.unloaded;
 }

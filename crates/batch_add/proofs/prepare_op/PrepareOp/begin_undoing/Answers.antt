@@ -40,4 +40,5 @@ returns-clause-begins c =
           });
       made = c.new-3.ensures.made;
       goes = subst (λ (p : Pass). IsGivingUp giving (view_of c.args.pass.now) giving (view_of p)) c.new-3.ensures.pass c.new-3.ensures.under_way;
+      unloaded = c.new-3.ensures.unloaded;
     }

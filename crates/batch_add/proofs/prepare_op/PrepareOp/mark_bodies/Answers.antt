@@ -56,9 +56,9 @@ returns-in-Done-Err-clause-turn c =
 pub returns-in-More-clause-turn : goal.returns-in-More-clause-turn
 returns-in-More-clause-turn c =
     marks-more c.args.self.now c.turn.new.self (view_of c.args.pass.now) (view_of c.turn.new.pass) c.requires.stage c.in-More.ensures.keeps c.requires.under_way c.turn.ensures.step c.turn.ensures.made
-    c.in-More.ensures.turned
+    c.in-More.ensures.turned c.in-More.ensures.loads
 
 pub returns-in-Again-clause-turn : goal.returns-in-Again-clause-turn
 returns-in-Again-clause-turn c =
     marks-again c.args.self.now c.turn.new.self (view_of c.args.pass.now) (view_of c.turn.new.pass) c.requires.stage c.in-Again.ensures.keeps c.requires.under_way c.turn.ensures.step c.turn.ensures.made
-    c.in-Again.lock c.in-Again.word c.in-Again.ensures.turned
+    c.in-Again.lock c.in-Again.word c.in-Again.ensures.turned c.in-Again.ensures.loads

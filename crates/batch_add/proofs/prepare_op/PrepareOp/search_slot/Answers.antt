@@ -54,7 +54,7 @@ returns-in-Done-Some-clause-turn c =
     let told = c.in-Done-Some.ensures in
     subst (λ (v : View). IsPrepareTurn More op c.begin_nodes.new.self view v) (sym (ap view_of c.begin_nodes.ensures.pass))
     (subst (λ (o : PrepareOp). IsPrepareTurn More op o view next) (sym begins.is)
-    (search-ends op view c.requires.stage c.turn.new.self next told.step told.made c.in-Done-Some.slot (search-answers op view c.requires.stage c.turn.new.self next _ _ c.in-Done-Some.field-0-is told.answers) begins.taking begins.count begins.goes c.requires.under_way))
+    (search-ends op view c.requires.stage c.turn.new.self next told.step told.made c.in-Done-Some.slot (search-answers op view c.requires.stage c.turn.new.self next _ _ c.in-Done-Some.field-0-is told.answers) begins.taking begins.count begins.goes begins.unloaded c.requires.under_way))
 
 pub returns-in-Done-None-clause-turn : goal.returns-in-Done-None-clause-turn
 returns-in-Done-None-clause-turn c =

@@ -49,7 +49,7 @@ returns-in-Done-Ok-clause-turn c =
     subst (λ (v : View). IsPrepareTurn More op c.begin_marks.new.self view v) (sym (ap view_of c.begin_marks.ensures.pass))
     (subst (λ (o : PrepareOp). IsPrepareTurn More op o view next) (sym begins.is)
     (nodes-end op view c.requires.stage c.turn.new.self next _ (nodes-answers op view c.requires.stage c.turn.new.self next _ (Ok tt) c.in-Done-Ok.field-0-is told.answers) told.step told.made begins.marking begins.layer
-    begins.slot begins.ids begins.made begins.left begins.goes c.requires.under_way))
+    begins.slot begins.ids begins.made begins.left begins.goes begins.unloaded c.requires.under_way))
 
 pub returns-in-Done-Err-clause-turn : goal.returns-in-Done-Err-clause-turn
 returns-in-Done-Err-clause-turn c =
@@ -64,9 +64,9 @@ returns-in-Done-Err-clause-turn c =
 pub returns-in-More-clause-turn : goal.returns-in-More-clause-turn
 returns-in-More-clause-turn c =
     let told = c.in-More.ensures in
-    nodes-more c.args.self.now (view_of c.args.pass.now) c.requires.stage c.turn.new.self (view_of c.turn.new.pass) told.step told.made told.keeps told.turned
+    nodes-more c.args.self.now (view_of c.args.pass.now) c.requires.stage c.turn.new.self (view_of c.turn.new.pass) told.step told.made told.keeps told.turned told.loads
 
 pub returns-in-Again-clause-turn : goal.returns-in-Again-clause-turn
 returns-in-Again-clause-turn c =
     let told = c.in-Again.ensures in
-    nodes-again c.args.self.now (view_of c.args.pass.now) c.requires.stage c.turn.new.self (view_of c.turn.new.pass) told.step told.made told.keeps c.in-Again.lock c.in-Again.word told.turned
+    nodes-again c.args.self.now (view_of c.args.pass.now) c.requires.stage c.turn.new.self (view_of c.turn.new.pass) told.step told.made told.keeps c.in-Again.lock c.in-Again.word told.turned told.loads

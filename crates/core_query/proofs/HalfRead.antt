@@ -23,6 +23,7 @@ use Rattle.core_query.proofs.Touching.{Passes, six-pass}
 
 -- with a side more of those that stand they are the same
 module _ (read : List ℕ) (value : ℕ) (now : Sides) (is : value ≡ now (length read)) where
+  -- on each side
   pub mixed-more : (q : ℕ) → mixed (read ++ value ∷ []) now q ≡ mixed read now q
   mixed-more q =
       let long = length_push read value in
@@ -42,14 +43,17 @@ module _ (read : List ℕ) (value : ℕ) (now : Sides) (is : value ≡ now (leng
 pub mixed-nothing : (now : Sides) (q : ℕ) → mixed [] now q ≡ now q
 mixed-nothing now q = cond-false (nat_lt q 0) _ _ (grind (arith, nat_tests))
 
+-- of all sides that were read
 mixed-all : (read : List ℕ) (now : Sides) (q : ℕ) → q < length read → mixed read now q ≡ slice_index read q
 mixed-all read now q less = cond-true (nat_lt q (length read)) _ _ (grind (arith, nat_tests))
 
 -- ---- boxes by their six sides
 
+-- the same six sides
 abbrev pub SameSides : Sides → Sides → Type 0
 SameSides a b = (q : ℕ) → q < 6 → a q ≡ b q
 
+-- of the same sides all is the same
 pub same-covers : (a b c d : Sides) → SameSides a c → SameSides b d → Covers a b → Covers c d
 same-covers a b c d outer inner h q low =
     let t = h q low in
@@ -59,6 +63,7 @@ same-covers a b c d outer inner h q low =
     let w = inner (3 + q) (omega arith) in
     (omega (arith, t), omega (arith, t))
 
+-- and so is that they are a box
 pub same-box : (a b : Sides) → SameSides a b → IsBox a → IsBox b
 same-box a b same h q low =
     let t = h q low in
@@ -72,9 +77,11 @@ same-box a b same h q low =
 abbrev pub KeepsBegun : (Name → ℕ) → Walk → Load → List ℕ → Type 0
 KeepsBegun word walk new bound = (n k : ℕ) (read : List ℕ) → Bound n k (length read) ≡ new.name → SameSides (begun_bound word walk n k read) (sides_of bound)
 
+-- a walk with a load more, and the bound that it notes
 abbrev pub longer_walk : Walk → Load → List ℕ → Walk
 longer_walk walk new bound = record walk { loads = walk.loads ++ new ∷ []; bound = bound }
 
+-- with a side read, the bound that it notes is the one that stood
 pub begun-more : (word : Name → ℕ) (walk : Walk) (new : Load) (bound : List ℕ) (n k : ℕ) (read : List ℕ) → begun_bound word (longer_walk walk new bound) n k (read ++ new.value ∷ []) ≡ sides_of bound
 begun-more word walk new bound n k [] = refl
 begun-more word walk new bound n k (side ∷ read) = refl
@@ -88,6 +95,7 @@ module _ (core : Core) (query : Query) (walk : Walk) (new : Load) (bound : List 
 
   -- ---- the bound that is being read
 
+  -- which has the sides that it had before
   pub begun-same : (n k : ℕ) (read : List ℕ) → Bound n k (length read) ≡ new.name → SameSides (begun_bound V walk n k read) (begun_bound V Later n k (read ++ new.value ∷ []))
   begun-same n k read next q low = begun n k read next q low ∙ ap (λ (s : Sides). s q) (sym (begun-more V walk new bound n k read))
 
@@ -95,9 +103,11 @@ module _ (core : Core) (query : Query) (walk : Walk) (new : Load) (bound : List 
     abbrev More : List ℕ
     More = read ++ new.value ∷ []
 
+    -- the bound that is read in part has them too
     now-same : SameSides (mixed read (bound_in V n k)) (mixed More (bound_in V n k))
     now-same q low = sym (mixed-more read new.value (bound_in V n k) value q)
 
+    -- so it is read in part, with a side more
     pub read-more : IsReadInPart V Later n k x More
     read-more = record {
       box = h.box;
@@ -109,9 +119,11 @@ module _ (core : Core) (query : Query) (walk : Walk) (new : Load) (bound : List 
 
     -- read to the end it is a box that contains the one that stood when its first side was read
     module _ (all : length More ≡ 6) where
+      -- the six sides that were read
       sides-same : SameSides (mixed read (bound_in V n k)) (sides_of More)
       sides-same q low = now-same q low ∙ mixed-all More (bound_in V n k) q (omega arith)
 
+      -- they are a box between the one that stands and the one that stood
       read-box : IsBox (sides_of More)
       read-box =
           same-box (mixed read (bound_in V n k)) (sides_of More) sides-same

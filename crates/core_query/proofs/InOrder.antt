@@ -20,6 +20,7 @@ IsNext (Main l) rest = (name : Name) → Contains rest name → layer_of name �
 IsNext (Slot l t) rest = (¬ Contains rest (Slot l t)) × Contains rest (Main l)
 IsNext _ rest = ⊥
 
+-- so of each word that is still to be read
 abbrev pub InOrder : List Name → Type 0
 InOrder [] = ⊤
 InOrder (name ∷ rest) = IsNext name rest × InOrder rest
@@ -41,18 +42,22 @@ order-main_last (name ∷ rest) order l t h =
 
 -- ---- numbers that ascend
 
+-- each number is above those before it
 abbrev Ascend : List ℕ → Type 0
 Ascend [] = ⊤
 Ascend (x ∷ xs) = ((y : ℕ) → Contains xs y → x < y) × Ascend xs
 
+-- a range has no number below the first
 range-from : (a n x : ℕ) → Contains (range_with_len a n) x → a ≤ x
 range-from a zero x h = absurd (none_in x h)
 range-from a (suc n) x h = elim (cases_cons a (range_with_len (a + 1) n) x h) [ inl same ↦ omega arith | inr later ↦ let low = range-from (a + 1) n x later in omega arith ]
 
+-- and ascends
 range-ascends : (a n : ℕ) → Ascend (range_with_len a n)
 range-ascends a zero = tt
 range-ascends a (suc n) = (λ y h. let low = range-from (a + 1) n y h in omega arith, range-ascends (a + 1) n)
 
+-- what is kept of numbers was among them
 filter-among : (p : ℕ → Bool) (xs : List ℕ) (x : ℕ) → Contains (filter p xs) x → Contains xs x
 filter-among p [] x h = h
 filter-among p (y ∷ xs) x h =
@@ -64,6 +69,7 @@ filter-among p (y ∷ xs) x h =
     ])
     (λ fails among. Contains-append_right (y ∷ []) xs x (filter-among p xs x among)) h
 
+-- and ascends where they do
 filter-ascends : (p : ℕ → Bool) (xs : List ℕ) → Ascend xs → Ascend (filter p xs)
 filter-ascends p [] h = h
 filter-ascends p (x ∷ xs) h =
@@ -71,6 +77,7 @@ filter-ascends p (x ∷ xs) h =
 
 -- ---- the words of layers
 
+-- which slots are read of a layer
 slot-among : (layer : ℕ) (ts : List ℕ) (name : Name) → Contains (map (Slot layer) ts) name → (t : ℕ) × Contains ts t × (Slot layer t ≡ name)
 slot-among layer [] name h = absurd (none_in name h)
 slot-among layer (t ∷ ts) name h =
@@ -79,6 +86,7 @@ slot-among layer (t ∷ ts) name h =
       | inr later ↦ let s = slot-among layer ts name later in (s.0, Contains-append_right (t ∷ []) ts s.0 s.1, s.2)
     ]
 
+-- the words of a layer have that layer
 layer-word : (c : Config) (layer : ℕ) (name : Name) → Contains (words_of_layer c layer) name → layer_of name ≡ Some layer
 layer-word c layer name h =
     elim (Contains-append_cases (map (Slot layer) (range_with_len 0 c.slots)) (Main layer ∷ []) name h) [
@@ -86,6 +94,7 @@ layer-word c layer name h =
       | inr main ↦ ap layer_of (sym (only (Main layer) name main))
     ]
 
+-- those of several layers have one of them
 layers-word : (c : Config) (layers : List ℕ) (name : Name) → Contains (flat_map (words_of_layer c) layers) name → (l : ℕ) × Contains layers l × (layer_of name ≡ Some l)
 layers-word c [] name h = absurd (none_in name h)
 layers-word c (layer ∷ layers) name h =
@@ -94,6 +103,7 @@ layers-word c (layer ∷ layers) name h =
       | inr later ↦ let t = layers-word c layers name later in (t.0, Contains-append_right (layer ∷ []) layers t.0 t.1, t.2)
     ]
 
+-- slots that ascend, before words in order of which the main word is one
 slots-in-order : (layer : ℕ) (ts : List ℕ) (more : List Name) → Ascend ts → ((t : ℕ) → ¬ Contains more (Slot layer t)) → Contains more (Main layer) → InOrder more
     → InOrder (map (Slot layer) ts ++ more)
 slots-in-order layer [] more ascend none main h = h
@@ -116,6 +126,7 @@ slots-in-order layer (t ∷ ts) more ascend none main h = (
     same_slot : (x y : ℕ) → Slot layer x ≡ Slot layer y → x ≡ y
     same_slot x y e = cc
 
+-- the words of layers that ascend
 layers-in-order : (c : Config) (layers : List ℕ) → Ascend layers → InOrder (flat_map (words_of_layer c) layers)
 layers-in-order c [] ascend = tt
 layers-in-order c (layer ∷ layers) ascend =
@@ -132,5 +143,6 @@ layers-in-order c (layer ∷ layers) ascend =
     (λ t among. elim (cases_cons (Main layer) later (Slot layer t) among) [ inl same ↦ absurd cc | inr more ↦ apart (Slot layer t) more (λ i. Some layer) ])
     (contains_first (Main layer) later) (apart, layers-in-order c layers ascend.1))
 
+-- and so all that a query reads
 pub asked-in-order : (c : Config) (mask : ℕ) → InOrder (asked_words c mask)
 asked-in-order c mask = layers-in-order c (filter (λ l. bit_at mask l == 1) (range_with_len 0 c.layers)) (filter-ascends (λ l. bit_at mask l == 1) (range_with_len 0 c.layers) (range-ascends 0 c.layers))

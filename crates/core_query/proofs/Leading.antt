@@ -41,6 +41,7 @@ push-among level m stack =
     cond_both (node_child m % 2 == 0) _ _ (λ (l : List Waiting). Contains l (waiting m (suc level)))
     (λ even. subst (λ (r : ℕ). Contains (waiting ((node_child m - 2) / 2) (suc level) ∷ stack) (waiting r (suc level))) node (contains_first _ stack)) (λ odd. absurd (grind (arith, nat_tests)))
 
+-- and nothing leaves it
 push-more : (level x : ℕ) (stack : List Waiting) (v : Waiting) → Contains stack v → Contains (pushed level x stack) v
 push-more level x stack v among = cond_both (x % 2 == 0) _ _ (λ (l : List Waiting). Contains l v) (λ even. Contains-append_right (_ ∷ []) stack v among) (λ odd. among)
 
@@ -68,6 +69,7 @@ module _ (word : Name → ℕ) (Had : Sides → Type 0) (index : ℕ) (query : Q
     abbrev Ahead : Position → Type 0
     Ahead at = IsAhead word Had index query walk at
 
+    -- with the next node of the stack
     next-ahead : (rest : List Name) (stack : List Waiting) (spot : Spot) → (¬ LeadsBySpot word Had index spot) → (¬ LeadsByPart word Had index walk spot) → Ahead (record { rest = rest; stack = stack; spot = spot })
         → Ahead (next_node rest stack)
     next-ahead rest [] spot none part h = ahead-map walk walk rest [] [] spot resting (λ found. found) (λ v among way. absurd (none_in v among)) (λ t. absurd (none t)) (λ t. absurd (part t)) h
@@ -80,6 +82,7 @@ module _ (word : Name → ℕ) (Had : Sides → Type 0) (index : ℕ) (query : Q
         ])
         (λ t. absurd (none t)) (λ t. absurd (part t)) h
 
+    -- with the next child, or the next node after the last
     child-ahead : (rest : List Name) (stack : List Waiting) (n level k : ℕ) → Ahead (record { rest = rest; stack = stack; spot = at_child n level (k + 1) }) → Ahead (next_child rest stack n level k)
     child-ahead rest stack n level k h =
         cond_both (nat_lt k 3) _ _ Ahead (λ more. h)
@@ -105,6 +108,7 @@ module _ (core : Core) (query : Query) (walk : Walk) (new : Load) (bound : List 
   loaded-more : (name : Name) (x : ℕ) → IsLoaded walk.loads name x → IsLoaded Later.loads name x
   loaded-more name x h = loaded-before query walk.loads new name x h
 
+  -- so is each candidate
   found-more : IsCandidate query.shape walk.loads index → IsCandidate query.shape Later.loads index
   found-more t = (t.0, t.1, loaded-more _ _ t.2, (t.3.0, t.3.1, λ q low. loaded-more _ _ (t.3.2 q low)))
 
@@ -137,6 +141,7 @@ module _ (core : Core) (query : Query) (walk : Walk) (new : Load) (bound : List 
   abbrev ByChild : ℕ → ℕ → Type 0
   ByChild n k = (HoldsOne Had (bound_in V n k) × Leads V Had index new.value) ⊎ ChildLeads V Had index n (k + 1)
 
+  -- one or the other
   which-child : (n k : ℕ) → Child n k ≡ new.name → ChildLeads V Had index n k → ByChild n k
   which-child n k next t =
       elim (cases_lt k t.0) [
@@ -160,6 +165,7 @@ module _ (core : Core) (query : Query) (walk : Walk) (new : Load) (bound : List 
   leads-none x e (is_entry is) = absurd (omega arith)
   leads-none x e (by_node m is way) = absurd (omega arith)
 
+  -- so the next child is read
   none-ahead : (rest : List Name) (stack : List Waiting) (n level k : ℕ) → Child n k ≡ new.name → new.value ≡ 0 → Before (record { rest = rest; stack = stack; spot = at_child n level k })
       → After (record { rest = rest; stack = stack; spot = at_child n level (k + 1) })
   none-ahead rest stack n level k next none h =
@@ -171,6 +177,7 @@ module _ (core : Core) (query : Query) (walk : Walk) (new : Load) (bound : List 
   holds-more n k read next t =
       (t.0, t.1, same-covers (begun_bound V walk n k read) t.0 (begun_bound V Later n k (read ++ new.value ∷ [])) t.0 (begun-same core query walk new bound begun n k read next) (λ q low. refl) t.2)
 
+  -- all stays ahead
   side-ahead : (rest : List Name) (stack : List Waiting) (n level k x : ℕ) (read : List ℕ) → Bound n k (length read) ≡ new.name → Before (record { rest = rest; stack = stack; spot = at_bound n level k x read })
       → After (record { rest = rest; stack = stack; spot = at_bound n level k x (read ++ new.value ∷ []) })
   side-ahead rest stack n level k x read next h =
@@ -183,9 +190,11 @@ module _ (core : Core) (query : Query) (walk : Walk) (new : Load) (bound : List 
     abbrev Sixth : List ℕ
     Sixth = read ++ new.value ∷ []
 
+    -- the six sides pass the test where they contain what the body had
     passes : LeadsByPart V Had index walk (at_bound n level k x read) → Passes query Sixth
     passes t = all-pass core query walk new bound begun n k x read next (value ∙ ap (word_of core) (sym next)) part all Had touching t.0
 
+    -- the child is then the body, which is a candidate, or a node, which goes onto the stack
     by_part-passed : Passes query Sixth → Leads V Had index x → After (record { rest = rest; stack = pushed level x stack; spot = at_child n level (k + 1) })
     by_part-passed p (is_entry e) =
         is_found (
@@ -200,6 +209,7 @@ module _ (core : Core) (query : Query) (walk : Walk) (new : Load) (bound : List 
         )
     by_part-passed p (by_node m e way) = by_stack (waiting m (suc level)) (subst (λ (y : ℕ). Contains (pushed level y stack) (waiting m (suc level))) (sym e) (push-among level m stack)) way
 
+    -- all stays ahead, or is found
     all-ahead : Before (record { rest = rest; stack = stack; spot = at_bound n level k x read })
         → After (record { rest = rest; stack = if query.test Sixth then pushed level x stack else stack; spot = at_child n level (k + 1) })
     all-ahead h =

@@ -1,6 +1,7 @@
 pub mod WalkSteps
 pub mod InOrder
 pub mod Replay
+pub mod Descendants
 pub mod Reaching
 pub mod Touching
 pub mod HalfRead

@@ -15,8 +15,8 @@ use Rattle.core_state.specs.declared.view.Waiting.{Waiting}
 use Rattle.core_state.specs.Core.{Core}
 use Rattle.core_state.specs.Encoding.{node_child, place, NamesRoot, layer_of}
 use Rattle.core_state.specs.Nodes.{Nodes, under, IsLive, Stands, IsOfLayer, Below, itself, lower}
-use Rattle.core_state.specs.Scope.{sight, word_in}
-use Rattle.core_state.specs.TreesSound.{TreesSound, IsChild, nothing, a_body, a_node, tree_scope}
+use Rattle.core_state.specs.Scope.{word_in}
+use Rattle.core_state.specs.TreesSound.{TreesSound}
 use Rattle.core_state.specs.Walking.{Spot, resting, at_child, at_bound, Position, waiting, next_node, next_child, roots_in}
 use Rattle.core_state.specs.ReadersCounted.{reader_scope, ReachesBySpot, the_node, the_node_of_bound, by_child, by_next_child, by_part, Reaches, by_stack, by_spot, layer_after, layer_at_hand, IsAtHand, IsBegun, waiting_at, AreApart, IsWalkedAt, WalkStays}
 use Rattle.core_state.proofs.Beginning.{cases_cons, contains_first}
@@ -24,6 +24,7 @@ use Rattle.core_state.proofs.Opening.{none_in, only}
 use Rattle.core_guard.proofs.Leaving.{live-stands}
 use Rattle.core_guard.proofs.ReadersLeft.{map-back}
 use Rattle.core_query.proofs.InOrder.{IsNext, next-once}
+use Rattle.core_query.proofs.Descendants.{IsUnder, child-of, child-stands, below-home, below-deeper, below-parent}
 
 -- ---- one load more
 
@@ -31,6 +32,7 @@ module _ (loads : List Load) (new : Load) where
   abbrev Longer : List Load
   Longer = loads ++ new ∷ []
 
+  -- the layer at hand follows from the last load
   layer-more : layer_at_hand Longer ≡ layer_after (layer_at_hand loads) new
   layer-more = fold-append layer_after None loads (new ∷ [])
 
@@ -43,6 +45,7 @@ module _ (loads : List Load) (new : Load) where
       go (Slot layer t) e = e
       go _ e = absurd (none-some l e)
 
+  -- where it has none it is the one before
   pub layer-same : layer_of new.name ≡ None → layer_at_hand Longer ≡ layer_at_hand loads
   layer-same of = layer-more ∙ go new.name of
     where
@@ -59,76 +62,39 @@ module _ (loads : List Load) (new : Load) where
 -- ---- stacks
 
 module _ (R : ℕ → ℕ → Type 0) (v : Waiting) (stack : List Waiting) where
+  -- each two nodes of a stack
   abbrev Pairs : List Waiting → Type 0
   Pairs waits = AllPairs R (map (λ u. u.node) waits)
 
+  -- the first one and a later one
   pairs-head : Pairs (v ∷ stack) → (u : Waiting) → Contains stack u → R v.node u.node
   pairs-head h u among =
       let at = get_or-map (λ (w : Waiting). w.node) stack among.0 u u.node among.1 ∙ ap (λ (w : Waiting). w.node) among.2 in
       subst (R v.node) at (h zero (suc among.0) u.node (omega arith) (let long = length-map stack (λ (w : Waiting). w.node) in let low = among.1 in omega arith))
 
+  -- two later ones
   pairs-tail : Pairs (v ∷ stack) → Pairs stack
   pairs-tail h i j d less inside = h (suc i) (suc j) d (omega arith) (omega arith)
 
+  -- one more in front
   pairs-more : ((u : Waiting) → Contains stack u → R v.node u.node) → Pairs stack → Pairs (v ∷ stack)
   pairs-more first h =
       AllPairs-cons R v.node (map (λ u. u.node) stack)
       (λ k d inside. let t = map-back (λ u. u.node) stack _ (Contains-get_or (map (λ u. u.node) stack) k d inside) in subst (R v.node) t.2 (first t.0 t.1)) h
 
--- ---- trees
+-- ---- a walk in a core whose trees are sound
 
 module _ (nodes : Nodes) (core : Core) (trees : TreesSound nodes core) where
   abbrev pub W : Name → ℕ
   W = word_in reader_scope core
 
-  -- a child that is a node stands below its parent
-  record IsUnder (n k m : ℕ) : Type 0 where
-    home : nodes.home m ≡ nodes.home n
-    parent : W (Parent m) ≡ place n k
-    depth : nodes.depth m ≡ suc (nodes.depth n)
-
-  under-child : (n k m : ℕ) → W (Child n k) ≡ node_child m → IsChild nodes (sight tree_scope core) n k → IsUnder n k m
-  under-child n k m e (nothing none) = absurd (omega arith)
-  under-child n k m e (a_body i below is) = absurd (omega arith)
-  under-child n k m e (a_node x is home parent depth) =
-      let same : x ≡ m = omega arith in
-      subst (IsUnder n k) same (record { home = home; parent = parent; depth = depth })
-
-  child-of : (n k m : ℕ) → Stands (nodes.home n) → k < 4 → W (Child n k) ≡ node_child m → IsUnder n k m
-  child-of n k m stands low e = under-child n k m e ((trees.sound n stands).children k low)
-
-  child-stands : (n k m : ℕ) → Stands (nodes.home n) → k < 4 → W (Child n k) ≡ node_child m → Stands (nodes.home m)
-  child-stands n k m stands low e = subst Stands (sym (child-of n k m stands low e).home) stands
-
-  below-home : (a b : ℕ) → Stands (nodes.home a) → Below W a b → nodes.home b ≡ nodes.home a
-  below-home a b stands (itself y) = refl
-  below-home a b stands (lower n k m x low e rest) = below-home m b (child-stands a k m stands low e) rest ∙ (child-of a k m stands low e).home
-
-  below-deeper : (a b : ℕ) → Stands (nodes.home a) → Below W a b → nodes.depth a ≤ nodes.depth b
-  below-deeper a b stands (itself y) = omega arith
-  below-deeper a b stands (lower n k m x low e rest) =
-      let u = (child-of a k m stands low e).depth in
-      let deeper = below-deeper m b (child-stands a k m stands low e) rest in
-      omega arith
-
-  -- what has a child below it is the child, or has its parent below it
-  below-parent : (a m n k : ℕ) → Stands (nodes.home a) → W (Parent m) ≡ place n k → k < 4 → Below W a m → (a ≡ m) ⊎ Below W a n
-  below-parent a m n k stands parent low (itself y) = inl refl
-  below-parent a m n k stands parent low (lower x j y z less e rest) =
-      elim (below-parent y m n k (child-stands a j y stands less e) parent low rest) [
-        | inl same ↦
-            let own = (child-of a j y stands less e).parent in
-            let at : W (Parent m) ≡ place a j = subst (λ (b : ℕ). W (Parent b) ≡ place a j) same own in
-            let here : a ≡ n = omega arith in
-            inr (subst (Below W a) here (itself a))
-        | inr up ↦ inr (lower a j y n less e up)
-      ]
-
   -- ---- a walk that goes on with its stack
 
+  -- a node on the stack, or below one
   abbrev pub OnStack : List Waiting → ℕ → Type 0
   OnStack stack a = (v : Waiting) × Contains stack v × Below W v.node a
 
+  -- what is said of a walk that is between two nodes
   pub record StackStays (loads : List Load) (rest : List Name) (stack : List Waiting) : Type 0 where
     pub live : (a : ℕ) → OnStack stack a → IsLive (nodes.home a) × IfSome (layer_at_hand loads) (λ l. IsOfLayer l (nodes.home a))
     pub apart : AllPairs (AreApart W) (map (λ v. v.node) stack)
@@ -136,19 +102,23 @@ module _ (nodes : Nodes) (core : Core) (trees : TreesSound nodes core) where
     pub read : (a : ℕ) (name : Name) → OnStack stack a ⊎ IsWalkedAt loads a → nodes.home a ≡ under name → ¬ Contains rest name
     pub visited : (n : ℕ) → IsWalkedAt loads n → IsLive (nodes.home n) × ¬ OnStack stack n
 
+  -- a walk that rests is at no node
   resting-none : (a : ℕ) → ¬ ReachesBySpot W a resting
   resting-none a h = elim h [ ]
 
+  -- at a child it reaches what is below the node
   child-reaches : (n level k a : ℕ) → ReachesBySpot W a (at_child n level k) → Below W n a
   child-reaches n level k a (the_node l j) = itself a
   child-reaches n level k a (by_child x l j h) = lower n h.0 h.1 a h.3 h.4 h.5
 
+  -- with the next node it reaches what is below its stack
   pub next-reaches : (rest : List Name) (stack : List Waiting) (a : ℕ) → Reaches W (next_node rest stack) a → OnStack stack a
   next-reaches rest [] a (by_stack v among below) = absurd (none_in v among)
   next-reaches rest [] a (by_spot h) = absurd (resting-none a h)
   next-reaches rest (v ∷ stack) a (by_stack u among below) = (u, Contains-append_right (v ∷ []) stack u among, below)
   next-reaches rest (v ∷ stack) a (by_spot h) = (v, contains_first v stack, child-reaches v.node v.level 0 a h)
 
+  -- so the same is said of it there
   pub pop-stays : (loads : List Load) (rest : List Name) (stack : List Waiting) → StackStays loads rest stack → WalkStays nodes W loads (next_node rest stack)
   pop-stays loads rest [] h = record {
     live = λ a reaches. h.live a (next-reaches rest [] a reaches);
@@ -196,17 +166,20 @@ module _ (nodes : Nodes) (core : Core) (trees : TreesSound nodes core) where
     pub stays : WalkStays nodes W longer later
     pub less : (a : ℕ) → Reaches W later a → Reaches W at a
 
+  -- on to the next node of the stack
   goes-next : (loads longer : List Load) (at later : Position) → Goes loads longer at later → Goes loads longer at (next_node later.rest later.stack)
   goes-next loads longer at later g = record {
     stays = pop-stays longer later.rest later.stack (stack-left longer later g.stays);
     less = λ a reaches. let t = next-reaches later.rest later.stack a reaches in g.less a (by_stack t.0 t.1 t.2);
   }
 
+  -- on to the next child, or to the next node after the last
   pub goes-child : (loads longer : List Load) (at : Position) (rest : List Name) (stack : List Waiting) (n level k : ℕ) → Goes loads longer at (record { rest = rest; stack = stack; spot = at_child n level (k + 1) })
       → Goes loads longer at (next_child rest stack n level k)
   goes-child loads longer at rest stack n level k g =
       cond_both (nat_lt k 3) _ _ (Goes loads longer at) (λ more. g) (λ last. goes-next loads longer at (record { rest = rest; stack = stack; spot = at_child n level (k + 1) }) g)
 
+  -- the node at hand is reached
   pub hand-reached : (spot : Spot) (n : ℕ) → IsAtHand spot n → ReachesBySpot W n spot
   hand-reached resting n hand = absurd hand
   hand-reached (at_child m level k) n hand = subst (λ (x : ℕ). ReachesBySpot W x (at_child m level k)) hand (the_node level k)
@@ -221,6 +194,7 @@ module _ (nodes : Nodes) (core : Core) (trees : TreesSound nodes core) where
     pub begun : (n : ℕ) → IsBegun spot n → IsBegun later n
     pub waits : waiting_at later stack ≡ waiting_at spot stack
 
+  -- then what is said of it stays
   pub stay-at : (loads longer : List Load) (rest : List Name) (stack : List Waiting) (spot later : Spot) → WalkStays nodes W loads (record { rest = rest; stack = stack; spot = spot }) → ReadsAt loads longer spot later stack
       → Goes loads longer (record { rest = rest; stack = stack; spot = spot }) (record { rest = rest; stack = stack; spot = later })
   stay-at loads longer rest stack spot later h r = record {
@@ -259,13 +233,16 @@ module _ (nodes : Nodes) (core : Core) (trees : TreesSound nodes core) where
     abbrev Later : Position
     Later = record { rest = rest; stack = waiting m (suc level) ∷ stack; spot = at_child n level (k + 1) }
 
+    -- the child that was read, and what is below it
     part : (a : ℕ) → Below W m a → ReachesBySpot W a At.spot
     part a below = by_part n level k (node_child m) m read refl below
 
+    -- the later children, and the node at hand
     spot-less : (a : ℕ) → ReachesBySpot W a Later.spot → ReachesBySpot W a At.spot
     spot-less a (the_node l j) = the_node_of_bound level k (node_child m) read
     spot-less a (by_child x l j below) = by_next_child n level k (node_child m) read below
 
+    -- nothing else is reached
     less-push : (a : ℕ) → Reaches W Later a → Reaches W At a
     less-push a (by_spot reaches) = by_spot (spot-less a reaches)
     less-push a (by_stack v among below) =
@@ -274,33 +251,38 @@ module _ (nodes : Nodes) (core : Core) (trees : TreesSound nodes core) where
           | inr old ↦ by_stack v old below
         ]
 
+    -- what is reached stands
     stands : (a : ℕ) → Reaches W At a → Stands (nodes.home a)
     stands a reaches = live-stands (nodes.home a) (h.live a reaches).0
 
+    -- and so does the node at hand
     hand-stands : Stands (nodes.home n)
     hand-stands = stands n (by_spot (the_node_of_bound level k (node_child m) read))
 
-    placed : IsUnder n k m
-    placed = child-of n k m hand-stands low child
+    -- the child stands below it
+    placed : IsUnder nodes core trees n k m
+    placed = child-of nodes core trees n k m hand-stands low child
 
+    -- and not the other way round
     not-back : ¬ Below W m n
-    not-back below = let deeper = below-deeper m n (child-stands n k m hand-stands low child) below in let depth = placed.depth in omega arith
+    not-back below = let deeper = below-deeper nodes core trees m n (child-stands nodes core trees n k m hand-stands low child) below in let depth = placed.depth in omega arith
 
     -- no later child of the node at hand has it below
     not-later : (a : ℕ) → m ≡ a → ¬ ReachesBySpot W a Later.spot
     not-later a is (the_node l j) = not-back (subst (Below W m) is (itself m))
     not-later a is (by_child x l j t) =
-        let other = child-of n t.0 t.1 hand-stands t.3 t.4 in
-        let up = child-stands n t.0 t.1 hand-stands t.3 t.4 in
-        elim (below-parent t.1 m n k up placed.parent low (subst (Below W t.1) (sym is) t.5)) [
+        let other = child-of nodes core trees n t.0 t.1 hand-stands t.3 t.4 in
+        let up = child-stands nodes core trees n t.0 t.1 hand-stands t.3 t.4 in
+        elim (below-parent nodes core trees t.1 m n k up placed.parent low (subst (Below W t.1) (sym is) t.5)) [
           | inl same ↦
               let parent : W (Parent m) ≡ place n t.0 = subst (λ (b : ℕ). W (Parent b) ≡ place n t.0) same other.parent in
               let mine = placed.parent in
               let after = t.2 in
               omega arith
-          | inr back ↦ let deeper = below-deeper t.1 n up back in let depth = other.depth in omega arith
+          | inr back ↦ let deeper = below-deeper nodes core trees t.1 n up back in let depth = other.depth in omega arith
         ]
 
+    -- what is said of the walk stays
     pub pushed-goes : Goes loads longer At Later
     pushed-goes = record {
       stays = record {
@@ -309,7 +291,7 @@ module _ (nodes : Nodes) (core : Core) (trees : TreesSound nodes core) where
             (λ v among. (
               λ below. h.ahead v among (part v.node below),
               λ below.
-                  elim (below-parent v.node m n k (stands v.node (by_stack v among (itself v.node))) placed.parent low below) [
+                  elim (below-parent nodes core trees v.node m n k (stands v.node (by_stack v among (itself v.node))) placed.parent low below) [
                     | inl same ↦ h.ahead v among (part v.node (subst (λ (b : ℕ). Below W b v.node) same (itself v.node)))
                     | inr up ↦ h.behind v n among refl up
                   ],
@@ -346,6 +328,7 @@ module _ (nodes : Nodes) (core : Core) (trees : TreesSound nodes core) where
 
   module _ (loads : List Load) (new : Load) (rest : List Name) (h : WalkStays nodes W loads (record { rest = new.name ∷ rest; stack = []; spot = resting }))
       (next : IsNext new.name rest) (roots : (root : ℕ) → NamesRoot new.name new.value root → nodes.home root ≡ under new.name) where
+    -- it is the root that the word names, at level 1
     named-root : (name : Name) (value : ℕ) (v : Waiting) → Contains (roots_in name value) v → NamesRoot name value v.node × (v.level ≡ 1)
     named-root (Main l) zero v among = absurd (none_in v among)
     named-root (Main l) (suc root) v among = let same = only (waiting root 1) v among in (ap (λ (u : Waiting). suc u.node) same, ap (λ (u : Waiting). u.level) (sym same))
@@ -355,6 +338,7 @@ module _ (nodes : Nodes) (core : Core) (trees : TreesSound nodes core) where
         (λ none nothing. absurd (none_in v nothing)) among
     named-root _ value v among = absurd (none_in v among)
 
+    -- and there is one at most
     one-root : (name : Name) (value : ℕ) → AllPairs (AreApart W) (map (λ v. v.node) (roots_in name value))
     one-root (Main l) zero i j d less inside = absurd (omega arith)
     one-root (Main l) (suc root) i j d less inside = absurd (omega arith)
@@ -363,17 +347,21 @@ module _ (nodes : Nodes) (core : Core) (trees : TreesSound nodes core) where
         (λ none x y e low within. absurd (omega arith)) i j d less inside
     one-root _ value i j d less inside = absurd (omega arith)
 
+    -- what is below it is in the tree of the word
     pub on-root : (a : ℕ) → OnStack (roots_in new.name new.value) a → nodes.home a ≡ under new.name
     on-root a t =
         let home = roots t.0.node (named-root new.name new.value t.0 t.1).0 in
-        below-home t.0.node a (subst Stands (sym home) tt) t.2 ∙ home
+        below-home nodes core trees t.0.node a (subst Stands (sym home) tt) t.2 ∙ home
 
+    -- the word has a layer, and is not read again
     once : ((l : ℕ) × (layer_of new.name ≡ Some l)) × ¬ Contains rest new.name
     once = next-once new.name rest next
 
+    -- no node is walked by it yet
     pub walked-before : (n : ℕ) → IsWalkedAt (loads ++ new ∷ []) n → IsWalkedAt loads n
     walked-before n walked = elim (walked-cases loads new n walked) [ inl before ↦ before | inr last ↦ absurd (none-some once.0.0 (sym (ap layer_of last) ∙ once.0.1)) ]
 
+    -- so the walk goes on with this stack
     pub root-stays : StackStays (loads ++ new ∷ []) rest (roots_in new.name new.value)
     root-stays = record {
       live = λ a t.

@@ -18,10 +18,12 @@ use Rattle.core_query.proofs.InOrder.{IsNext, InOrder, asked-in-order}
 
 -- ---- one load more
 
+-- all loads but the last follow too
 follows-before : (query : Query) (at : Position) (loads : List Load) (new : Load) → FollowsFrom query at (loads ++ new ∷ []) → FollowsFrom query at loads
 follows-before query at [] new h = tt
 follows-before query at (l ∷ loads) new h = (h.0, follows-before query (advance query at l) loads new h.1)
 
+-- and the last one is of the word that is next then
 follows-next : (query : Query) (at : Position) (loads : List Load) (new : Load) → FollowsFrom query at (loads ++ new ∷ [])
     → next_word (replay query at loads).rest (replay query at loads).spot ≡ Some new.name
 follows-next query at [] new h = h.0
@@ -32,6 +34,7 @@ pub follows-more : (c : Config) (query : Query) (loads : List Load) (new : Load)
     → Follows c query loads × (next_word (position_of c query loads).rest (position_of c query loads).spot ≡ Some new.name)
 follows-more c query loads new h = (follows-before query (start c query) loads new h, follows-next query (start c query) loads new h)
 
+-- it moves the place by one load
 pub position-more : (c : Config) (query : Query) (loads : List Load) (new : Load) → position_of c query (loads ++ new ∷ []) ≡ advance query (position_of c query loads) new
 position-more c query loads new = fold-append (advance query) (start c query) loads (new ∷ [])
 
@@ -39,12 +42,14 @@ position-more c query loads new = fold-append (advance query) (start c query) lo
 
 module _ (query : Query) (P : List Load → Position → Type 0)
     (more : (loads : List Load) (at : Position) (new : Load) → P loads at → next_word at.rest at.spot ≡ Some new.name → P (loads ++ new ∷ []) (advance query at new)) where
+  -- from any loads on
   replay-keeps : (before later : List Load) (at : Position) → P before at → FollowsFrom query at later → P (before ++ later) (replay query at later)
   replay-keeps before [] at h follows = subst (λ (l : List Load). P l at) (sym (append-nil before)) h
   replay-keeps before (l ∷ later) at h follows =
       subst (λ (all : List Load). P all (replay query (advance query at l) later)) (append_assoc before (l ∷ []) later)
       (replay-keeps (before ++ l ∷ []) later (advance query at l) (more before at l h follows.0) follows.1)
 
+  -- and from none
   pub position-keeps : (c : Config) (loads : List Load) → P [] (start c query) → Follows c query loads → P loads (position_of c query loads)
   position-keeps c loads h follows = replay-keeps [] loads (start c query) h follows
 
@@ -64,6 +69,7 @@ IsSpot loads stack resting = stack ≡ []
 IsSpot loads stack (at_child n level k) = k < 4
 IsSpot loads stack (at_bound n level k x read) = IsHalfRead loads n k x read
 
+-- what the loads say of the place, and of the words that are still to be read
 pub record IsReplayed (loads : List Load) (at : Position) : Type 0 where
   pub order : InOrder at.rest
   pub spot : IsSpot loads at.stack at.spot
@@ -84,18 +90,22 @@ pub data Moves (query : Query) (loads : List Load) (new : Load) : Position → P
       → Moves query loads new (record { rest = rest; stack = stack; spot = at_bound n level k x read })
       (next_child rest (if query.test (read ++ new.value ∷ []) then pushed level x stack else stack) n level k)
 
+-- where the next node is walked
 next_node-replayed : (loads : List Load) (rest : List Name) (stack : List Waiting) → InOrder rest → IsReplayed loads (next_node rest stack)
 next_node-replayed loads rest [] order = record { order = order; spot = refl }
 next_node-replayed loads rest (w ∷ stack) order = record { order = order; spot = omega arith }
 
+-- where the next child is read
 next_child-replayed : (loads : List Load) (rest : List Name) (stack : List Waiting) (n level k : ℕ) → InOrder rest → IsReplayed loads (next_child rest stack n level k)
 next_child-replayed loads rest stack n level k order =
     cond_both (nat_lt k 3) _ _ (IsReplayed loads) (λ less. record { order = order; spot = grind (arith, nat_tests) }) (λ last. next_node-replayed loads rest stack order)
 
 module _ (query : Query) (loads : List Load) (new : Load) where
+  -- by the load at hand
   abbrev Move : Position → Position → Type 0
   Move at later = Moves query loads new at later
 
+  -- place by place
   moves-at : (rest : List Name) (stack : List Waiting) (spot : Spot) → IsReplayed loads (record { rest = rest; stack = stack; spot = spot }) → next_word rest spot ≡ Some new.name
       → Move (record { rest = rest; stack = stack; spot = spot }) (advance_from query rest stack spot new.value)
   moves-at [] stack resting h next = absurd (none-some new.name next)
@@ -123,9 +133,11 @@ module _ (query : Query) (loads : List Load) (new : Load) where
   abbrev Longer : List Load
   Longer = loads ++ new ∷ []
 
+  -- the last load is among them
   loaded-last : (name : Name) (value : ℕ) → name ≡ new.name → value ≡ new.value → IsLoaded Longer name value
   loaded-last name value names values = subst (Contains Longer) (λ i. record { name = sym names i; value = sym values i }) (Contains-push loads new)
 
+  -- and so are those before it
   pub loaded-before : (name : Name) (value : ℕ) → IsLoaded loads name value → IsLoaded Longer name value
   loaded-before name value h = Contains-append_left loads (new ∷ []) (record { name = name; value = value }) h
 
@@ -140,6 +152,7 @@ module _ (query : Query) (loads : List Load) (new : Load) where
             loaded-last (Bound n k q) (slice_index (read ++ new.value ∷ []) q) (ap (Bound n k) same ∙ name) (get_or_push read new.value 0 q (sym same))
       ]
 
+  -- whatever the load did
   replayed-more : (at later : Position) → Move at later → InOrder at.rest → IsReplayed Longer later
   replayed-more at later (to_root rest next order) was = next_node-replayed Longer rest (roots_in new.name new.value) order
   replayed-more at later (past_none rest stack n level k low next none) was = next_child-replayed Longer rest stack n level k was

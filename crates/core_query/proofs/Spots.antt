@@ -26,10 +26,12 @@ use Rattle.core_query.proofs.Reaching.{layer-same}
 -- ---- what is said of a bound at hand, and nothing of a walk elsewhere
 
 module _ (P : Spot → Type 0) (rests : P resting) (at_node : (n level k : ℕ) → P (at_child n level k)) where
+  -- at the next node nothing is read yet
   next-spot : (rest : List Name) (stack : List Waiting) → P (next_node rest stack).spot
   next-spot rest [] = rests
   next-spot rest (v ∷ stack) = at_node v.node v.level 0
 
+  -- nor at the next child
   child-spot : (rest : List Name) (stack : List Waiting) (n level k : ℕ) → P (next_child rest stack n level k).spot
   child-spot rest stack n level k = cond_both (nat_lt k 3) _ _ (λ (at : Position). P at.spot) (λ more. at_node n level (k + 1)) (λ last. next-spot rest stack)
 
@@ -80,6 +82,7 @@ module _ (nodes : Nodes) (core : Core) (trees : TreesSound nodes core) (query : 
           child = λ m node. now (Child n k) next;
         }
 
+    -- so wherever the walk is
     pub widens-more : (at later : Position) → Moves query walk.loads new at later → Stays at → OnlyWidens V walk at.spot → OnlyWidens V Later later.spot
     widens-more at later (to_root rest next order) h widens = next-spot (OnlyWidens V Later) tt (λ n level k. tt) rest _
     widens-more at later (past_none rest stack n level k low next none) h widens = child-spot (OnlyWidens V Later) tt (λ m l j. tt) rest stack n level k
@@ -97,13 +100,16 @@ module _ (nodes : Nodes) (core : Core) (trees : TreesSound nodes core) (query : 
     abbrev Longer : List Load
     Longer = walk.loads ++ new ∷ []
 
+    -- a bound lies in the space of the layer at hand
     abbrev BoundIn : List Load → ℕ → ℕ → Type 0
     BoundIn loads n k = IfSome (layer_at_hand loads) (λ l. IsInSpace S l (bound_in S.word n k))
 
+    -- and so does the one that is read in part
     abbrev PartIn : List Load → Spot → Type 0
     PartIn loads (at_bound n level k x read) = BoundIn loads n k
     PartIn loads _ = ⊤
 
+    -- it did so before
     part-was : (at : Position) → ReadsInSpace S walk.loads at → PartIn walk.loads at.spot
     part-was at h = go at.spot (λ i. at.spot)
       where
@@ -116,6 +122,7 @@ module _ (nodes : Nodes) (core : Core) (trees : TreesSound nodes core) (query : 
     same-layer : (name : Name) → name ≡ new.name → layer_of name ≡ None → (n k : ℕ) → BoundIn walk.loads n k → BoundIn Longer n k
     same-layer name same none n k h = subst (λ (o : Option ℕ). IfSome o (λ l. IsInSpace S l (bound_in S.word n k))) (sym (layer-same walk.loads new (ap layer_of (sym same) ∙ none))) h
 
+    -- it does so with a load more
     part-more : (at later : Position) → Moves query walk.loads new at later → Stays at → PartIn walk.loads at.spot → PartIn Longer later.spot
     part-more at later (to_root rest next order) h part = next-spot (PartIn Longer) tt (λ n level k. tt) rest _
     part-more at later (past_none rest stack n level k low next none) h part = child-spot (PartIn Longer) tt (λ m l j. tt) rest stack n level k
@@ -131,6 +138,7 @@ module _ (nodes : Nodes) (core : Core) (trees : TreesSound nodes core) (query : 
     SideIn (Bound n k q) v = IfSome (layer_at_hand walk.loads) (λ l. IsSideIn (IsInLayer S l) q v)
     SideIn _ v = ⊤
 
+    -- each side of a bound in the space lies in it
     side-of : (l n k q : ℕ) → q < 6 → IsInSpace S l (bound_in S.word n k) → IsSideIn (IsInLayer S l) q (S.word (Bound n k q))
     side-of l n k q low h =
         elim (cases_lt q 3) [
@@ -141,11 +149,13 @@ module _ (nodes : Nodes) (core : Core) (trees : TreesSound nodes core) (query : 
               (t.0, subst (λ (p : ℕ). IsInLayer S l p t.0) at t.1, (λ lo. absurd (omega arith)), (λ hi. subst (λ (p : ℕ). S.word (Bound n k p) ≤ t.0) at t.2))
         ]
 
+    -- so does the one of the bound at hand
     side-in : (n k : ℕ) (read : List ℕ) → length read < 6 → Bound n k (length read) ≡ new.name → BoundIn walk.loads n k → SideIn new.name new.value
     side-in n k read low next part =
         subst (λ (name : Name). SideIn name new.value) next
         (if_some_map (layer_at_hand walk.loads) _ _ (λ l space. subst (IsSideIn (IsInLayer S l) (length read)) (now (Bound n k (length read)) next) (side-of l n k (length read) low space)) part)
 
+    -- and no other word that is read is a side
     side-now : (at later : Position) → Moves query walk.loads new at later → PartIn walk.loads at.spot → SideIn new.name new.value
     side-now at later (to_root rest next order) part = none new.name next
       where
@@ -158,6 +168,7 @@ module _ (nodes : Nodes) (core : Core) (trees : TreesSound nodes core) (query : 
     side-now at later (by_side rest stack n level k x read half next less) part = side-in n k read half.some_left next part
     side-now at later (past_bound rest stack n level k x read half next all) part = side-in n k read half.some_left next part
 
+    -- so all that was read lies in the space
     pub space-more : (at later : Position) → Moves query walk.loads new at later → Stays at → ReadsInSpace S walk.loads at → ReadsInSpace S Longer later
     space-more at later m h reads = record {
       sides = λ before rest n k q v e.

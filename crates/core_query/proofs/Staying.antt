@@ -36,6 +36,7 @@ module _ (nodes : Nodes) (core : Core) (trees : TreesSound nodes core) (query : 
   abbrev Longer : List Load
   Longer = loads ++ new ∷ []
 
+  -- with this load
   abbrev Go : Position → Position → Type 0
   Go at later = Goes nodes core trees loads Longer at later
 
@@ -45,16 +46,20 @@ module _ (nodes : Nodes) (core : Core) (trees : TreesSound nodes core) (query : 
     abbrev At : Position
     At = record { rest = rest; stack = stack; spot = at_child n level k }
 
+    -- the node at hand is walked with its first child
     child-walked : (a : ℕ) → IsWalkedAt Longer a → IsWalkedAt loads a ⊎ (n ≡ a)
     child-walked a walked = elim (walked-cases loads new a walked) [ inl before ↦ inl before | inr last ↦ inr (same_Some n a (ap node_in (next ∙ last))) ]
 
+    -- the layer at hand is the same
     child-layer : layer_at_hand Longer ≡ layer_at_hand loads
     child-layer = layer-same loads new (ap layer_of (sym next))
 
+    -- past a child it reaches less
     none-less : (a : ℕ) → ReachesBySpot Word a (at_child n level (k + 1)) → ReachesBySpot Word a (at_child n level k)
     none-less a (the_node l j) = the_node level k
     none-less a (by_child x l j t) = by_child n level k (t.0, t.1, (let after = t.2 in omega arith), t.3, t.4, t.5)
 
+    -- a child that is not there is passed over
     none-goes : Go At (record { rest = rest; stack = stack; spot = at_child n level (k + 1) })
     none-goes =
         stay-at nodes core trees loads Longer rest stack (at_child n level k) (at_child n level (k + 1)) h (record {
@@ -66,11 +71,13 @@ module _ (nodes : Nodes) (core : Core) (trees : TreesSound nodes core) (query : 
           waits = refl;
         })
 
+    -- by a child that is there it reaches what it did
     some-less : (a : ℕ) → ReachesBySpot Word a (at_bound n level k new.value []) → ReachesBySpot Word a (at_child n level k)
     some-less a (the_node_of_bound l j x read) = the_node level k
     some-less a (by_next_child y l j x read t) = by_child n level k (t.0, t.1, (let after = t.2 in omega arith), t.3, t.4, t.5)
     some-less a (by_part y l j x m read is below) = by_child n level k (k, m, omega arith, low, ap (word_of core) next ∙ (sym value ∙ is), below)
 
+    -- its bound is read next
     some-goes : Go At (record { rest = rest; stack = stack; spot = at_bound n level k new.value [] })
     some-goes =
         stay-at nodes core trees loads Longer rest stack (at_child n level k) (at_bound n level k new.value []) h (record {
@@ -89,31 +96,38 @@ module _ (nodes : Nodes) (core : Core) (trees : TreesSound nodes core) (query : 
     abbrev Here : Position
     Here = record { rest = rest; stack = stack; spot = at_bound n level k x read }
 
+    -- no node is walked by it
     side-walked : (a : ℕ) → IsWalkedAt Longer a → IsWalkedAt loads a
     side-walked a walked = elim (walked-cases loads new a walked) [ inl before ↦ before | inr last ↦ let same : Bound n k (length read) ≡ Child a 0 = next ∙ last in absurd cc ]
 
+    -- the layer at hand is the same
     side-layer : layer_at_hand Longer ≡ layer_at_hand loads
     side-layer = layer-same loads new (ap layer_of (sym next))
 
+    -- with a side more it reaches the same
     side-less : (a : ℕ) → ReachesBySpot Word a (at_bound n level k x (read ++ new.value ∷ [])) → ReachesBySpot Word a (at_bound n level k x read)
     side-less a (the_node_of_bound l j y r) = the_node_of_bound level k x read
     side-less a (by_next_child z l j y r t) = by_next_child n level k x read t
     side-less a (by_part z l j y m r is below) = by_part n level k x m read is below
 
+    -- further sides are read
     side-goes : Go Here (record { rest = rest; stack = stack; spot = at_bound n level k x (read ++ new.value ∷ []) })
     side-goes =
         stay-at nodes core trees loads Longer rest stack (at_bound n level k x read) (at_bound n level k x (read ++ new.value ∷ [])) h
         (record { layer = side-layer; walked = λ a walked. inl (side-walked a walked); less = side-less; hand = λ a hand. hand; begun = λ a begun. begun; waits = refl })
 
+    -- past a child it reaches less
     past-less : (a : ℕ) → ReachesBySpot Word a (at_child n level (k + 1)) → ReachesBySpot Word a (at_bound n level k x read)
     past-less a (the_node l j) = the_node_of_bound level k x read
     past-less a (by_child z l j t) = by_next_child n level k x read t
 
+    -- a child whose bound does not touch, or that is a body
     past-goes : Go Here (record { rest = rest; stack = stack; spot = at_child n level (k + 1) })
     past-goes =
         stay-at nodes core trees loads Longer rest stack (at_bound n level k x read) (at_child n level (k + 1)) h
         (record { layer = side-layer; walked = λ a walked. inl (side-walked a walked); less = past-less; hand = λ a hand. hand; begun = λ a begun. (begun, omega arith); waits = refl })
 
+    -- one whose bound touches: a node goes onto the stack
     push-goes : k < 4 → x ≢ 0 → ((m : ℕ) → x ≡ node_child m → Word (Child n k) ≡ x) → Go Here (record { rest = rest; stack = pushed level x stack; spot = at_child n level (k + 1) })
     push-goes low some child =
         cond_both (x % 2 == 0) _ _ (λ (s : List Waiting). Go Here (record { rest = rest; stack = s; spot = at_child n level (k + 1) }))
@@ -135,6 +149,7 @@ module _ (nodes : Nodes) (core : Core) (trees : TreesSound nodes core) (query : 
         inl (elim from [ inl reaches ↦ inl (g.less a reaches) | inr read ↦ elim (walked a read) [ inl before ↦ inr before | inr hand ↦ inl (by_spot (hand-reached nodes core trees at.spot a hand)) ] ]);
   }
 
+  -- at a word that names a tree it comes to this tree alone
   at-root : (rest : List Name) → IsNext new.name rest → WalkStays nodes Word loads (record { rest = new.name ∷ rest; stack = []; spot = resting })
       → ReadsOn nodes Word loads new (record { rest = new.name ∷ rest; stack = []; spot = resting }) (next_node rest (roots_in new.name new.value))
   at-root rest next h =
@@ -150,6 +165,7 @@ module _ (nodes : Nodes) (core : Core) (trees : TreesSound nodes core) (query : 
             ];
       }
 
+  -- so it is wherever the walk is
   pub stays-more : (at later : Position) → Moves query loads new at later → ((n level k x : ℕ) (read : List ℕ) → at.spot ≡ at_bound n level k x read → (m : ℕ) → x ≡ node_child m → Word (Child n k) ≡ x)
       → WalkStays nodes Word loads at → ReadsOn nodes Word loads new at later
   stays-more at later (to_root rest next order) child h = at-root rest next h

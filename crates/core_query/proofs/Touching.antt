@@ -18,6 +18,7 @@ use Rattle.core_state.specs.Walking.{Query}
 use Rattle.core_state.specs.WalksLead.{since_begun}
 use Rattle.core_state.proofs.Queries.{box_of}
 
+-- the box of six words
 six-box : (l : List ℕ) → length l ≡ 6 → IsBox (sides_of l) → (b : FixBox) × (words_of b ≡ l)
 six-box (a ∷ b ∷ c ∷ d ∷ e ∷ f ∷ []) long h = box_of a b c d e f (h 0 (omega arith)) (h 1 (omega arith)) (h 2 (omega arith))
 six-box l long h = absurd (omega arith)

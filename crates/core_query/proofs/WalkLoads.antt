@@ -78,15 +78,18 @@ module _ (notes : View → Name → List ℕ) (core : Core) (step : Step) (a : A
   -- ---- a query that the loads follow
 
   module _ (query : Query) (follows : Follows core.config query Later.loads) where
+    -- it followed them before, and this word was next
     before : Follows core.config query step.view.walk.loads × (next_word (position_of core.config query step.view.walk.loads).rest (position_of core.config query step.view.walk.loads).spot ≡ Some step.name)
     before = follows-more core.config query step.view.walk.loads new follows
 
     abbrev At : Position
     At = position_of core.config query step.view.walk.loads
 
+    -- what the loads say of the place
     replayed : IsReplayed step.view.walk.loads At
     replayed = position-replayed core.config query step.view.walk.loads before.0
 
+    -- what the laws say of the walk before
     stayed : WalkStays nodes Was.word step.view.walk.loads At
     stayed = each-seat reader_scope (λ k v. refl) core _ a.laws.readers.stays step.seat step.number step.view a.at a.pass walks query before.0
 
@@ -99,9 +102,11 @@ module _ (notes : View → Name → List ℕ) (core : Core) (step : Step) (a : A
     child : (n level k x : ℕ) (sides : List ℕ) → At.spot ≡ at_bound n level k x sides → (m : ℕ) → x ≡ node_child m → Was.word (Child n k) ≡ x
     child n level k x sides e = (subst (OnlyWidens Old.word step.view.walk) e led.widens).child
 
+    -- what the load does to the place
     moved : Moves query step.view.walk.loads new At (advance query At new)
     moved = moves query step.view.walk.loads new At replayed before.1
 
+    -- what it reaches then
     reads_on : ReadsOn nodes Was.word step.view.walk.loads new At (advance query At new)
     reads_on = stays-more nodes core a.laws.trees query step.view.walk.loads new refl At (advance query At new) moved child stayed
 
@@ -133,12 +138,14 @@ module _ (notes : View → Name → List ℕ) (core : Core) (step : Step) (a : A
 
   -- ---- the step
 
+  -- no word changes
   same_word : (name : Name) → word_of (After kind core step) name ≡ word_of core name
   same_word name = word-step-unstored kind core step refl name
 
   still : IsStill kind core step
   still = record { words = λ name other. same_word name; entry = λ value. refl; task = refl; batches = refl; rebuild = refl }
 
+  -- and five laws see nothing
   light : IsLight kind core step
   light = record { reader = λ stored. absurd (false≢true stored); entry = λ value. refl; locks = refl; bodies = refl; nodes = refl; trees = refl; cover = refl }
 
@@ -148,6 +155,7 @@ module _ (notes : View → Name → List ℕ) (core : Core) (step : Step) (a : A
   abbrev left : Leaves kind core step nodes nodes No_new
   left = still-leaves kind core step still nodes
 
+  -- all is ahead still
   leads : WalksLead (After kind core step)
   leads =
       let boxes = still-boxes kind core step still a in
@@ -155,6 +163,7 @@ module _ (notes : View → Name → List ℕ) (core : Core) (step : Step) (a : A
       (λ on query follows. walk-left kind core step a nodes No_new left Later (position_of core.config query Later.loads) (stays-on query follows) boxes query (leads-on query follows))
       (begun-left kind core step a nodes No_new left)
 
+  -- what it reaches stays
   stays-in : WalkIn nodes Was Later
   stays-in on query follows = stays-on query follows
 
@@ -166,6 +175,7 @@ module _ (notes : View → Name → List ℕ) (core : Core) (step : Step) (a : A
       (λ on query follows x name from home.
       elim (known-on query follows x from) [ inl old ↦ was walks query (before query follows).0 x name old home | inr root ↦ let other : under step.name ≡ superseded number name = sym root ∙ home in absurd cc ])
 
+  -- the readers are counted still
   readers : ReadersCounted nodes (After kind core step)
   readers =
       let odd_same : Now.word (Reader step.number) % 2 ≡ Was.word (Reader step.number) % 2 = ap (λ (w : ℕ). w % 2) (same_word (Reader step.number)) in
@@ -179,6 +189,7 @@ module _ (notes : View → Name → List ℕ) (core : Core) (step : Step) (a : A
             (λ number v r off. avoids number r off) (λ r some off. avoids step.number r off);
       })
 
+  -- so all laws hold
   loads-keep : Invariants (After kind core step)
   loads-keep =
       Invariants-light kind core step a light
@@ -186,6 +197,7 @@ module _ (notes : View → Name → List ℕ) (core : Core) (step : Step) (a : A
 
 -- ---- kinds 30 to 32: a word that is no side of a bound
 
+-- it notes no bound
 abbrev notes_none : View → Name → List ℕ
 notes_none view name = view.walk.bound
 
@@ -211,6 +223,7 @@ module _ (core : Core) (step : Step) (a : Acts core step) where
   abbrev Noted : Name → List ℕ
   Noted name = bound_begun (learned core step) name
 
+  -- the pass knows the bound as it stands
   known-now : (n k : ℕ) → SameSides (bound_in (word_in walk_scope core) n k) (sides_of (bound_known (learned core step) n k))
   known-now n k q low =
       let config = (a.formed.views step.seat step.view a.at (unspent_pass step.view.role step.number a.pass)).config in

@@ -3,7 +3,7 @@ use Rattle.std.proofs.Common.{◌≡◌, ◌⊎◌, ℕ, ◌+◌, ◌*◌, ◌�
 use Rattle.std.specs.Prelude.{Contains, fold}
 use Rattle.std.proofs.lemmas.Bool.{false≢true, ne_eqb}
 use Rattle.std.proofs.lemmas.Option.{none-some}
-use Rattle.std.proofs.lemmas.List.Elements.{Contains-append_left, Contains-append_cases}
+use Rattle.std.proofs.lemmas.List.Elements.{Contains-append_left}
 use Rattle.word_map.specs.declared.name.Name.{Name}
 use Rattle.word_map.specs.declared.name.Name.TheVariants.{Child, Main, Slot}
 use Rattle.core_state.specs.declared.item.Load.{Load}
@@ -15,10 +15,8 @@ use Rattle.core_state.specs.WalkRecord.{IsCandidate}
 use Rattle.core_state.specs.Walking.{Query, asked_words}
 use Rattle.core_state.specs.ReadersCounted.{reader_scope, layer_after}
 use Rattle.core_state.specs.Invariants.{Invariants}
-use Rattle.core_state.proofs.Beginning.{cases_cons}
-use Rattle.core_state.proofs.Opening.{none_in}
 use Rattle.core_query.specs.Ends.{IsWalking, walked_to, IsAtEnd}
-use Rattle.core_query.specs.WholeRecord.{ReadChild, node_loads, nodes_to_walk, nodes_named, IsWholeRecord, nothing_left, of_word, of_node}
+use Rattle.core_query.specs.WholeRecord.{ReadChild, node_loads, nodes_named, IsWholeRecord, nothing_left, of_word, of_node}
 use Rattle.core_query.specs.Found.{IsFound, WalksOnce}
 use Rattle.core_query.specs.Clear.{IsClear, asked_layers}
 use Rattle.core_query.proofs.Asked.{behind, asked-word, asked-count}

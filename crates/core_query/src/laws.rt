@@ -57,8 +57,8 @@ pub fn walks_stay_in_the_world()
     ensures candidates { (c : Config) (query : Query) (loads : List Load) → ReadsBodies c loads → (index : ℕ) → IsCandidate query.shape loads index → index < c.bodies }
 {}
 
-/// The stack of a walk is short: trees have ten levels, and of each at most three nodes wait below the one at hand. With
-/// that one they are never more than 31, and the stack has room for one more.
+/// The nodes that wait on the stack of a walk, and the one at hand, are of at most ten levels, and together never more than
+/// 31. So a stack of 31 has room for one more.
 pub fn stacks_of_walks_are_short()
     ensures levels { (core : Core) (query : Query) (seat number : ℕ) (view : View) → Invariants core → IsWalking core query seat number view
         → (w : Waiting) → Contains (waiting_at (walked_to core query view).spot (walked_to core query view).stack) w → w.level ≤ 10 }

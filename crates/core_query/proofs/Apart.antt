@@ -1,10 +1,10 @@
 -- No word is read twice in a whole record in which no node was walked twice.
-use Rattle.std.proofs.Common.{◌≡◌, ◌≢◌, ◌⊎◌, ℕ, zero, suc, ◌+◌, ◌<◌, ◌≤◌, List, [], ◌∷◌, ◌++◌, Option, Some, None, true, false, length, refl, ap, sym, ◌∙◌, subst, inl, inr, arith}
-use Rattle.std.specs.Prelude.{Contains, AllPairs, map, flat_map, filter, ◌==◌}
+use Rattle.std.proofs.Common.{◌≡◌, ◌≢◌, ℕ, zero, suc, ◌<◌, List, [], ◌∷◌, ◌++◌, refl, ap, sym, ◌∙◌, subst, inl, inr, arith}
+use Rattle.std.specs.Prelude.{Contains, AllPairs, map, flat_map, ◌==◌}
 use Rattle.std.specs.Int.{bit_at}
 use Rattle.std.specs.List.{range_with_len}
 use Rattle.std.proofs.lemmas.Bool.{cases_Bool}
-use Rattle.std.proofs.lemmas.Option.{none-some, same_Some}
+use Rattle.std.proofs.lemmas.Option.{same_Some}
 use Rattle.std.proofs.lemmas.List.Elements.{Contains-get_or, Contains-append_cases}
 use Rattle.std.proofs.lemmas.List.Kept.{AllPairs-filter}
 use Rattle.std.proofs.lemmas.List.FromFn.{length-range_with_len, get_or-range_with_len}
@@ -35,10 +35,10 @@ module _ {X : Type 0} (R : X → X → Type 0) where
   pairs-cons x xs first later zero (suc j) d less below = first _ (Contains-get_or xs j d (omega arith))
   pairs-cons x xs first later (suc i) (suc j) d less below = later i j d (omega arith) (omega arith)
 
-  pairs-first : (x : X) (xs : List X) → AllPairs R (x ∷ xs) → (y : X) → Contains xs y → R x y
+  pub pairs-first : (x : X) (xs : List X) → AllPairs R (x ∷ xs) → (y : X) → Contains xs y → R x y
   pairs-first x xs h y among = subst (R x) among.2 (h 0 (suc among.0) y (omega arith) (omega (arith, among.1)))
 
-  pairs-rest : (x : X) (xs : List X) → AllPairs R (x ∷ xs) → AllPairs R xs
+  pub pairs-rest : (x : X) (xs : List X) → AllPairs R (x ∷ xs) → AllPairs R xs
   pairs-rest x xs h i j d less below = h (suc i) (suc j) d (omega arith) (omega arith)
 
   pairs-append : (xs ys : List X) → AllPairs R xs → AllPairs R ys → ((x y : X) → Contains xs x → Contains ys y → R x y) → AllPairs R (xs ++ ys)
@@ -49,7 +49,7 @@ module _ {X : Type 0} (R : X → X → Type 0) where
       (pairs-append xs ys (pairs-rest x xs left) right (λ z y one other. across z y (behind x xs z one) other))
 
 -- of lists that are made of others: each is apart in itself, and those of different origin are apart
-abbrev AreOther : List ℕ → Type 0
+abbrev pub AreOther : List ℕ → Type 0
 AreOther ks = AllPairs (λ a b. a ≢ b) ks
 
 pairs-flat : {X : Type 0} (R : X → X → Type 0) (f : ℕ → List X) (ks : List ℕ) → ((k : ℕ) → Contains ks k → AllPairs R (f k))
@@ -69,7 +69,7 @@ pairs-map {X = X} R f (k ∷ ks) apart other =
     (λ y among. let t = map-back f ks y among in subst (λ (z : X). R (f k) z) t.2 (apart k t.0 (pairs-first (λ a b. a ≢ b) k ks other t.0 t.1)))
     (pairs-map R f ks apart (pairs-rest (λ a b. a ≢ b) k ks other))
 
-range-other : (n : ℕ) → AreOther (range_with_len 0 n)
+pub range-other : (n : ℕ) → AreOther (range_with_len 0 n)
 range-other n i j d less below same =
     let len = length-range_with_len 0 n in
     let second : j < n = rw (← len) below in

@@ -1,11 +1,11 @@
 -- A walk whose shape is clear of the layers that it asks finds no body, and reads few words.
-use Rattle.std.proofs.Common.{◌≡◌, ◌⊎◌, ℕ, ◌+◌, ◌*◌, ◌≤◌, List, [], ◌∷◌, ◌++◌, Option, Some, None, length, refl, ap, sym, ◌∙◌, subst, inl, inr, arith}
+use Rattle.std.proofs.Common.{◌≡◌, ◌≢◌, ◌<◌, false, ◌⊎◌, ℕ, ◌+◌, ◌*◌, ◌≤◌, List, [], ◌∷◌, ◌++◌, Option, Some, None, length, refl, ap, sym, ◌∙◌, subst, inl, inr, arith}
 use Rattle.std.specs.Prelude.{Contains, fold}
 use Rattle.std.proofs.lemmas.Bool.{false≢true, ne_eqb}
 use Rattle.std.proofs.lemmas.Option.{none-some}
-use Rattle.std.proofs.lemmas.List.Elements.{Contains-append_left, Contains-append_cases}
+use Rattle.std.proofs.lemmas.List.Elements.{Contains-append_left}
 use Rattle.word_map.specs.declared.name.Name.{Name}
-use Rattle.word_map.specs.declared.name.Name.TheVariants.{Child, Main, Slot}
+use Rattle.word_map.specs.declared.name.Name.TheVariants.{Child}
 use Rattle.core_state.specs.declared.item.Load.{Load}
 use Rattle.core_state.specs.declared.view.View.{View}
 use Rattle.core_state.specs.Core.{Core}
@@ -13,19 +13,18 @@ use Rattle.core_state.specs.Encoding.{layer_of}
 use Rattle.core_state.specs.Scope.{Sight, sight}
 use Rattle.core_state.specs.WalkRecord.{IsCandidate}
 use Rattle.core_state.specs.Walking.{Query, asked_words}
-use Rattle.core_state.specs.ReadersCounted.{reader_scope, layer_after}
+use Rattle.core_state.specs.ReadersCounted.{reader_scope, layer_after, layer_at_hand}
 use Rattle.core_state.specs.Invariants.{Invariants}
-use Rattle.core_state.proofs.Beginning.{cases_cons}
-use Rattle.core_state.proofs.Opening.{none_in}
 use Rattle.core_query.specs.Ends.{IsWalking, walked_to, IsAtEnd}
-use Rattle.core_query.specs.WholeRecord.{ReadChild, node_loads, nodes_to_walk, nodes_named, IsWholeRecord, nothing_left, of_word, of_node}
+use Rattle.core_query.specs.WholeRecord.{ReadChild, six_words, node_loads, nodes_named, IsWholeRecord, nothing_left, of_word, of_node}
 use Rattle.core_query.specs.Found.{IsFound, WalksOnce}
-use Rattle.core_query.specs.Clear.{IsClear, asked_layers}
+use Rattle.core_query.specs.Clear.{IsClear, IsClearOf, asked_layers, loads_in}
 use Rattle.core_query.proofs.Asked.{behind, asked-word, asked-count}
 use Rattle.core_query.proofs.Recording.{whole-record}
-use Rattle.core_query.proofs.Pruned.{word-layer, LiesFrom, lies-later, node-ends, IsClearAt, few-loads}
+use Rattle.core_query.proofs.Pruned.{word-layer, same-layer, LiesFrom, lies-later, node-ends, IsClearAt, few-loads}
 use Rattle.core_query.proofs.Finding.{each-load, asked-layers}
 use Rattle.core_query.proofs.Walked.{candidate-found}
+use Rattle.core_query.proofs.Layers.{few-of_layer, none-touched}
 use Rattle.core_query.proofs.Ended.{reads}
 
 -- two lists that are the same have the same first element, and the same behind it
@@ -34,12 +33,6 @@ first-same x y xs ys e = cc
 
 rest-same : {X : Type 0} (x y : X) (xs ys : List X) → x ∷ xs ≡ y ∷ ys → xs ≡ ys
 rest-same x y xs ys e = cc
-
--- a load that is of no layer leaves the layer at hand
-same-layer : (o : Option ℕ) (name : Name) (value : ℕ) → layer_of name ≡ None → layer_after o (record { name = name; value = value }) ≡ o
-same-layer o (Main l) value e = absurd (none-some l (sym e))
-same-layer o (Slot l t) value e = absurd (none-some l (sym e))
-same-layer o _ value e = refl
 
 module _ (s : Sight) (query : Query) where
   -- a clear layer stays at hand while the loads are of nodes or of clear layers
@@ -117,3 +110,18 @@ module _ (core : Core) (h : Invariants core) (query : Query) (seat number : ℕ)
   clear-no_candidate once index candidate =
       clear-not_found index (candidate-found query names view.walk.loads whole
       (asked-layers core.config query.mask) once index candidate)
+
+module _ (core : Core) (h : Invariants core) (query : Query) (seat number : ℕ) (view : View) (w : IsWalking core query seat number view) (end : IsAtEnd (walked_to core query view))
+    (layer : ℕ) (clear : IsClearOf (sight reader_scope core) query.shape layer) where
+  abbrev sides-lie : LiesFrom (sight reader_scope core) None view.walk.loads
+  sides-lie = record { sides = (reads core h query seat number view w).sides }
+
+  -- one layer by itself
+  pub layer-few : loads_in layer None view.walk.loads ≤ 29 * (core.config.slots + 1)
+  layer-few =
+      few-of_layer (sight reader_scope core) query layer clear core.config view.walk.loads (whole-record core.config query view.walk.loads w.follows end) sides-lie
+      (asked-layers core.config query.mask)
+
+  pub layer-untouched : (before later : List Load) (n : ℕ) (children : ℕ → ReadChild) → view.walk.loads ≡ before ++ (node_loads n children ++ later) → layer_at_hand before ≡ Some layer
+      → (k : ℕ) → k < 4 → (children k).word ≢ 0 → query.test (six_words (children k).bound) ≡ false
+  layer-untouched before later n children = none-touched (sight reader_scope core) query layer clear view.walk.loads before later n children sides-lie

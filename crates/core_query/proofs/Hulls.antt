@@ -1,8 +1,7 @@
 -- A box in the space of a layer lies in each box that reaches as far as all that counts for it.
-use Rattle.std.proofs.Common.{ℕ, ◌+◌, ◌<◌, ◌≤◌, arith}
-use Rattle.std.specs.Prelude.{IsTrue, slice_index}
+use Rattle.std.proofs.Common.{ℕ, ◌+◌, arith}
+use Rattle.std.specs.Prelude.{IsTrue}
 use Rattle.std.proofs.lemmas.Bool.{and_from}
-use Rattle.fixed_box.specs.Corner.{on_axis}
 use Rattle.fixed_box.specs.FixBox.{words_of, contains}
 use Rattle.fixed_box.specs.Touch.{Touch}
 use Rattle.fixed_box.specs.declared.fix_box.FixBox.{FixBox}

@@ -22,4 +22,5 @@ pub mod Ended
 pub mod Cleared
 pub mod Stacks
 pub mod NextLoad
+pub mod Layers
 pub mod Hulls

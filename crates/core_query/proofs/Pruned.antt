@@ -1,5 +1,5 @@
 -- A walk whose shape is clear of the layers that it asks: of each tree it reads the root alone.
-use Rattle.std.proofs.Common.{◌≡◌, ℕ, zero, suc, ◌+◌, ◌-◌, ◌*◌, ◌<◌, ◌≤◌, List, [], ◌∷◌, ◌++◌, Option, Some, false, length, refl, ap, sym, ◌∙◌, subst, inl, inr, arith, append_assoc}
+use Rattle.std.proofs.Common.{◌≡◌, ℕ, zero, suc, ◌+◌, ◌-◌, ◌*◌, ◌<◌, ◌≤◌, List, [], ◌∷◌, ◌++◌, Option, Some, None, false, length, refl, ap, sym, ◌∙◌, subst, inl, inr, arith, append_assoc}
 use Rattle.std.specs.Prelude.{Contains, fold, map, ◌==◌, IfSome, nat_le}
 use Rattle.std.specs.List.{range_with_len}
 use Rattle.std.proofs.lemmas.Bool.{cases_Bool, cond_both}
@@ -34,12 +34,12 @@ child-few n k child =
 four-few : (a b c d : List Load) → length a ≤ 7 → length b ≤ 7 → length c ≤ 7 → length d ≤ 7 → length (a ++ (b ++ (c ++ (d ++ [])))) ≤ 28
 four-few a b c d p q r s = omega (arith, length-append {A = Load})
 
-node-few : (n : ℕ) (children : ℕ → ReadChild) → length (node_loads n children) ≤ 28
+pub node-few : (n : ℕ) (children : ℕ → ReadChild) → length (node_loads n children) ≤ 28
 node-few n children =
     four-few (child_loads n 0 (children 0)) (child_loads n 1 (children 1)) (child_loads n 2 (children 2)) (child_loads n 3 (children 3))
     (child-few n 0 (children 0)) (child-few n 1 (children 1)) (child-few n 2 (children 2)) (child-few n 3 (children 3))
 
-named-few : (name : Name) (value : ℕ) → length (nodes_named name value) ≤ 1
+pub named-few : (name : Name) (value : ℕ) → length (nodes_named name value) ≤ 1
 named-few (Main l) zero = omega arith
 named-few (Main l) (suc root) = omega arith
 named-few (Slot l t) value =
@@ -53,6 +53,12 @@ pub word-layer : (o : Option ℕ) (name : Name) (value l : ℕ) → layer_of nam
 word-layer o (Main m) value l e = e
 word-layer o (Slot m t) value l e = e
 word-layer o _ value l e = absurd (none-some l e)
+
+-- a load that is of no layer leaves the layer at hand
+pub same-layer : (o : Option ℕ) (name : Name) (value : ℕ) → layer_of name ≡ None → layer_after o (record { name = name; value = value }) ≡ o
+same-layer o (Main l) value e = absurd (none-some l (sym e))
+same-layer o (Slot l t) value e = absurd (none-some l (sym e))
+same-layer o _ value e = refl
 
 -- the loads of a child leave it
 child-layer : (o : Option ℕ) (n k : ℕ) (child : ReadChild) → fold layer_after o (child_loads n k child) ≡ o

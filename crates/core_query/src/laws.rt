@@ -1,5 +1,5 @@
 //! What is proved of the kinds of step of a walk, as the layers above use it. No call here does anything.
-ghost use Rattle.std.specs.Prelude.{◌≡◌, ◌≢◌, ℕ, ◌+◌, ◌*◌, ◌<◌, ◌≤◌, List, [], ◌∷◌, ◌++◌, length, AllPairs, Contains, Some};
+ghost use Rattle.std.specs.Prelude.{◌≡◌, ◌≢◌, ℕ, ◌+◌, ◌*◌, ◌<◌, ◌≤◌, List, [], ◌∷◌, ◌++◌, false, length, AllPairs, Contains, Some, None};
 ghost use Rattle.fixed_box.specs.Touch.{Touch};
 ghost use Rattle.fixed_box.specs.declared.fix_box.FixBox.{FixBox};
 ghost use Rattle.fixed_box.specs.declared.shape.Shape.{Shape};
@@ -12,7 +12,7 @@ ghost use Rattle.core_state.specs.declared.item.Load.{Load};
 ghost use Rattle.core_state.specs.declared.view.View.{View};
 ghost use Rattle.core_state.specs.declared.view.Waiting.{Waiting};
 ghost use Rattle.core_state.specs.Core.{Core, word_of};
-ghost use Rattle.core_state.specs.Scope.{Sight};
+ghost use Rattle.core_state.specs.Scope.{Sight, sight};
 ghost use Rattle.core_state.specs.Kind.{Steps};
 ghost use Rattle.core_state.specs.Walks.{MayBegin, begin_walk, MayEnd, end_walk, MayWalkSlot, walk_slot, MayWalkMain, walk_main, MayWalkChild, walk_child, MayWalkBound, walk_bound};
 ghost use Rattle.core_state.specs.Formed.{IsFormed};
@@ -20,11 +20,11 @@ ghost use Rattle.core_state.specs.Guards.{GuardsHold};
 ghost use Rattle.core_state.specs.Invariants.{Invariants};
 ghost use Rattle.core_state.specs.WalkRecord.{IsLoaded, IsWalked, IsCandidate};
 ghost use Rattle.core_state.specs.Walking.{Query, next_word, Follows, asked_words, position_of};
-ghost use Rattle.core_state.specs.ReadersCounted.{waiting_at};
+ghost use Rattle.core_state.specs.ReadersCounted.{reader_scope, layer_at_hand, waiting_at};
 ghost use Rattle.core_query.specs.Ends.{IsWalking, walked_to, IsAtEnd, since};
-ghost use Rattle.core_query.specs.WholeRecord.{ReadChild, IsWholeRecord};
+ghost use Rattle.core_query.specs.WholeRecord.{ReadChild, six_words, node_loads, IsWholeRecord};
 ghost use Rattle.core_query.specs.Found.{HasRead, IsFound, WalksOnce, ReadsBodies};
-ghost use Rattle.core_query.specs.Clear.{IsClear, IsClearOf, asked_layers, IsHullOf};
+ghost use Rattle.core_query.specs.Clear.{IsClear, IsClearOf, IsHullOf, asked_layers, loads_in};
 
 /// The beginning and the end of a walk keep all invariants: when it begins, each body that it has to find is ahead of it.
 pub fn walks_begin_and_end()
@@ -70,8 +70,8 @@ pub fn walks_stay_in_the_world()
     ensures candidates { (c : Config) (query : Query) (loads : List Load) → ReadsBodies c loads → (index : ℕ) → IsCandidate query.shape loads index → index < c.bodies }
 {}
 
-/// The stack of a walk is short: trees have ten levels, and of each at most three nodes wait below the one at hand. With
-/// that one they are never more than 31, and the stack has room for one more.
+/// The nodes that wait on the stack of a walk, and the one at hand, are of at most ten levels, and together never more than
+/// 31. So a stack of 31 has room for one more.
 pub fn stacks_of_walks_are_short()
     ensures levels { (core : Core) (query : Query) (seat number : ℕ) (view : View) → Invariants core → IsWalking core query seat number view
         → (w : Waiting) → Contains (waiting_at (walked_to core query view).spot (walked_to core query view).stack) w → w.level ≤ 10 }
@@ -123,6 +123,18 @@ pub fn clear_walks_read_roots_alone()
         → IsAtEnd (walked_to core query view) → IsClear core query → (index : ℕ) → ¬ IsFound query view.walk.loads index }
     ensures candidates { (core : Core) (query : Query) (seat number : ℕ) (view : View) → Invariants core → IsWalking core query seat number view
         → IsAtEnd (walked_to core query view) → IsClear core query → WalksOnce view.walk.loads → (index : ℕ) → ¬ IsCandidate query.shape view.walk.loads index }
+{}
+
+/// Of each layer by itself: where the shape touches no box in its space, a walk has made at most 29 loads for each slot and
+/// the main word while the layer was at hand, and no bound that it read then touches the shape, whatever it read elsewhere.
+pub fn clear_layers_have_few_loads()
+    ensures loads { (core : Core) (query : Query) (seat number : ℕ) (view : View) → Invariants core → IsWalking core query seat number view
+        → IsAtEnd (walked_to core query view) → (layer : ℕ) → IsClearOf (sight reader_scope core) query.shape layer
+        → loads_in layer None view.walk.loads ≤ 29 * (core.config.slots + 1) }
+    ensures untouched { (core : Core) (query : Query) (seat number : ℕ) (view : View) → Invariants core → IsWalking core query seat number view
+        → IsAtEnd (walked_to core query view) → (layer : ℕ) → IsClearOf (sight reader_scope core) query.shape layer
+        → (before later : List Load) (n : ℕ) (children : ℕ → ReadChild) → view.walk.loads ≡ before ++ (node_loads n children ++ later) → layer_at_hand before ≡ Some layer
+        → (k : ℕ) → k < 4 → (children k).word ≢ 0 → query.test (six_words (children k).bound) ≡ false }
 {}
 
 /// A shape is clear of a layer where it does not touch a box that reaches as far as all that counts for its space.

@@ -128,7 +128,7 @@ module _ (id : Id) (mode : Mode) (depth : LookDepth) (start : View) (rest : IsAt
   pub live-more : AtLive id mode depth start view → AtLive id mode depth start next
   live-more at = record { stripe = stripe-more at.stripe; deep = at.deep; guards = guards-more id mode view next more at.guards }
 
-  guarded : AtLive id mode depth start view → IsGuarded id view
+  pub guarded : AtLive id mode depth start view → IsGuarded id view
   guarded at = is-guarded id mode start view at.stripe at.guards
 
   pub join-more : (slot : ℕ) → AtJoin id mode depth start slot view → AtJoin id mode depth start slot next

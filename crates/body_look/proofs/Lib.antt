@@ -1,0 +1,3 @@
+pub mod BoxLoads
+pub mod Finding
+pub mod LookTurns

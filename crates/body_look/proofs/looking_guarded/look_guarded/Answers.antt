@@ -10,7 +10,7 @@ use Rattle.body_look.proofs.looking_guarded.look_guarded.Goals as goal
 pub from_word-requires : goal.from_word-requires
 from_word-requires c =
     let load = c.load_phase.ensures in
-    phase-low c.args.id (view_of c.load_phase.new.pass) load.guarded load.loaded.now c.load_phase.result load.loaded.word
+    record { in_range = phase-low c.args.id (view_of c.load_phase.new.pass) load.guarded load.loaded.now c.load_phase.result load.loaded.word }
 
 pub returns-in-Out-clause-found : goal.returns-in-Out-clause-found
 returns-in-Out-clause-found c =

@@ -10,7 +10,7 @@ load_phase-requires-clause-guarded c = live-guarded c.args.self.now Live (view_o
 pub from_word-requires : goal.from_word-requires
 from_word-requires c =
     let loaded = c.load_phase.ensures.loaded in
-    phase-low c.args.self.now.id (view_of c.load_phase.new.pass) c.load_phase.ensures.guarded loaded.now c.load_phase.result loaded.word
+    record { in_range = phase-low c.args.self.now.id (view_of c.load_phase.new.pass) c.load_phase.ensures.guarded loaded.now c.load_phase.result loaded.word }
 
 pub returns-in-Out-clause-turn : goal.returns-in-Out-clause-turn
 returns-in-Out-clause-turn c =

@@ -1,3 +1,4 @@
 pub mod BoxLoads
 pub mod Finding
 pub mod LookTurns
+pub mod Answering

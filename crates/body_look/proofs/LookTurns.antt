@@ -1,21 +1,19 @@
 -- The turns of a look at a body.
-use Rattle.std.proofs.Common.{◌≡◌, ◌≢◌, inl, inr, ℕ, ◌+◌, ◌<◌, ◌≤◌, List, [], ◌∷◌, None, refl, ap, sym, ◌∙◌, subst, arith}
+use Rattle.std.proofs.Common.{◌≡◌, ◌≢◌, inl, inr, ℕ, ◌<◌, ◌≤◌, [], ◌∷◌, None, refl, sym, ◌∙◌, subst, arith}
 use Rattle.body_ident.specs.Id.{Id}
 use Rattle.word_map.specs.declared.config.Config.{Config}
 use Rattle.word_map.specs.declared.name.Name.{Name}
 use Rattle.word_map.specs.declared.name.Name.TheVariants.{Lock, State, Phase, Layer, Slot}
 use Rattle.word_map.specs.Names.{stripe_of}
 use Rattle.core_state.specs.declared.view.Mode.{Mode}
-use Rattle.core_state.specs.declared.view.LockStep.{LockStep}
 use Rattle.core_state.specs.declared.view.LockStep.TheVariants.{Taken}
 use Rattle.core_state.specs.declared.view.Task.TheVariants.{Nothing}
 use Rattle.core_state.specs.declared.view.View.{View}
-use Rattle.core_state.specs.View.{IsPass, known_word}
+use Rattle.core_state.specs.View.{IsPass}
 use Rattle.core_state.specs.Encoding.{phase_join}
 use Rattle.core_state.specs.Lives.{MayLoadBody, load_body, under_stripe}
 use Rattle.core_state.proofs.Quiet.{KnowsQuietly-refl}
 use Rattle.pass_table.specs.declared.take_op.TakeOp.{TakeOp}
-use Rattle.pass_table.specs.declared.turn.Turn.{Turn}
 use Rattle.pass_table.specs.declared.turn.Turn.TheVariants.{Done, More, Again}
 use Rattle.pass_table.specs.Stepping.{Stepped}
 use Rattle.pass_table.specs.Knowing.{alone-refl, alone-trans}
@@ -36,8 +34,8 @@ use Rattle.body_look.specs.declared.look_op.LookStage.{LookStage}
 use Rattle.body_look.specs.declared.look_op.LookStage.TheVariants.{Taking, Striped, Live, Joining, Placed}
 use Rattle.body_look.specs.declared.look_op.LookOp.{LookOp}
 use Rattle.body_look.specs.Found.{IsAsked, IsFound}
-use Rattle.body_look.specs.Looking.{left_at, HasOnly, HasStripe, Guards, AtLive, AtLook, IsLooking, GuardsFound, HasLooked, IsLookTurn}
-use Rattle.body_look.specs.LookLater.{only-role, only-sizes, only-quiet, only-more, stripe-mode, guards-more, is-guarded, live-more, join-more, guarded}
+use Rattle.body_look.specs.Looking.{left_at, HasStripe, Guards, AtLive, AtLook, IsLooking, GuardsFound, HasLooked, IsLookTurn}
+use Rattle.body_look.specs.LookLater.{only-role, only-sizes, only-quiet, only-more, stripe-mode, is-guarded, live-more, join-more, guarded}
 use Rattle.body_look.proofs.Finding.{finds-out, finds-in, names-slot, finds-held, finds-joined}
 
 -- ---- turns by stages

@@ -1,6 +1,6 @@
 -- What others' steps between two turns of a look leave as it was.
 use Rattle.std.specs.Prelude.{[]}
-use Rattle.std.proofs.Common.{◌≡◌, ℕ, ◌<◌, List, ◌∷◌, ◌++◌, append_assoc, Bool, Option, Some, None, cond, refl, ap, sym, ◌∙◌, subst}
+use Rattle.std.proofs.Common.{◌≡◌, ℕ, List, ◌∷◌, ◌++◌, append_assoc, Bool, Option, Some, None, cond, refl, ap, sym, ◌∙◌, subst}
 use Rattle.std.proofs.lemmas.Bool.{eq-eqb}
 use Rattle.std.proofs.lemmas.Option.{none-some}
 use Rattle.body_ident.specs.Id.{Id}
@@ -16,7 +16,7 @@ use Rattle.core_state.specs.declared.view.Task.TheVariants.{Nothing}
 use Rattle.core_state.specs.declared.view.Joined.{Joined}
 use Rattle.core_state.specs.declared.view.Call.{Call}
 use Rattle.core_state.specs.declared.view.View.{View}
-use Rattle.core_state.specs.View.{IsPass, number_of, Holds}
+use Rattle.core_state.specs.View.{number_of, Holds}
 use Rattle.core_state.specs.Guards.{Owns, by_lock, by_creation, by_batch, by_mark, by_node, by_update, IsQuiet}
 use Rattle.core_state.specs.Quietly.{KnowsQuietly}
 use Rattle.core_state.proofs.Quiet.{append_cut, in_first, in_second}

@@ -10,9 +10,9 @@
 #![tactic(auto)]
 
 mod body_found;
-mod looking_guarded;
 mod look_op;
 mod look_turns;
+mod looking_guarded;
 mod word_loads;
 
 pub use body_found::BodyFound;

@@ -57,13 +57,7 @@ impl Operation for LookOp {
 
 impl LookOp {
     /// Begins to look at the body of an id, under its stripe in this mode; no step is made yet.
-    pub fn new(
-        world: &World,
-        pass: &mut Pass,
-        id: BodyId,
-        mode: Mode,
-        depth: LookDepth,
-    ) -> LookOp
+    pub fn new(world: &World, pass: &mut Pass, id: BodyId, mode: Mode, depth: LookDepth) -> LookOp
         requires idle { IsIdle world.now pass.old }
         requires below { id.index < world.now.map.bodies }
         ensures pass { pass.new ≡ pass.old }

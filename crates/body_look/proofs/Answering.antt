@@ -20,12 +20,12 @@ use Rattle.core_state.specs.declared.view.View.{View}
 use Rattle.core_state.specs.View.{HoldsNot}
 use Rattle.core_state.specs.Guards.{scene_at}
 use Rattle.pass_table.specs.Holding.{IsAtRest}
-use Rattle.pass_table.specs.Calls.{Adds, AtPoint, IsCalling}
-use Rattle.pass_table.specs.Work.{Work, with_lock, HasWorked}
+use Rattle.pass_table.specs.Calls.{Adds, AtPoint}
+use Rattle.pass_table.specs.Work.{Work, begun, with_lock, HasWorked}
 use Rattle.pass_table.specs.Bodies.{IsGoneAt, IsTold, HasKnownBody}
-use Rattle.pass_table.proofs.Calling.{point-now, calling-mode}
+use Rattle.pass_table.proofs.Calling.{point-now}
 use Rattle.pass_table.proofs.LockedBodies.{told-body}
-use Rattle.pass_table.proofs.WorkLater.{tells-alone, worked-role, worked-sizes}
+use Rattle.pass_table.proofs.WorkLater.{tells-alone, worked-role, worked-sizes, worked-mode}
 use Rattle.pass_table.proofs.Working.{adds-then}
 use Rattle.body_look.specs.declared.body_found.BodyFound.{BodyFound}
 use Rattle.body_look.specs.declared.body_found.BodyFound.TheVariants.{Gone, Live, Out, In, Held, Joined}
@@ -58,7 +58,7 @@ module _ (id : Id) (mode : Mode) (start next : View) (stripe : HasStripe id mode
 
   -- what is so of the log, in a world of these sizes
   pub looked-point : (fact : Config → List Item → Type 0) → fact next.config next.known → AtPoint start next (fact start.config)
-  looked-point fact holds = point-now start next [] (fact start.config) stripe.calling.adds (subst (λ (c : Config). fact c next.known) stripe-sizes holds)
+  looked-point fact holds = point-now start next [] (fact start.config) stripe.worked.adds (subst (λ (c : Config). fact c next.known) stripe-sizes holds)
 
   -- the body is gone
   pub gone-point : (state : ℕ) → IsFound id next (Gone state) → AtPoint start next (IsGoneAt start.config id state)
@@ -71,7 +71,7 @@ module _ (id : Id) (mode : Mode) (start next : View) (stripe : HasStripe id mode
   -- no other lock is held
   pub no-other : IsAtRest start → (lock : ℕ) → lock ≢ stripe_of next.config id.index → HoldsNot next lock
   no-other rest lock other =
-      calling-mode start next next stripe_steps Nothing [] stripe.calling rest lock
+      worked-mode start next _ stripe.worked rest lock
       ∙ ap (λ (t : Bool). cond {A = Option Mode} t (Some mode) None)
       (ne_eqb (stripe_of start.config id.index) lock (λ same. other (sym same ∙ ap (λ (c : Config). stripe_of c id.index) (sym stripe-sizes))))
 
@@ -82,11 +82,11 @@ pub worked-looked : (start mid next : View) (w : Work) (id : Id) (mode : Mode) �
     → HasWorked start next (with_lock w (Taken (stripe_of start.config id.index) mode))
 worked-looked start mid next w id mode worked none stripe =
     subst (λ (c : Config). HasWorked start next (with_lock w (Taken (stripe_of c id.index) mode))) (worked-sizes start mid w worked) (record {
-      adds = subst (Adds start next) (append-nil w.entries) (adds-then start mid next w.entries [] (worked-role start mid w worked) worked.adds calling.adds);
+      adds = subst (Adds start next) (append-nil w.entries) (adds-then start mid next w.entries [] (worked-role start mid w worked) worked.adds looked.adds);
       tells = tells-alone start mid next w.stores (Lock lock) (worked-role start mid w worked) worked.tells stripe.alone refl;
-      doing = calling.doing ∙ sym none;
+      doing = looked.doing ∙ sym none;
       left =
-          calling.left
+          looked.left
           ∙ (ap (λ (v : View). record v { known = next.known; joined = next.joined; locks = v.locks ++ Taken lock mode ∷ []; call = next.call }) worked.left
           ∙ (λ i. record start {
             known = next.known;
@@ -102,5 +102,5 @@ worked-looked start mid next w id mode worked none stripe =
     lock : ℕ
     lock = stripe_of mid.config id.index
 
-    calling : IsCalling mid next (Taken lock mode ∷ []) Nothing []
-    calling = stripe.calling
+    looked : HasWorked mid next (record (begun mid) { steps = Taken lock mode ∷ [] })
+    looked = stripe.worked

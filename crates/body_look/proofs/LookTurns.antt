@@ -7,7 +7,6 @@ use Rattle.word_map.specs.declared.name.Name.TheVariants.{Lock, State, Phase, La
 use Rattle.word_map.specs.Names.{stripe_of}
 use Rattle.core_state.specs.declared.view.Mode.{Mode}
 use Rattle.core_state.specs.declared.view.LockStep.TheVariants.{Taken}
-use Rattle.core_state.specs.declared.view.Task.TheVariants.{Nothing}
 use Rattle.core_state.specs.declared.view.View.{View}
 use Rattle.core_state.specs.View.{IsPass}
 use Rattle.core_state.specs.Encoding.{phase_join}
@@ -22,7 +21,8 @@ use Rattle.pass_table.specs.Turning.{IsUnderWay, AtMostOneStep, MadeBy, Turned, 
 use Rattle.pass_table.specs.TakeTurns.{taking_of, IsTaking, HasTaken, turns_left}
 use Rattle.pass_table.specs.Bodies.{IsGuarded, Loaded, live_state, KnowsLive}
 use Rattle.pass_table.proofs.Bodies.{loaded-body, body-load-step, body-load-made, gone-now}
-use Rattle.pass_table.proofs.Calling.{some-left, calling-begun, taken-calling, waiting-calling}
+use Rattle.pass_table.proofs.Calling.{some-left}
+use Rattle.pass_table.proofs.Working.{worked-begun, worked-taken, worked-waited}
 use Rattle.pass_table.proofs.TakingTurns.{taking-anew}
 use Rattle.pass_table.proofs.Between.{more-refl}
 use Rattle.pass_table.proofs.LockedBodies.{guarded-tells, layer-below}
@@ -105,7 +105,7 @@ looking-begun id mode depth view next taking lock number same pass below rest st
       below = below;
       rest = rest;
       stage = record {
-        only = record { calling = calling-begun view number pass rest; alone = alone-refl view (Lock (stripe_of view.config id.index)); quiet = KnowsQuietly-refl view };
+        only = record { worked = worked-begun view number pass rest; alone = alone-refl view (Lock (stripe_of view.config id.index)); quiet = KnowsQuietly-refl view };
         goes = subst (λ (l : ℕ). IsTaking (taking_of l mode) view taking view) same (subst (IsTaking (taking_of lock mode) view taking) still goes);
       };
     })
@@ -117,7 +117,7 @@ module _ (id : Id) (mode : Mode) (depth : LookDepth) (start view next : View) (r
   -- it was taken
   pub stripe-taken : HasTaken (taking_of (stripe_of start.config id.index) mode) view next → HasStripe id mode start next
   stripe-taken taken = record {
-    calling = taken-calling start view next [] Nothing [] (stripe_of start.config id.index) mode at.only.calling taken made;
+    worked = worked-taken start view next _ at.only.worked (stripe_of start.config id.index) mode taken made;
     alone = alone-trans start view next (Lock (stripe_of start.config id.index)) (only-role id start view [] at.only) at.only.alone taken.alone;
     quiet = only-quiet id start view [] at.only rest next taken.quiet;
   }
@@ -126,7 +126,7 @@ module _ (id : Id) (mode : Mode) (depth : LookDepth) (start view next : View) (r
   pub stripe-tried : (after : TakeOp) → IsTaking (taking_of (stripe_of start.config id.index) mode) view after next → AtLook id mode depth start (Taking after) next
   stripe-tried after goes = record {
     only = record {
-      calling = waiting-calling start view next [] Nothing [] at.only.calling goes.waited made;
+      worked = worked-waited start view next _ at.only.worked (stripe_of start.config id.index) goes.waited made goes.alone;
       alone = alone-trans start view next (Lock (stripe_of start.config id.index)) (only-role id start view [] at.only) at.only.alone goes.alone;
       quiet = only-quiet id start view [] at.only rest next goes.quiet;
     };
@@ -177,7 +177,7 @@ guards-live id mode start view rest below stripe live number pass = record {
   stripe = stripe-mode id mode start view rest stripe;
   below = subst (λ (c : Config). id.index < c.bodies) (sym (only-sizes id start view (Taken (stripe_of start.config id.index) mode ∷ []) stripe)) below;
   state = live;
-  done = stripe.calling.doing;
+  done = stripe.worked.doing;
 }
 
 module _ (before : LookOp) (view next : View) (index state : ℕ) (at : before.stage ≡ Striped) (names : index ≡ before.id.index) (stepped : Stepped MayLoadBody load_body view (State index) 0 0 state next) where

@@ -12,7 +12,6 @@ use Rattle.core_state.specs.declared.item.Item.{Item}
 use Rattle.core_state.specs.declared.view.Mode.{Mode}
 use Rattle.core_state.specs.declared.view.LockStep.{LockStep}
 use Rattle.core_state.specs.declared.view.LockStep.TheVariants.{Taken}
-use Rattle.core_state.specs.declared.view.Task.TheVariants.{Nothing}
 use Rattle.core_state.specs.declared.view.Joined.{Joined}
 use Rattle.core_state.specs.declared.view.Call.{Call}
 use Rattle.core_state.specs.declared.view.View.{View}
@@ -23,9 +22,9 @@ use Rattle.core_state.proofs.Quiet.{append_cut, in_first, in_second}
 use Rattle.pass_table.specs.Knowing.{KnowsMore, alone-trans, more-alone}
 use Rattle.pass_table.specs.Holding.{IsAtRest}
 use Rattle.pass_table.specs.TakeTurns.{taking-later, more-quiet}
-use Rattle.pass_table.specs.Calls.{IsCalling}
+use Rattle.pass_table.specs.Work.{begun, HasWorked}
 use Rattle.pass_table.specs.Bodies.{IsGuarded}
-use Rattle.pass_table.proofs.Calling.{calling-role, calling-sizes, calling-mode, calling-more, calling-pass}
+use Rattle.pass_table.proofs.WorkLater.{worked-role, worked-sizes, worked-pass, worked-mode, worked-more}
 use Rattle.pass_table.proofs.TakingTurns.{taking-anew}
 use Rattle.pass_table.proofs.LockedBodies.{guarding-more, layer-stays, phase-stays}
 use Rattle.body_look.specs.declared.look_op.LookDepth.{LookDepth}
@@ -60,8 +59,8 @@ module _ (start : View) (rest : IsAtRest start) (known : List Item) (joined : Op
   }
 
 -- what a call comes to know quietly, that a pass began at rest
-quiet-on : (start view next : View) (steps : List LockStep) → IsAtRest start → IsCalling start view steps Nothing [] → KnowsQuietly start view → KnowsQuietly view next → KnowsQuietly start next
-quiet-on start view next steps rest calling one two = record {
+quiet-on : (start view next : View) (steps : List LockStep) → IsAtRest start → HasWorked start view (record (begun start) { steps = steps }) → KnowsQuietly start view → KnowsQuietly view next → KnowsQuietly start next
+quiet-on start view next steps rest worked one two = record {
   since = one.since ++ two.since;
   known = two.known ∙ (ap (λ (l : List Item). l ++ two.since) one.known ∙ append_assoc start.known one.since two.since);
   quiet = λ early later item parts.
@@ -73,7 +72,7 @@ quiet-on start view next steps rest calling one two = record {
             in
             was-quiet start rest view.known view.joined (start.locks ++ steps) view.call start.config (start.known ++ early) item
             (subst (λ (l : List Item). IsQuiet start.config (record start { known = view.known; joined = view.joined; locks = start.locks ++ steps; call = view.call }) l item) same
-            (subst (λ (v : View). IsQuiet v.config v (view.known ++ front) item) calling.left (two.quiet front later item q)))
+            (subst (λ (v : View). IsQuiet v.config v (view.known ++ front) item) worked.left (two.quiet front later item q)))
       ];
 }
 
@@ -81,20 +80,20 @@ quiet-on start view next steps rest calling one two = record {
 
 module _ (id : Id) (start view : View) (steps : List LockStep) (only : HasOnly id start steps view) where
   pub only-role : view.role ≡ start.role
-  only-role = calling-role start view view steps Nothing [] only.calling
+  only-role = worked-role start view _ only.worked
 
   pub only-sizes : view.config ≡ start.config
-  only-sizes = calling-sizes start view view steps Nothing [] only.calling
+  only-sizes = worked-sizes start view _ only.worked
 
   pub only-quiet : IsAtRest start → (next : View) → KnowsQuietly view next → KnowsQuietly start next
-  only-quiet rest next quiet = quiet-on start view next steps rest only.calling only.quiet quiet
+  only-quiet rest next quiet = quiet-on start view next steps rest only.worked only.quiet quiet
 
   -- others made steps, or the pass loaded a word
   pub only-more : IsAtRest start → (next : View) → KnowsMore view next → HasOnly id start steps next
   only-more rest next more =
       let lock = Lock (stripe_of start.config id.index) in
       record {
-        calling = calling-more start view next steps Nothing [] only.calling more;
+        worked = worked-more start view next _ only.worked more;
         alone = alone-trans start view next lock only-role only.alone (more-alone view next lock more);
         quiet = only-quiet rest next (more-quiet view next more);
       }
@@ -105,7 +104,7 @@ stripe-mode id mode start view rest stripe =
     let steps : List LockStep = Taken (stripe_of start.config id.index) mode ∷ [] in
     let held = stripe_of start.config id.index in
     subst (λ (c : Config). Holds view (stripe_of c id.index) mode) (sym (only-sizes id start view steps stripe))
-    (calling-mode start view view steps Nothing [] stripe.calling rest held ∙ ap (λ (t : Bool). cond {A = Option Mode} t (Some mode) None) (eq-eqb held held refl))
+    (worked-mode start view _ stripe.worked rest held ∙ ap (λ (t : Bool). cond {A = Option Mode} t (Some mode) None) (eq-eqb held held refl))
 
 -- ---- stages
 
@@ -116,10 +115,8 @@ guards-more id mode view next more guards number pass = guarding-more number id 
 -- and is one of some pass
 pub is-guarded : (id : Id) (mode : Mode) (start view : View) → HasStripe id mode start view → Guards id mode view → IsGuarded id view
 is-guarded id mode start view stripe guards =
-    let calling = stripe.calling in
-    let steps : List LockStep = Taken (stripe_of start.config id.index) mode ∷ [] in
-    let number = calling.adds.number in
-    (number, mode, guards number (calling-pass start view view steps Nothing [] calling))
+    let number = stripe.worked.adds.number in
+    (number, mode, guards number (worked-pass start view _ stripe.worked))
 
 module _ (id : Id) (mode : Mode) (depth : LookDepth) (start : View) (rest : IsAtRest start) (view next : View) (more : KnowsMore view next) where
   pub stripe-more : HasStripe id mode start view → HasStripe id mode start next

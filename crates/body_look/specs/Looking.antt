@@ -7,7 +7,6 @@ use Rattle.word_map.specs.Names.{stripe_of}
 use Rattle.core_state.specs.declared.view.Mode.{Mode}
 use Rattle.core_state.specs.declared.view.LockStep.{LockStep}
 use Rattle.core_state.specs.declared.view.LockStep.TheVariants.{Taken}
-use Rattle.core_state.specs.declared.view.Task.TheVariants.{Nothing}
 use Rattle.core_state.specs.declared.view.View.{View}
 use Rattle.core_state.specs.View.{IsPass, known_word}
 use Rattle.core_state.specs.Encoding.{phase_join}
@@ -17,7 +16,8 @@ use Rattle.pass_table.specs.declared.take_op.TakeOp.{TakeOp}
 use Rattle.pass_table.specs.Knowing.{StoresAlone}
 use Rattle.pass_table.specs.Holding.{IsAtRest}
 use Rattle.pass_table.specs.TakeTurns.{taking_of, IsTaking, turns_left}
-use Rattle.pass_table.specs.Calls.{IsCalling, IsTurn}
+use Rattle.pass_table.specs.Calls.{IsTurn}
+use Rattle.pass_table.specs.Work.{begun, HasWorked}
 use Rattle.pass_table.specs.Bodies.{IsCurrent, IsGuarding}
 use Rattle.body_look.specs.declared.body_found.BodyFound.{BodyFound}
 use Rattle.body_look.specs.declared.body_found.BodyFound.TheVariants.{Gone}
@@ -54,7 +54,7 @@ look_left operation = left_at operation.depth operation.stage
 -- Since the look was begun the pass has made these steps on locks, no entry, and no store but of the word of the body's
 -- stripe. Nothing that it has for itself was stored by others
 pub record HasOnly (id : Id) (start : View) (steps : List LockStep) (view : View) : Type 0 where
-  pub calling : IsCalling start view steps Nothing []
+  pub worked : HasWorked start view (record (begun start) { steps = steps })
   pub alone : StoresAlone start view (Lock (stripe_of start.config id.index))
   pub quiet : KnowsQuietly start view
 

@@ -1,7 +1,6 @@
 //! Loads of the words of a body whose stripe is held, one step each; and its box, in six.
 //!
-//! Others may act meanwhile, and so the word of a slot may change again at once. The state, the layer, the user number and
-//! the box of the body stand while its stripe is held, and so does its phase word.
+//! Others may act meanwhile, and so the word of a slot or of the first location may be another at once.
 ghost use Rattle.std.specs.Prelude.{◌≡◌, ◌<◌, ℕ, None, slice_index};
 ghost use Rattle.fixed_box.specs.FixBox.{words_of};
 ghost use Rattle.word_map.specs.Names.{IsName};
@@ -128,7 +127,7 @@ pub fn load_slot(world: &World, pass: &mut Pass, id: BodyId, layer: u32, slot: u
     step_17(world, pass, Name::Slot(layer, slot))
 }
 
-/// Loads the box, in six steps. It is the box of the body at each of them.
+/// Loads the box, in six steps. Its words are those that the pass then knows.
 pub fn load_box(world: &World, pass: &mut Pass, id: BodyId) -> FixBox
     requires of { IsOf world.now pass.old }
     requires guarded { IsGuarded id (view_of pass.old) }

@@ -19,7 +19,7 @@ use Rattle.core_state.specs.Event.{loads_body, of_bodies}
 use Rattle.pass_table.specs.Stepping.{Stepped}
 use Rattle.pass_table.specs.Knowing.{KnowsMore}
 use Rattle.pass_table.specs.Holding.{MayLetGo, LetGo, IsAtRest}
-use Rattle.pass_table.specs.Turning.{IsUnderWay, Turned, LostLock, IsHeldUp, AtMostOneStep, MadeBy}
+use Rattle.pass_table.specs.Turning.{IsUnderWay, Turned, LostLock, IsHeldUp, AtMostOneStep, MadeBy, LoadsNow}
 use Rattle.pass_table.specs.declared.turn.Turn.TheVariants.{Done, More, Again}
 use Rattle.pass_table.specs.Trying.{Waited, with_taken}
 use Rattle.pass_table.specs.TakeTurns.{taking_of, IsTaking, HasTaken, turns_left}
@@ -34,7 +34,7 @@ use Rattle.pass_table.proofs.Bodies.{loaded-body, gone-now}
 use Rattle.body_lock.specs.declared.lock_op.LockOp.{LockOp}
 use Rattle.body_lock.specs.declared.lock_op.LockStage.{LockStage}
 use Rattle.body_lock.specs.declared.lock_op.LockStage.TheVariants.{Taking, Held, Leaving}
-use Rattle.body_lock.specs.Locking.{turns_from, lock_left, HasStripe, TakesStripe, FoundGone, IsAtStage, IsLocking, IsLockingSo, HasLocked, HasReadLock, HasWriteLock, WasGone, IsLockTurn}
+use Rattle.body_lock.specs.Locking.{turns_from, lock_left, HasStripe, TakesStripe, FoundGone, IsAtStage, IsLocking, IsLockingSo, HasLocked, HasReadLock, HasWriteLock, WasGone, IsLockTurn, lock_takes, takes_at}
 use Rattle.body_lock.proofs.Letting.{let-go-step, let-go-made, let-go-calling, calling-rests}
 
 -- ---- one lock
@@ -158,12 +158,8 @@ module _ (operation : LockOp) (taking : TakeOp) (view next : View) (stage : oper
         stage = stripe-taken first.id first.mode start view next locking.rest at.calling (answers (taking_of (stripe_of start.config first.id.index) first.mode) start at.goes) by;
       }
 
-  take-at : (under_way : IsUnderWay IsLocking operation view) → TakesStripe under_way.first.id under_way.first.mode under_way.start taking view
-  take-at under_way =
-      subst (λ (s : LockStage). IsAtStage under_way.first.id under_way.first.mode under_way.start s view) stage under_way.goes.stage
-
-  take-mode : IsUnderWay IsLocking operation view → taking.mode ≡ operation.mode
-  take-mode under_way = (take-at under_way).goes.mode ∙ sym under_way.goes.mode
+  take-takes : Some taking ≡ lock_takes operation
+  take-takes = sym (ap takes_at stage)
 
   take-left : lock_left operation ≡ suc (suc (turns_left taking))
   take-left = ap turns_from stage
@@ -174,31 +170,34 @@ module _ (operation : LockOp) (taking : TakeOp) (view next : View) (stage : oper
     step = step;
     made = by;
     turned = inl (let left = take-left in let some = some-left taking in omega arith);
+    loads = tt;
     keeps = take-done answers;
     answered = λ first start locking. tt;
   }
 
-  module _ (after : TakeOp) (step : AtMostOneStep view next) (under_way : IsUnderWay IsLocking operation view) (keeps : (first : TakeOp) (start : View) → IsTaking first start taking view → IsTaking first start after next) where
+  module _ (after : TakeOp) (step : AtMostOneStep view next) (loads : LoadsNow view next (Some after)) (keeps : (first : TakeOp) (start : View) → IsTaking first start taking view → IsTaking first start after next) where
     -- one after which less is to do, or whose exchange was lost
-    pub take-goes : Turned {T = Unit {0}} More view next taking.mode (turns_left taking) (turns_left after) → IsLockTurn More operation (record operation { stage = Taking after }) view next
+    pub take-goes : Turned {T = Unit {0}} More view next (Some taking) (turns_left taking) (turns_left after) → IsLockTurn More operation (record operation { stage = Taking after }) view next
     take-goes turned = record {
       step = step;
       made = by;
       turned = elim turned [
         | inl less ↦ inl (let left = take-left in omega arith)
-        | inr more ↦ inr (let left = take-left in let one = more.0 in omega arith, subst (LostLock view next) (take-mode under_way) more.1)
+        | inr more ↦ inr (let left = take-left in let one = more.0 in omega arith, subst (LostLock view next) take-takes more.1)
       ];
+      loads = loads;
       keeps = take-keeps after keeps;
       answered = λ first start locking. tt;
     }
 
     -- one that found a holder
-    pub take-waits : (lock found : ℕ) → Turned {T = Unit {0}} (Again lock found) view next taking.mode (turns_left taking) (turns_left after)
+    pub take-waits : (lock found : ℕ) → Turned {T = Unit {0}} (Again lock found) view next (Some taking) (turns_left taking) (turns_left after)
         → IsLockTurn (Again lock found) operation (record operation { stage = Taking after }) view next
     take-waits lock found turned = record {
       step = step;
       made = by;
-      turned = (let left = take-left in let same = turned.0 in omega arith, subst (λ (m : Mode). IsHeldUp view next m lock found) (take-mode under_way) turned.1);
+      turned = (let left = take-left in let same = turned.0 in omega arith, subst (λ (t : Option TakeOp). IsHeldUp view next t lock found) take-takes turned.1);
+      loads = loads;
       keeps = take-keeps after keeps;
       answered = λ first start locking. tt;
     }
@@ -265,7 +264,7 @@ module _ (operation : LockOp) (view next : View) (stage : operation.stage ≡ He
 
   pub state-live : (seq : ℕ) → seq ≡ operation.id.seq → state ≡ live_state seq → IsLockTurn (Done (Ok tt)) operation operation view next
   state-live seq same live =
-      record { step = state-step; made = state-made; turned = tt; keeps = λ first start locking. tt; answered = state-answers seq same live }
+      record { step = state-step; made = state-made; turned = tt; loads = tt; keeps = λ first start locking. tt; answered = state-answers seq same live }
 
   -- it is gone
   state-keeps : (seq : ℕ) → seq ≡ operation.id.seq → state ≢ live_state seq
@@ -285,6 +284,7 @@ module _ (operation : LockOp) (view next : View) (stage : operation.stage ≡ He
     step = state-step;
     made = state-made;
     turned = inl (let left : lock_left operation ≡ 2 = ap turns_from stage in omega arith);
+    loads = tt;
     keeps = state-keeps seq same other;
     answered = λ first start locking. tt;
   }
@@ -320,6 +320,7 @@ module _ (operation : LockOp) (view : View) (c : Config) (sizes : view.config �
     step = let-go-step view next (stripe_of c operation.id.index) found go;
     made = let-go-made view next (stripe_of c operation.id.index) found go;
     turned = tt;
+    loads = tt;
     keeps = λ first start locking. tt;
     answered = leave-answers next found go;
   }

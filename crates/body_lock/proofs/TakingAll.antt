@@ -14,12 +14,12 @@ use Rattle.core_state.specs.declared.view.View.{View}
 use Rattle.core_state.specs.Log.{IsPrefix}
 use Rattle.core_state.specs.View.{mode_of, mode_after}
 use Rattle.pass_table.specs.declared.take_op.TakeOp.{TakeOp}
-use Rattle.pass_table.specs.TakeTurns.{taking_of, IsTaking, HasTaken, turns_after, turns_left}
+use Rattle.pass_table.specs.TakeTurns.{taking_of, IsTaking, HasTaken, turns_after, turns_left, LoadedNone}
 use Rattle.pass_table.specs.Trying.{Leaves, with_taken}
-use Rattle.pass_table.specs.Turning.{IsUnderWay, Turned, LostLock, IsHeldUp, AtMostOneStep, MadeBy}
+use Rattle.pass_table.specs.Turning.{IsUnderWay, Turned, LostLock, IsHeldUp, AtMostOneStep, MadeBy, LoadsNow}
 use Rattle.pass_table.specs.declared.turn.Turn.TheVariants.{More, Again}
 use Rattle.pass_table.specs.Calls.{IsCalling}
-use Rattle.pass_table.proofs.TakingTurns.{taking-anew}
+use Rattle.pass_table.proofs.TakingTurns.{taking-anew, loads-none}
 use Rattle.pass_table.proofs.Calling.{some-left, calling-made, calling-on}
 use Rattle.pass_table.proofs.Between.{more-refl}
 use Rattle.body_lock.specs.declared.multi_guard.LockedBody.{LockedBody}
@@ -29,7 +29,7 @@ use Rattle.body_lock.specs.declared.multi_op.MultiStage.TheVariants.{Taking, Hel
 use Rattle.body_lock.specs.declared.multi_op.LockMultiOp.{LockMultiOp}
 use Rattle.body_lock.specs.declared.stripe_set.StripeSet.{StripeSet}
 use Rattle.body_lock.specs.Stripes.{has_stripe, IsNext, HasNone, AreStripesOf, HoldsBelow, HoldsAll}
-use Rattle.body_lock.specs.LockingAll.{wanted_ids, body_ids, turns_of, multi_left, IsEntryRight, TakesNext, IsAtMulti, IsLockingAll, IsMultiTurn, ComesAfter}
+use Rattle.body_lock.specs.LockingAll.{wanted_ids, body_ids, turns_of, multi_left, IsEntryRight, TakesNext, IsAtMulti, IsLockingAll, IsMultiTurn, ComesAfter, multi_takes, takes_at}
 
 -- ---- the stripes of ids
 
@@ -210,12 +210,9 @@ module _ (operation : LockMultiOp) (stripe : ℕ) (taking : TakeOp) (view next :
 
   -- ---- what these turns owe
 
-  module _ (step : AtMostOneStep view next) (under_way : IsUnderWay IsLockingAll operation view) where
-    take-at : TakesNext under_way.first.stripes.bits under_way.first.mode operation.bodies.items stripe taking view
-    take-at = at-taking under_way.first under_way.start under_way.goes
-
-    take-mode : taking.mode ≡ operation.mode
-    take-mode = take-at.goes.mode ∙ sym under_way.goes.mode
+  module _ (step : AtMostOneStep view next) where
+    take-takes : Some taking ≡ multi_takes operation
+    take-takes = sym (ap takes_at stage)
 
     all-left : multi_left operation ≡ turns_left taking + (2 * (64 - stripe) + length operation.wanted.items)
     all-left = ap (turns_of (length operation.wanted.items) (length operation.bodies.items)) stage
@@ -232,38 +229,41 @@ module _ (operation : LockMultiOp) (stripe : ℕ) (taking : TakeOp) (view next :
     after-less bits mode Held comes = let some = some-left taking in omega arith
 
     pub all-took : ((first : TakeOp) (start : View) → IsTaking first start taking view → HasTaken first start next) → (after : MultiStage) (last : View) → last ≡ next
-        → ComesAfter operation.stripes.bits operation.mode (suc stripe) next after → IsMultiTurn More operation (record operation { stage = after }) view last
-    all-took answers after last same comes =
+        → ComesAfter operation.stripes.bits operation.mode (suc stripe) next after → LoadedNone (takes_at after) → IsMultiTurn More operation (record operation { stage = after }) view last
+    all-took answers after last same comes unloaded =
         subst (IsMultiTurn More operation (record operation { stage = after }) view) (sym same)
         (record {
           step = step;
           made = by;
           turned = inl (let left = all-left in let less = after-less operation.stripes.bits operation.mode after comes in omega arith);
+          loads = loads-none view next (takes_at after) unloaded;
           keeps = all-done answers after next refl comes;
           answered = λ first start locking. tt;
         })
 
-    module _ (after : TakeOp) (keeps : (first : TakeOp) (start : View) → IsTaking first start taking view → IsTaking first start after next) where
+    module _ (after : TakeOp) (loads : LoadsNow view next (Some after)) (keeps : (first : TakeOp) (start : View) → IsTaking first start taking view → IsTaking first start after next) where
       -- one after which less is to do, or whose exchange was lost
-      pub all-goes : Turned {T = Unit {0}} More view next taking.mode (turns_left taking) (turns_left after) → IsMultiTurn More operation (record operation { stage = Taking stripe after }) view next
+      pub all-goes : Turned {T = Unit {0}} More view next (Some taking) (turns_left taking) (turns_left after) → IsMultiTurn More operation (record operation { stage = Taking stripe after }) view next
       all-goes turned = record {
         step = step;
         made = by;
         turned = elim turned [
           | inl less ↦ inl (let left = all-left in omega arith)
-          | inr more ↦ inr (let left = all-left in let one = more.0 in omega arith, subst (LostLock view next) take-mode more.1)
+          | inr more ↦ inr (let left = all-left in let one = more.0 in omega arith, subst (LostLock view next) take-takes more.1)
         ];
+        loads = loads;
         keeps = all-keeps after keeps;
         answered = λ first start locking. tt;
       }
 
       -- one that found a holder
-      pub all-waits : (lock found : ℕ) → Turned {T = Unit {0}} (Again lock found) view next taking.mode (turns_left taking) (turns_left after)
+      pub all-waits : (lock found : ℕ) → Turned {T = Unit {0}} (Again lock found) view next (Some taking) (turns_left taking) (turns_left after)
           → IsMultiTurn (Again lock found) operation (record operation { stage = Taking stripe after }) view next
       all-waits lock found turned = record {
         step = step;
         made = by;
-        turned = (let left = all-left in let same = turned.0 in omega arith, subst (λ (m : Mode). IsHeldUp view next m lock found) take-mode turned.1);
+        turned = (let left = all-left in let same = turned.0 in omega arith, subst (λ (t : Option TakeOp). IsHeldUp view next t lock found) take-takes turned.1);
+        loads = loads;
         keeps = all-keeps after keeps;
         answered = λ first start locking. tt;
       }

@@ -1,5 +1,5 @@
 -- Locking a body by turns.
-use Rattle.std.specs.Prelude.{◌≡◌, ℕ, suc, ◌<◌, [], ◌∷◌, Result, Ok, Err, None}
+use Rattle.std.specs.Prelude.{◌≡◌, ℕ, suc, ◌<◌, [], ◌∷◌, Option, Some, None, Result, Ok, Err}
 use Rattle.body_ident.specs.Id.{Id}
 use Rattle.word_map.specs.declared.config.Config.{Config}
 use Rattle.word_map.specs.Names.{stripe_of}
@@ -107,10 +107,18 @@ abbrev pub LockAnswers : Id → Mode → View → View → Result (Unit {0}) Gon
 LockAnswers id mode start next (Ok done) = HasLocked id mode start next
 LockAnswers id mode start next (Err refused) = WasGone id start next refused.state
 
+-- the lock that it takes
+abbrev pub takes_at : LockStage → Option TakeOp
+takes_at (Taking taking) = Some taking
+takes_at _ = None
+
+abbrev pub lock_takes : LockOp → Option TakeOp
+lock_takes operation = takes_at operation.stage
+
 -- what a turn of it owes
 abbrev pub IsLockTurn : Turn (Result (Unit {0}) Gone) → LockOp → LockOp → View → View → Type 0
 IsLockTurn turn before after view next =
-    IsTurn IsLocking (λ first start end answer. LockAnswers first.id first.mode start end answer) lock_left (λ operation. None) before.mode turn before after view next
+    IsTurn IsLocking (λ first start end answer. LockAnswers first.id first.mode start end answer) lock_left (λ operation. None) lock_takes turn before after view next
 
 -- a look or a meeting between two turns does no harm
 stage-later : (id : Id) (mode : Mode) (start : View) (stage : LockStage) (view next : View) → KnowsMore view next → IsAtStage id mode start stage view → IsAtStage id mode start stage next

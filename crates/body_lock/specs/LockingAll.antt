@@ -1,5 +1,5 @@
 -- Locking several bodies by turns.
-use Rattle.std.specs.Prelude.{◌≡◌, ◌≢◌, ℕ, ◌+◌, ◌-◌, ◌*◌, ◌<◌, ◌≤◌, true, List, [], All, map, length, take, None}
+use Rattle.std.specs.Prelude.{◌≡◌, ◌≢◌, ℕ, ◌+◌, ◌-◌, ◌*◌, ◌<◌, ◌≤◌, true, List, [], All, map, length, take, Option, Some, None}
 use Rattle.body_ident.specs.Id.{Id}
 use Rattle.core_state.specs.declared.view.Mode.{Mode}
 use Rattle.core_state.specs.declared.view.LockStep.{LockStep}
@@ -121,9 +121,17 @@ pub record HasMultiLock (first : LockMultiOp) (start next : View) (guard : Multi
   pub steps : List LockStep
   pub calling : IsCalling start next steps Nothing []
 
+-- the lock that it takes
+abbrev pub takes_at : MultiStage → Option TakeOp
+takes_at (Taking stripe taking) = Some taking
+takes_at Held = None
+
+abbrev pub multi_takes : LockMultiOp → Option TakeOp
+multi_takes operation = takes_at operation.stage
+
 -- what a turn of it owes
 abbrev pub IsMultiTurn : Turn MultiGuard → LockMultiOp → LockMultiOp → View → View → Type 0
-IsMultiTurn turn before after view next = IsTurn IsLockingAll HasMultiLock multi_left (λ operation. None) before.mode turn before after view next
+IsMultiTurn turn before after view next = IsTurn IsLockingAll HasMultiLock multi_left (λ operation. None) multi_takes turn before after view next
 
 -- the same, by the ids and the mode that were asked for
 pub record LocksAll (ids : List Id) (asked : Mode) (start next : View) (guard : MultiGuard) : Type 0 where

@@ -3,7 +3,7 @@ ghost use Rattle.std.specs.Prelude.{◌≡◌, ◌<◌, None};
 ghost use Rattle.pass_table.specs.Turning.{IsUnderWay};
 ghost use Rattle.pass_table.specs.Passes.{view_of, IsOf, IsIdle};
 ghost use Rattle.body_lock.specs.declared.lock_op.LockStage.TheVariants.{Taking, Held, Leaving};
-ghost use Rattle.body_lock.specs.Locking.{locking_of, lock_left, IsLocking, LockAnswers, IsLockTurn};
+ghost use Rattle.body_lock.specs.Locking.{locking_of, lock_left, lock_takes, IsLocking, LockAnswers, IsLockTurn};
 
 use crate::gone::Gone;
 use crate::lock_op::{LockOp, LockStage};
@@ -25,7 +25,7 @@ impl Operation for LockOp {
 
     ghost left = { lock_left };
 
-    ghost takes = { λ operation. operation.mode };
+    ghost takes = { lock_takes };
 
     ghost reached = { λ operation. None };
 

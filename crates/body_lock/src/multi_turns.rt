@@ -2,11 +2,12 @@
 ghost use Rattle.std.specs.Prelude.{◌≡◌, ◌<◌, ◌≤◌, ℕ, suc, true, None, length, slice_index_or, All};
 ghost use Rattle.pass_table.specs.Trying.{mode_if};
 ghost use Rattle.pass_table.specs.Turning.{IsUnderWay, AtMostOneStep, MadeBy};
+ghost use Rattle.pass_table.specs.TakeTurns.{LoadedNone};
 ghost use Rattle.pass_table.specs.Passes.{view_of, IsOf, IsIdle};
 ghost use Rattle.body_lock.specs.declared.multi_op.Wanted.{Wanted};
 ghost use Rattle.body_lock.specs.declared.multi_op.MultiStage.TheVariants.{Taking, Held};
 ghost use Rattle.body_lock.specs.Stripes.{has_stripe, AreStripesOf, HoldsBelow};
-ghost use Rattle.body_lock.specs.LockingAll.{wanted_ids, multi_left, IsLockingAll, HasMultiLock, IsMultiTurn, ComesAfter, SaysEntry, MayLoadState, ReadsEntry};
+ghost use Rattle.body_lock.specs.LockingAll.{wanted_ids, multi_left, takes_at, multi_takes, IsLockingAll, HasMultiLock, IsMultiTurn, ComesAfter, SaysEntry, MayLoadState, ReadsEntry};
 
 use crate::multi_guard::{LockedBody, MOST, MultiEntry, MultiGuard};
 use crate::multi_op::{LockMultiOp, MultiStage, Wanted};
@@ -30,7 +31,7 @@ impl Operation for LockMultiOp {
 
     ghost left = { multi_left };
 
-    ghost takes = { λ operation. operation.mode };
+    ghost takes = { multi_takes };
 
     ghost reached = { λ operation. None };
 
@@ -153,6 +154,7 @@ impl LockMultiOp {
         requires holds { HoldsBelow (view_of pass.old) self.now.stripes.bits self.now.mode (suc stripe) }
         ensures pass { pass.new ≡ pass.old }
         ensures stage { ComesAfter self.now.stripes.bits self.now.mode (suc stripe) (view_of pass.old) result }
+        ensures unloaded { LoadedNone (takes_at result) }
     {
         match self.stripes.next(stripe + 1) {
             Some(next) => MultiStage::Taking {

@@ -20,7 +20,7 @@ pub struct LockReadOp {
 }
 
 impl Operation for LockReadOp {
-    ghost use Rattle.body_lock.specs.Locking.{lock_left, IsLockingSo, ReadAnswers};
+    ghost use Rattle.body_lock.specs.Locking.{lock_left, lock_takes, IsLockingSo, ReadAnswers};
     ghost use Rattle.body_lock.specs.Locking.{locking_so-later};
 
     type Done = Result<BodyRead, Gone>;
@@ -31,7 +31,7 @@ impl Operation for LockReadOp {
 
     ghost left = { λ operation. lock_left operation.locking };
 
-    ghost takes = { λ operation. operation.locking.mode };
+    ghost takes = { λ operation. lock_takes operation.locking };
 
     ghost reached = { λ operation. None };
 

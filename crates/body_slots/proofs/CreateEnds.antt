@@ -215,6 +215,7 @@ leave-turn before answer view next number lock found pass at same go = record {
   step = released-step view next lock found go;
   made = released-made view next lock found go number pass;
   turned = tt;
+  loads = tt;
   keeps = λ first start making. tt;
   answered = λ first start making.
       let there = subst (AtCreate first start view) at making.1 in
@@ -246,6 +247,7 @@ create-turn before first start view next number index state value id making pass
           subst (λ (o : CreateOp). MadeBy view next (Some (record { pass = number; entry = Create index o.layer o.bounds o.user }))) (same making)
           (creation-made first start view index state value begun now is next stored number pass);
       turned = inl (subst (λ (s : CreateStage). 1 < stage_left s) (sym at) (omega arith));
+      loads = tt;
       keeps = λ other begin goes.
           let there = subst (AtCreate other begin view) at goes.1 in
           let again = own_begun other begin before.layer before.bounds before.user goes.0 in (

@@ -29,8 +29,8 @@ use Rattle.body_slots.specs.declared.create_op.CreateStage.{CreateStage}
 use Rattle.body_slots.specs.declared.create_op.CreateStage.TheVariants.{Locked, First, Linked, Taken, Fields, Filled, Leaving}
 use Rattle.body_slots.specs.declared.create_op.CreateOp.{CreateOp}
 use Rattle.body_slots.specs.Answers.{IsFullAt}
-use Rattle.body_slots.specs.Creating.{field_name, field_values, field_value, HasFieldsOf, list_taken, IsTakenOff, AtCreate, IsBegun, IsMaking, HasMade, stage_left}
-use Rattle.body_slots.proofs.Stages.{Staged}
+use Rattle.body_slots.specs.Creating.{field_name, field_values, field_value, HasFieldsOf, list_taken, IsTakenOff, AtCreate, IsBegun, IsMaking, HasMade, stage_left, takes_at}
+use Rattle.pass_table.proofs.Stages.{Staged}
 use Rattle.body_slots.specs.Later.{list-held, listed-steady, created-steady, field_of}
 
 -- ---- what the steps on the list ask
@@ -49,6 +49,7 @@ create_stages = record {
   made = λ operation. operation.made;
   stage = λ operation. operation.stage;
   left = stage_left;
+  takes = takes_at;
   at = AtCreate;
   to = λ operation after. record operation { stage = after; made = None };
   reached = λ operation after. refl;

@@ -195,6 +195,7 @@ destroy-turn before first start view next number value making pass at is stored 
       step = destruction-step before.id start view value begun here is next stored;
       made = destruction-made before.id start view value begun here is next stored number pass;
       turned = inl (subst (λ (s : DestroyStage). 2 < stage_left s) (sym at) (omega arith));
+      loads = tt;
       keeps = λ other begin goes.
           let there = subst (AtDestroy other.id begin view) at goes.2 in
           let named : Stored MayDestroy destroy view (State other.id.index) value next = subst (λ (i : Id). Stored MayDestroy destroy view (State i.index) value next) goes.0 stored in
@@ -264,6 +265,7 @@ leave-turn before answer view next number lock found pass at same go = record {
   step = released-step view next lock found go;
   made = released-made view next lock found go number pass;
   turned = tt;
+  loads = tt;
   keeps = λ first start making. tt;
   answered = λ first start making.
       let there = subst (AtDestroy first.id start view) at making.2 in

@@ -34,9 +34,9 @@ use Rattle.body_slots.specs.declared.answers.DestroyRefused.TheVariants.{Gone, I
 use Rattle.body_slots.specs.declared.destroy_op.DestroyStage.{DestroyStage}
 use Rattle.body_slots.specs.declared.destroy_op.DestroyStage.TheVariants.{TakingStripe, Held, Live, Joining, Placed, TakingList, Locked, Leaving}
 use Rattle.body_slots.specs.declared.destroy_op.DestroyOp.{DestroyOp}
-use Rattle.body_slots.specs.Destroying.{IsDestroyAnswer, IsInUseAt, stripe_taken, both_taken, KnowsOut, HasStripeAlone, AtDestroy, IsBegunFor, IsUnmaking, HasUnmade, stage_left}
+use Rattle.body_slots.specs.Destroying.{IsDestroyAnswer, IsInUseAt, stripe_taken, both_taken, KnowsOut, HasStripeAlone, AtDestroy, IsBegunFor, IsUnmaking, HasUnmade, stage_left, takes_at}
 use Rattle.body_slots.specs.DestroyLater.{one-taken, stripe-held, both-stripe, both-list}
-use Rattle.body_slots.proofs.Stages.{Staged}
+use Rattle.pass_table.proofs.Stages.{Staged}
 
 -- ---- stages
 
@@ -48,6 +48,7 @@ destroy_stages = record {
   made = λ operation. operation.made;
   stage = λ operation. operation.stage;
   left = stage_left;
+  takes = takes_at;
   at = λ first start view stage. AtDestroy first.id start view stage;
   to = λ operation after. record operation { stage = after; made = None };
   reached = λ operation after. refl;

@@ -1,4 +1,3 @@
-pub mod Stages
 pub mod CreateTurns
 pub mod CreateEnds
 pub mod Begun

@@ -1,5 +1,5 @@
 -- How creating a body goes, turn by turn.
-use Rattle.std.specs.Prelude.{◌≡◌, ℕ, zero, suc, ◌+◌, ◌-◌, ◌^◌, ◌<◌, List, [], ◌∷◌, Result, slice_index}
+use Rattle.std.specs.Prelude.{◌≡◌, ℕ, zero, suc, ◌+◌, ◌-◌, ◌^◌, ◌<◌, List, [], ◌∷◌, Option, Some, None, Result, slice_index}
 use Rattle.fixed_box.specs.FixBox.{words_of}
 use Rattle.fixed_box.specs.declared.fix_box.FixBox.{FixBox}
 use Rattle.body_ident.specs.Id.{Id}
@@ -14,6 +14,7 @@ use Rattle.core_state.specs.declared.view.LockStep.TheVariants.{Taken as TakenSt
 use Rattle.core_state.specs.declared.view.Task.TheVariants.{Nothing, Creating}
 use Rattle.core_state.specs.declared.view.View.{View}
 use Rattle.core_state.specs.View.{known_word}
+use Rattle.pass_table.specs.declared.take_op.TakeOp.{TakeOp}
 use Rattle.pass_table.specs.declared.turn.Turn.{Turn}
 use Rattle.pass_table.specs.TakeTurns.{taking_of, IsTaking, turns_left}
 use Rattle.pass_table.specs.Holding.{IsAtRest}
@@ -99,5 +100,13 @@ stage_left (Leaving answer) = 1
 abbrev pub create_left : CreateOp → ℕ
 create_left operation = stage_left operation.stage
 
+-- the lock that it takes
+abbrev pub takes_at : CreateStage → Option TakeOp
+takes_at (Taking taking) = Some taking
+takes_at _ = None
+
+abbrev pub create_takes : CreateOp → Option TakeOp
+create_takes operation = takes_at operation.stage
+
 abbrev pub IsCreateTurn : Turn (Result Id Full) → CreateOp → CreateOp → View → View → Type 0
-IsCreateTurn turn before after view next = IsTurn IsMaking HasMade create_left (λ operation. operation.made) Write turn before after view next
+IsCreateTurn turn before after view next = IsTurn IsMaking HasMade create_left (λ operation. operation.made) create_takes turn before after view next

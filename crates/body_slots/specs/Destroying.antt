@@ -1,5 +1,5 @@
 -- How destroying a body goes, turn by turn, and what it answers.
-use Rattle.std.specs.Prelude.{◌≡◌, ℕ, ◌+◌, ◌<◌, List, [], ◌∷◌, ◌++◌, Result, MatchResult, Some, None}
+use Rattle.std.specs.Prelude.{◌≡◌, ℕ, ◌+◌, ◌<◌, List, [], ◌∷◌, ◌++◌, Option, Some, None, Result, MatchResult}
 use Rattle.body_ident.specs.Id.{Id}
 use Rattle.scene_model.specs.declared.body_view.Phase.{Phase as BodyPhase}
 use Rattle.scene_model.specs.declared.body_view.Phase.TheVariants.{Out}
@@ -18,6 +18,7 @@ use Rattle.core_state.specs.declared.view.View.{View}
 use Rattle.core_state.specs.View.{known_word, mode_of}
 use Rattle.core_state.specs.Guards.{scene_at}
 use Rattle.core_state.specs.Encoding.{phase_out, phase_join}
+use Rattle.pass_table.specs.declared.take_op.TakeOp.{TakeOp}
 use Rattle.pass_table.specs.declared.turn.Turn.{Turn}
 use Rattle.pass_table.specs.TakeTurns.{taking_of, IsTaking, turns_left}
 use Rattle.pass_table.specs.Holding.{IsAtRest}
@@ -131,5 +132,14 @@ stage_left (Leaving answer) = 1
 abbrev pub destroy_left : DestroyOp → ℕ
 destroy_left operation = stage_left operation.stage
 
+-- the lock that it takes
+abbrev pub takes_at : DestroyStage → Option TakeOp
+takes_at (TakingStripe taking) = Some taking
+takes_at (TakingList taking) = Some taking
+takes_at _ = None
+
+abbrev pub destroy_takes : DestroyOp → Option TakeOp
+destroy_takes operation = takes_at operation.stage
+
 abbrev pub IsDestroyTurn : Turn (Result (Unit {0}) DestroyRefused) → DestroyOp → DestroyOp → View → View → Type 0
-IsDestroyTurn turn before after view next = IsTurn IsUnmaking HasUnmade destroy_left (λ operation. operation.made) Write turn before after view next
+IsDestroyTurn turn before after view next = IsTurn IsUnmaking HasUnmade destroy_left (λ operation. operation.made) destroy_takes turn before after view next

@@ -21,8 +21,7 @@ use word_map::{Name, StateWord};
 pub(crate) const FIELDS: u32 = 8;
 
 impl Operation for CreateOp {
-    ghost use Rattle.core_state.specs.declared.view.Mode.TheVariants.{Write};
-    ghost use Rattle.body_slots.specs.Creating.{IsMaking, HasMade, create_left};
+    ghost use Rattle.body_slots.specs.Creating.{IsMaking, HasMade, create_left, create_takes};
     ghost use Rattle.body_slots.specs.Later.{creating-later};
 
     type Done = Result<BodyId, Full>;
@@ -33,7 +32,7 @@ impl Operation for CreateOp {
 
     ghost left = { create_left };
 
-    ghost takes = { λ operation. Write };
+    ghost takes = { create_takes };
 
     ghost reached = { λ operation. None };
 

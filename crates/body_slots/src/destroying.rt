@@ -17,8 +17,7 @@ use scene_model::{Entry, Made, Phase};
 use word_map::{Name, SlotWord, StateWord};
 
 impl Operation for DestroyOp {
-    ghost use Rattle.core_state.specs.declared.view.Mode.TheVariants.{Write};
-    ghost use Rattle.body_slots.specs.Destroying.{IsUnmaking, HasUnmade, destroy_left};
+    ghost use Rattle.body_slots.specs.Destroying.{IsUnmaking, HasUnmade, destroy_left, destroy_takes};
     ghost use Rattle.body_slots.specs.DestroyLater.{destroying-later};
 
     type Done = Result<(), DestroyRefused>;
@@ -29,7 +28,7 @@ impl Operation for DestroyOp {
 
     ghost left = { destroy_left };
 
-    ghost takes = { λ operation. Write };
+    ghost takes = { destroy_takes };
 
     ghost reached = { λ operation. None };
 

@@ -37,7 +37,7 @@ use Rattle.core_state.proofs.Reading.{word-stored, word-other}
 use Rattle.core_state.proofs.Steps.{gained-unstored}
 use Rattle.pass_table.specs.Stepping.{step_by, Stepped, Stored}
 use Rattle.pass_table.specs.Knowing.{KnowsMore}
-use Rattle.pass_table.specs.Turning.{AtMostOneStep, MadeBy, Turned, LostLock, IsHeldUp}
+use Rattle.pass_table.specs.Turning.{AtMostOneStep, MadeBy, Turned}
 use Rattle.pass_table.specs.declared.turn.Turn.TheVariants.{More, Again}
 use Rattle.pass_table.specs.declared.take_op.TakeOp.{TakeOp}
 use Rattle.pass_table.specs.Holding.{LetGo, IsAtRest}
@@ -364,13 +364,14 @@ waiting-calling start view next steps task entries calling waited by =
     (ap (λ (v : View). v.call.task) waited.rest ∙ calling.doing)
 
 -- how far such turns come, with so many more to make afterwards
-pub turned-more : (T U : Type 0) (more : ℕ) (view next : View) (mode : Mode) (before after : ℕ) → mode ≡ Write → Turned {T = T} More view next mode before after → Turned {T = U} More view next Write (more + before) (more + after)
-turned-more T U more view next mode before after same (inl less) = inl (omega arith)
-turned-more T U more view next mode before after same (inr lost) = let one = lost.0 in inr (omega arith, subst (LostLock view next) same lost.1)
+pub turned-more : (T U : Type 0) (more : ℕ) (view next : View) (takes : Option TakeOp) (before after : ℕ) → Turned {T = T} More view next takes before after
+    → Turned {T = U} More view next takes (more + before) (more + after)
+turned-more T U more view next takes before after (inl less) = inl (omega arith)
+turned-more T U more view next takes before after (inr lost) = let one = lost.0 in inr (omega arith, lost.1)
 
-pub turned-again : (T U : Type 0) (more : ℕ) (view next : View) (mode : Mode) (before after lock found : ℕ) → mode ≡ Write → Turned {T = T} (Again lock found) view next mode before after
-    → Turned {T = U} (Again lock found) view next Write (more + before) (more + after)
-turned-again T U more view next mode before after lock found same turned = (ap (λ (n : ℕ). more + n) turned.0, subst (λ (m : Mode). IsHeldUp view next m lock found) same turned.1)
+pub turned-again : (T U : Type 0) (more : ℕ) (view next : View) (takes : Option TakeOp) (before after lock found : ℕ) → Turned {T = T} (Again lock found) view next takes before after
+    → Turned {T = U} (Again lock found) view next takes (more + before) (more + after)
+turned-again T U more view next takes before after lock found turned = (ap (λ (n : ℕ). more + n) turned.0, turned.1)
 
 -- at least one turn is left
 pub some-left : (operation : TakeOp) → 0 < turns_left operation

@@ -17,3 +17,4 @@ pub mod Calling
 pub mod WorkLater
 pub mod Working
 pub mod Between
+pub mod Stages

@@ -1,5 +1,5 @@
 -- How taking a lock by turns begins, goes on and ends.
-use Rattle.std.proofs.Common.{ℕ, Option, IfSome, refl, ap, sym, ◌∙◌, subst}
+use Rattle.std.proofs.Common.{ℕ, Option, Some, None, IfSome, refl, ap, sym, ◌∙◌, subst}
 use Rattle.word_map.specs.declared.config.Config.{Config}
 use Rattle.word_map.specs.declared.name.Name.TheVariants.{Lock}
 use Rattle.word_map.specs.Names.{IsName}
@@ -9,7 +9,8 @@ use Rattle.core_state.specs.View.{HoldsNot, mode_of}
 use Rattle.core_state.specs.Quietly.{KnowsQuietly}
 use Rattle.core_state.proofs.Quiet.{KnowsQuietly-refl, KnowsQuietly-trans}
 use Rattle.pass_table.specs.Trying.{Excludes, Leaves, with_taken}
-use Rattle.pass_table.specs.TakeTurns.{taking_of, IsTaking, HasTaken}
+use Rattle.pass_table.specs.Turning.{HasLoaded, LoadsNow}
+use Rattle.pass_table.specs.TakeTurns.{taking_of, LoadedNone, IsTaking, HasTaken}
 use Rattle.pass_table.specs.Knowing.{StoresAlone, alone-refl, alone-trans}
 use Rattle.pass_table.specs.declared.take_op.TakeOp.{TakeOp}
 use Rattle.pass_table.proofs.Trying.{Waited-refl, Waited-more, Waited-taken}
@@ -61,3 +62,8 @@ taking-anew first start operation view taking = record {
   quiet = KnowsQuietly-refl view;
   alone = alone-refl view (Lock first.lock);
 }
+
+-- where no word was loaded of a lock, none is old
+pub loads-none : (view next : View) (takes : Option TakeOp) → LoadedNone takes → LoadsNow view next takes
+loads-none view next None none = tt
+loads-none view next (Some taking) none = subst (λ (o : Option ℕ). IfSome o (HasLoaded view next taking.lock)) (sym none) tt

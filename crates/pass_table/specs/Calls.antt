@@ -4,14 +4,14 @@ use Rattle.scene_model.specs.declared.entry.Entry.{Entry}
 use Rattle.scene_model.specs.declared.entry.Made.{Made}
 use Rattle.word_map.specs.declared.name.Name.{Name}
 use Rattle.core_state.specs.declared.item.Item.{Item}
-use Rattle.core_state.specs.declared.view.Mode.{Mode}
 use Rattle.core_state.specs.declared.view.LockStep.{LockStep}
 use Rattle.core_state.specs.declared.view.Task.{Task}
 use Rattle.core_state.specs.declared.view.View.{View}
 use Rattle.core_state.specs.View.{IsPass}
 use Rattle.pass_table.specs.Knowing.{IsOthers}
 use Rattle.pass_table.specs.Holding.{IsAtRest}
-use Rattle.pass_table.specs.Turning.{AtMostOneStep, MadeBy, Turned, GoesOn, Answers}
+use Rattle.pass_table.specs.Turning.{AtMostOneStep, MadeBy, Turned, LoadsNow, GoesOn, Answers}
+use Rattle.pass_table.specs.declared.take_op.TakeOp.{TakeOp}
 use Rattle.pass_table.specs.declared.turn.Turn.{Turn}
 
 -- ---- entries
@@ -84,12 +84,13 @@ pub record RestsAgain (view next : View) : Type 0 where
 
 -- ---- turns
 
--- What a turn of an operation that may go on owes: one step or none, the entry that it made, how far it came, and that
--- the operation goes on or what it answers is so
-pub record IsTurn {T S : Type 0} (under_way : S → View → S → View → Type 0) (answers : S → View → View → T → Type 0) (left : S → ℕ) (entry : S → Option Made) (takes : Mode)
+-- What a turn of an operation that may go on owes: one step or none, the entry that it made, how far it came, that what
+-- was loaded of a lock is new, and that the operation goes on or what it answers is so
+pub record IsTurn {T S : Type 0} (under_way : S → View → S → View → Type 0) (answers : S → View → View → T → Type 0) (left : S → ℕ) (entry : S → Option Made) (takes : S → Option TakeOp)
     (turn : Turn T) (before after : S) (view next : View) : Type 0 where
   pub step : AtMostOneStep view next
   pub made : MadeBy view next (entry after)
-  pub turned : Turned turn view next takes (left before) (left after)
+  pub turned : Turned turn view next (takes before) (left before) (left after)
+  pub loads : GoesOn turn (LoadsNow view next (takes after))
   pub keeps : (first : S) (start : View) → under_way first start before view → GoesOn turn (under_way first start after next)
   pub answered : (first : S) (start : View) → under_way first start before view → Answers turn (answers first start next)

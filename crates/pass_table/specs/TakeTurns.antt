@@ -26,6 +26,10 @@ turns_after (Some word) = 1
 abbrev pub turns_left : TakeOp → ℕ
 turns_left operation = turns_after operation.loaded
 
+-- no word was loaded of a lock that is being taken
+abbrev pub LoadedNone : Option TakeOp → Type 0
+LoadedNone takes = IfSome takes (λ taking. taking.loaded ≡ None)
+
 -- It takes the lock with which it was begun, in that mode. The lock is one of the world, the pass does not hold it, and a
 -- word that was loaded shows nobody that excludes it. Since it was begun the pass has only come to know more, and
 -- stored no other word

@@ -3,7 +3,6 @@ use Rattle.std.specs.Prelude.{◌≡◌, ◌≢◌, ◌⊎◌, ⊤, ℕ, suc, �
 use Rattle.scene_model.specs.declared.entry.Made.{Made}
 use Rattle.word_map.specs.declared.name.Name.TheVariants.{Lock}
 use Rattle.core_state.specs.declared.item.Item.{Item}
-use Rattle.core_state.specs.declared.view.Mode.{Mode}
 use Rattle.core_state.specs.declared.view.View.{View}
 use Rattle.core_state.specs.Log.{history}
 use Rattle.core_state.specs.View.{IsPass}
@@ -12,6 +11,7 @@ use Rattle.core_state.specs.Kind.{Kind, Step, view_after, after_step}
 use Rattle.core_state.specs.Event.{Event}
 use Rattle.pass_table.specs.Standing.{Stands}
 use Rattle.pass_table.specs.Trying.{Excludes, HadWord, LoadedLock, MissedLock}
+use Rattle.pass_table.specs.declared.take_op.TakeOp.{TakeOp}
 use Rattle.pass_table.specs.declared.turn.Turn.{Turn}
 use Rattle.pass_table.specs.declared.turn.Turn.TheVariants.{Done, More, Again}
 
@@ -53,25 +53,41 @@ pub record MadeBy (view next : View) (made : Option Made) : Type 0 where
 
 -- ---- how far an operation is
 
--- the turn was the exchange of a lock's word, and found another value than was loaded
-pub record LostLock (view next : View) (mode : Mode) : Type 0 where
-  pub lock : ℕ
-  pub loaded : ℕ
+-- The turn was the exchange of the word of the lock that the operation was taking, and found another word than it had
+-- loaded
+pub record LostLock (view next : View) (takes : Option TakeOp) : Type 0 where
+  pub taking : TakeOp
+  pub is : takes ≡ Some taking
+  pub word : ℕ
+  pub loaded : taking.loaded ≡ Some word
   pub found : ℕ
-  pub missed : MissedLock view next lock mode loaded found
+  pub missed : MissedLock view next taking.lock taking.mode word found
 
--- the turn was the load of a lock's word, which shows a holder that excludes one who takes it so
-pub record IsHeldUp (view next : View) (mode : Mode) (lock word : ℕ) : Type 0 where
+-- The turn was the load of the word of the lock that the operation was taking. It shows a holder that excludes one who
+-- takes it so
+pub record IsHeldUp (view next : View) (takes : Option TakeOp) (lock word : ℕ) : Type 0 where
+  pub taking : TakeOp
+  pub is : takes ≡ Some taking
+  pub same : lock ≡ taking.lock
   pub load : LoadedLock view next lock word
   pub had : HadWord view next (Lock lock) word
-  pub excludes : Excludes mode word
+  pub excludes : Excludes taking.mode word
 
 -- A turn that answers More leaves less to do, but where an exchange of a lock's word was lost: then there may be one turn
 -- more. One that answers Again leaves as much
-abbrev pub Turned : {T : Type 0} → Turn T → View → View → Mode → ℕ → ℕ → Type 0
-Turned (Done answer) view next mode before after = ⊤
-Turned More view next mode before after = (after < before) ⊎ ((after ≡ suc before) × LostLock view next mode)
-Turned (Again lock word) view next mode before after = (after ≡ before) × IsHeldUp view next mode lock word
+abbrev pub Turned : {T : Type 0} → Turn T → View → View → Option TakeOp → ℕ → ℕ → Type 0
+Turned (Done answer) view next takes before after = ⊤
+Turned More view next takes before after = (after < before) ⊎ ((after ≡ suc before) × LostLock view next takes)
+Turned (Again lock word) view next takes before after = (after ≡ before) × IsHeldUp view next takes lock word
+
+-- the turn was the load of this lock's word, and found this one
+pub record HasLoaded (view next : View) (lock word : ℕ) : Type 0 where
+  pub load : LoadedLock view next lock word
+  pub had : HadWord view next (Lock lock) word
+
+-- where a lock is being taken of which a word was loaded, it was loaded by this turn
+abbrev pub LoadsNow : View → View → Option TakeOp → Type 0
+LoadsNow view next takes = IfSome takes (λ taking. IfSome taking.loaded (HasLoaded view next taking.lock))
 
 -- the label was reached, where this is the number of the last one that was
 abbrev pub HasReached : Option ℕ → ℕ → Type 0

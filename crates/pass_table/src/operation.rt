@@ -2,7 +2,7 @@
 ghost use Rattle.std.specs.Prelude.{◌≡◌, option_copied};
 ghost use Rattle.core_state.specs.declared.view.View.{View};
 ghost use Rattle.pass_table.specs.Passes.{view_of, IsOf};
-ghost use Rattle.pass_table.specs.Turning.{Turned, Labelled, GoesOn, Answers, IsUnderWay, AtMostOneStep, MadeBy};
+ghost use Rattle.pass_table.specs.Turning.{Turned, LoadsNow, Labelled, GoesOn, Answers, IsUnderWay, AtMostOneStep, MadeBy};
 
 use crate::label::Label;
 use crate::pass::Pass;
@@ -17,9 +17,9 @@ use scene_model::Made;
 pub trait Operation {
     ghost use Rattle.std.specs.Prelude.{ℕ, Option};
     ghost use Rattle.scene_model.specs.declared.entry.Made.{Made};
-    ghost use Rattle.core_state.specs.declared.view.Mode.{Mode};
     ghost use Rattle.core_state.specs.declared.view.View.{View};
     ghost use Rattle.pass_table.specs.Knowing.{KnowsMore};
+    ghost use Rattle.pass_table.specs.declared.take_op.TakeOp.{TakeOp};
 
     /// What the operation answers.
     type Done;
@@ -34,8 +34,8 @@ pub trait Operation {
     /// How many turns are left, if none has to be made again.
     ghost left: { Self → ℕ };
 
-    /// How it takes the next lock.
-    ghost takes: { Self → Mode };
+    /// The lock that it is taking now, in which mode, and the word that it loaded.
+    ghost takes: { Self → Option TakeOp };
 
     /// The last label that it reached.
     ghost reached: { Self → Option ℕ };
@@ -51,6 +51,7 @@ pub trait Operation {
         ensures step { AtMostOneStep (view_of pass.old) (view_of pass.new) }
         ensures made { MadeBy (view_of pass.old) (view_of pass.new) (entry self.new) }
         ensures turned { Turned result (view_of pass.old) (view_of pass.new) (takes self.old) (left self.old) (left self.new) }
+        ensures loads { GoesOn result (LoadsNow (view_of pass.old) (view_of pass.new) (takes self.new)) }
         ensures labelled { Labelled result (reached self.old) (reached self.new) }
         ensures goes_on { GoesOn result (IsUnderWay under_way self.new (view_of pass.new)) }
         ensures keeps { (first : Self) (start : View) → under_way first start self.old (view_of pass.old) → GoesOn result (under_way first start self.new (view_of pass.new)) }

@@ -6,7 +6,7 @@ ghost use Rattle.core_state.specs.View.{HoldsNot};
 ghost use Rattle.core_state.specs.declared.view.View.{View};
 ghost use Rattle.pass_table.specs.declared.take_op.TakeOp.{TakeOp};
 ghost use Rattle.pass_table.specs.TakeTurns.{taking_of, IsTaking, HasTaken, turns_left};
-ghost use Rattle.pass_table.specs.Turning.{Turned, GoesOn, Answers, IsUnderWay, AtMostOneStep, MadeBy};
+ghost use Rattle.pass_table.specs.Turning.{Turned, LoadsNow, GoesOn, Answers, IsUnderWay, AtMostOneStep, MadeBy};
 ghost use Rattle.pass_table.specs.Passes.{view_of, IsOf};
 
 use crate::label::Label;
@@ -30,7 +30,7 @@ impl Operation for TakeOp {
 
     ghost left = { turns_left };
 
-    ghost takes = { λ operation. operation.mode };
+    ghost takes = { Some };
 
     ghost reached = { λ operation. None };
 
@@ -81,7 +81,8 @@ impl TakeOp {
         ensures of { IsOf world.now pass.new }
         ensures step { AtMostOneStep (view_of pass.old) (view_of pass.new) }
         ensures made { MadeBy (view_of pass.old) (view_of pass.new) None }
-        ensures turned { Turned result (view_of pass.old) (view_of pass.new) self.old.mode (turns_left self.old) (turns_left self.new) }
+        ensures turned { Turned result (view_of pass.old) (view_of pass.new) (Some self.old) (turns_left self.old) (turns_left self.new) }
+        ensures loads { GoesOn result (LoadsNow (view_of pass.old) (view_of pass.new) (Some self.new)) }
         ensures keeps { (first : TakeOp) (start : View) → IsTaking first start self.old (view_of pass.old) → GoesOn result (IsTaking first start self.new (view_of pass.new)) }
         ensures answers { (first : TakeOp) (start : View) → IsTaking first start self.old (view_of pass.old) → Answers result (λ answer. HasTaken first start (view_of pass.new)) }
     {
@@ -105,7 +106,8 @@ impl TakeOp {
         ensures of { IsOf world.now pass.new }
         ensures step { AtMostOneStep (view_of pass.old) (view_of pass.new) }
         ensures made { MadeBy (view_of pass.old) (view_of pass.new) None }
-        ensures turned { Turned result (view_of pass.old) (view_of pass.new) self.old.mode (turns_left self.old) (turns_left self.new) }
+        ensures turned { Turned result (view_of pass.old) (view_of pass.new) (Some self.old) (turns_left self.old) (turns_left self.new) }
+        ensures loads { GoesOn result (LoadsNow (view_of pass.old) (view_of pass.new) (Some self.new)) }
         ensures keeps { (first : TakeOp) (start : View) → IsTaking first start self.old (view_of pass.old) → GoesOn result (IsTaking first start self.new (view_of pass.new)) }
         ensures answers { (first : TakeOp) (start : View) → IsTaking first start self.old (view_of pass.old) → Answers result (λ answer. HasTaken first start (view_of pass.new)) }
     {

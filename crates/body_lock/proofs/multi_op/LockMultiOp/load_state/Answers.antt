@@ -1,4 +1,6 @@
-use Rattle.std.proofs.Common.{length, inl, ◌∙◌, ap, arith}
+use Rattle.body_lock.specs.LockingAll.{takes_at}
+use Rattle.pass_table.specs.Turning.{LoadsNow}
+use Rattle.std.proofs.Common.{length, inl, ◌∙◌, ap, arith, sym, subst}
 use Rattle.pass_table.specs.Passes.{view_of}
 use Rattle.body_lock.specs.declared.multi_op.Wanted.{Wanted}
 use Rattle.body_lock.proofs.ReadingAll.{next-may, read-less, read-keeps, read-locked}
@@ -19,6 +21,7 @@ returns-then-len-clause-turn c =
       step = c.read_entry-body.ensures.step;
       made = c.read_entry-body.ensures.made;
       turned = inl (read-less c.args.self.now c.push.new.self.items c.requires.stage c.read_entry-body.result c.push.ensures.items (omega arith));
+      loads = subst (LoadsNow (view_of c.args.pass.now) (view_of c.read_entry-body.new.pass)) (sym (ap takes_at c.requires.stage)) tt;
       keeps = λ first start locking.
           read-keeps c.args.self.now (view_of c.args.pass.now) c.requires.stage first start locking (view_of c.read_entry-body.new.pass) c.read_entry-body.result past (c.read_entry-body.ensures.reads past)
           c.push.new.self c.push.ensures.items (omega arith);
@@ -36,6 +39,7 @@ returns-clause-turn c =
       step = c.read_entry-body.ensures.step;
       made = c.read_entry-body.ensures.made;
       turned = tt;
+      loads = tt;
       keeps = λ first start locking. tt;
       answered = λ first start locking.
           read-locked c.args.self.now (view_of c.args.pass.now) c.requires.stage first start locking (view_of c.read_entry-body.new.pass) c.read_entry-body.result past

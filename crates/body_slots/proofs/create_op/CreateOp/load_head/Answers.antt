@@ -3,7 +3,7 @@ use Rattle.word_map.specs.declared.config.Config.{Config}
 use Rattle.pass_table.specs.Passes.{view_of}
 use Rattle.body_slots.specs.Creating.{AtCreate}
 use Rattle.body_slots.specs.declared.create_op.CreateStage.TheVariants.{Locked, First, Leaving}
-use Rattle.body_slots.proofs.Stages.{went-on}
+use Rattle.pass_table.proofs.Stages.{went-on}
 use Rattle.body_slots.proofs.CreateTurns.{create_stages, head-step, head-made, head-first, head-none, has-list}
 use Rattle.body_slots.proofs.create_op.CreateOp.load_head.Goals as goal
 
@@ -18,7 +18,7 @@ returns-then-head-eq0-clause-turn c =
     let head = c.load_head-head.result in
     let loaded = c.load_head-head.ensures.loaded in
     went-on create_stages c.go_on.result c.args.self.now c.go_on.new.self Locked (Leaving (Err (record { head = head }))) view next c.go_on.ensures.more c.go_on.ensures.stage c.requires.stage
-    (head-step view next head loaded) (head-made view next head loaded) (omega arith) (λ first start making at. head-none first start view next head loaded at c.if-head-eq0.true)
+    (head-step view next head loaded) (head-made view next head loaded) (omega arith) tt (λ first start making at. head-none first start view next head loaded at c.if-head-eq0.true)
 
 pub overflow_cast-head : goal.overflow_cast-head
 overflow_cast-head c =
@@ -36,7 +36,7 @@ returns-clause-turn c =
     let head = c.load_head-head.result in
     let loaded = c.load_head-head.ensures.loaded in
     went-on create_stages c.go_on-2.result c.args.self.now c.go_on-2.new.self Locked (First (head - 1)) view next c.go_on-2.ensures.more c.go_on-2.ensures.stage c.requires.stage
-    (head-step view next head loaded) (head-made view next head loaded) (omega arith) (λ first start making at. head-first first start view next head loaded at (head - 1) (names head c.if-head-eq0.false))
+    (head-step view next head loaded) (head-made view next head loaded) (omega arith) tt (λ first start making at. head-first first start view next head loaded at (head - 1) (names head c.if-head-eq0.false))
 
 pub load_head-head-requires-clause-list : goal.load_head-head-requires-clause-list
 load_head-head-requires-clause-list c =

@@ -4,7 +4,7 @@ use Rattle.word_map.specs.declared.config.Config.{Config}
 use Rattle.pass_table.proofs.Calling.{calling-sizes}
 use Rattle.body_slots.specs.Creating.{AtCreate}
 use Rattle.body_slots.specs.declared.create_op.CreateStage.TheVariants.{First, Linked}
-use Rattle.body_slots.proofs.Stages.{went-on}
+use Rattle.pass_table.proofs.Stages.{went-on}
 use Rattle.body_slots.proofs.CreateTurns.{create_stages, link-step, link-made, link-loaded, has-list}
 use Rattle.body_slots.proofs.create_op.CreateOp.load_link.Goals as goal
 
@@ -16,7 +16,7 @@ returns-clause-turn c =
     let link = c.load_link-link.result in
     let loaded = c.load_link-link.ensures.loaded in
     went-on create_stages c.go_on.result c.args.self.now c.go_on.new.self (First index) (Linked index link) view next c.go_on.ensures.more c.go_on.ensures.stage c.requires.stage
-    (link-step view next index link loaded) (link-made view next index link loaded) (omega arith) (λ first start making at. link-loaded first start view next index link making.0.rest loaded at)
+    (link-step view next index link loaded) (link-made view next index link loaded) (omega arith) tt (λ first start making at. link-loaded first start view next index link making.0.rest loaded at)
 
 pub load_link-link-requires-clause-list : goal.load_link-link-requires-clause-list
 load_link-link-requires-clause-list c =

@@ -6,7 +6,7 @@ use Rattle.pass_table.proofs.Bodies.{body-load-step, body-load-made}
 use Rattle.body_slots.specs.declared.create_op.CreateStage.TheVariants.{Taken, Fields}
 use Rattle.body_slots.specs.Creating.{AtCreate}
 use Rattle.body_slots.specs.Later.{list-held}
-use Rattle.body_slots.proofs.Stages.{went-on}
+use Rattle.pass_table.proofs.Stages.{went-on}
 use Rattle.body_slots.proofs.CreateTurns.{create_stages, state-loaded}
 use Rattle.body_slots.proofs.create_op.CreateOp.load_state.Goals as goal
 
@@ -25,4 +25,4 @@ returns-clause-turn c =
     let state = c.step_15-state.result in
     let stepped = c.step_15-state.ensures.step in
     went-on create_stages c.go_on.result c.args.self.now c.go_on.new.self (Taken index) (Fields index state 0) view next c.go_on.ensures.more c.go_on.ensures.stage c.requires.stage
-    (body-load-step view next (State index) state stepped) (body-load-made view next (State index) state stepped) (omega arith) (λ first start making at. state-loaded first start view next index state stepped at)
+    (body-load-step view next (State index) state stepped) (body-load-made view next (State index) state stepped) (omega arith) tt (λ first start making at. state-loaded first start view next index state stepped at)

@@ -5,7 +5,7 @@ use Rattle.pass_table.specs.Stepping.{Stored}
 use Rattle.pass_table.specs.Passes.{view_of}
 use Rattle.body_slots.specs.declared.create_op.CreateStage.TheVariants.{Fields, Filled}
 use Rattle.body_slots.specs.Creating.{field_name, AtCreate}
-use Rattle.body_slots.proofs.Stages.{went-on}
+use Rattle.pass_table.proofs.Stages.{went-on}
 use Rattle.body_slots.proofs.CreateTurns.{create_stages, may-field, field-step, field-made, field-next, field-last, value-begun}
 use Rattle.body_slots.proofs.create_op.CreateOp.store_field.Goals as goal
 
@@ -30,7 +30,7 @@ returns-then-stored-eq-FIELDS-clause-turn c =
     let value = c.field-name.result.1 in
     let stored = subst (λ (name : Name). Stored MayStoreField store_field view name value next) c.field-name.ensures.name c.step_12.ensures.step in
     went-on create_stages c.go_on.result operation c.go_on.new.self (Fields index state number) (Filled index state) view next c.go_on.ensures.more c.go_on.ensures.stage c.requires.stage
-    (field-step view next index number value stored) (field-made view next index number value stored c.args.pass.now.number c.args.pass.now.numbered) (let all = c.if-stored-eq-FIELDS.true in omega arith)
+    (field-step view next index number value stored) (field-made view next index number value stored c.args.pass.now.number c.args.pass.now.numbered) (let all = c.if-stored-eq-FIELDS.true in omega arith) tt
     (λ first start making at. field-last view next index number value stored first start state at (c.field-name.ensures.value ∙ value-begun first operation start number making.0) c.if-stored-eq-FIELDS.true)
 
 pub returns-clause-turn : goal.returns-clause-turn
@@ -48,5 +48,5 @@ returns-clause-turn c =
     let more : number + 1 < 8 = (let not = c.if-stored-eq-FIELDS.false in omega arith) in
     let stored = subst (λ (name : Name). Stored MayStoreField store_field view name value next) c.field-name.ensures.name c.step_12.ensures.step in
     went-on create_stages c.go_on-2.result operation c.go_on-2.new.self (Fields index state number) (Fields index state (number + 1)) view next c.go_on-2.ensures.more c.go_on-2.ensures.stage c.requires.stage
-    (field-step view next index number value stored) (field-made view next index number value stored c.args.pass.now.number c.args.pass.now.numbered) (omega arith)
+    (field-step view next index number value stored) (field-made view next index number value stored c.args.pass.now.number c.args.pass.now.numbered) (omega arith) tt
     (λ first start making at. field-next view next index number value stored first start state at (c.field-name.ensures.value ∙ value-begun first operation start number making.0) more)

@@ -6,7 +6,7 @@ use Rattle.pass_table.specs.Passes.{view_of}
 use Rattle.pass_table.proofs.Calling.{some-left}
 use Rattle.body_slots.specs.declared.create_op.CreateStage.TheVariants.{Taking, Locked}
 use Rattle.body_slots.specs.Creating.{AtCreate}
-use Rattle.body_slots.proofs.Stages.{went-on, take-more, take-again}
+use Rattle.pass_table.proofs.Stages.{went-on, take-more, take-again}
 use Rattle.body_slots.proofs.CreateTurns.{create_stages}
 use Rattle.body_slots.proofs.CreateEnds.{take-done, take-on}
 use Rattle.body_slots.proofs.create_op.CreateOp.take.Goals as goal
@@ -17,7 +17,7 @@ returns-in-Done-clause-turn c =
     let next = view_of c.turn.new.pass in
     let taking = c.args.taking in
     let left = some-left taking in
-    went-on create_stages c.go_on.result c.args.self.now c.go_on.new.self (Taking taking) Locked view next c.go_on.ensures.more c.go_on.ensures.stage c.requires.stage c.turn.ensures.step c.turn.ensures.made (omega arith)
+    went-on create_stages c.go_on.result c.args.self.now c.go_on.new.self (Taking taking) Locked view next c.go_on.ensures.more c.go_on.ensures.stage c.requires.stage c.turn.ensures.step c.turn.ensures.made (omega arith) tt
     (λ first start making at. take-done first start view next taking (c.in-Done.ensures.answers (taking_of (index_lock start.config) Write) view at.1) c.turn.ensures.made at)
 
 pub returns-in-More-clause-turn : goal.returns-in-More-clause-turn
@@ -26,11 +26,9 @@ returns-in-More-clause-turn c =
     let next = view_of c.turn.new.pass in
     let taking = c.args.taking in
     let after = c.turn.new.self in
-    let under_way = c.requires.under_way in
-    let now = subst (AtCreate under_way.first under_way.start view) c.requires.stage under_way.goes.1 in
-    take-more create_stages Taking 14 (λ t. refl) c.args.self.now c.go_on-in-More.new.self taking after view next c.go_on-in-More.ensures.stage c.requires.stage c.turn.ensures.step c.turn.ensures.made
+    take-more create_stages Taking 14 (λ t. refl) (λ t. refl) c.args.self.now c.go_on-in-More.new.self taking after view next c.go_on-in-More.ensures.stage c.requires.stage c.turn.ensures.step c.turn.ensures.made c.in-More.ensures.loads
     (λ first start making at. take-on first start view next taking after (c.in-More.ensures.keeps (taking_of (index_lock start.config) Write) view at.1) c.turn.ensures.made at)
-    c.go_on-in-More.result c.go_on-in-More.ensures.more taking.mode now.1.mode c.in-More.ensures.turned
+    c.go_on-in-More.result c.go_on-in-More.ensures.more c.in-More.ensures.turned
 
 pub returns-in-Again-clause-turn : goal.returns-in-Again-clause-turn
 returns-in-Again-clause-turn c =
@@ -38,8 +36,6 @@ returns-in-Again-clause-turn c =
     let next = view_of c.turn.new.pass in
     let taking = c.args.taking in
     let after = c.turn.new.self in
-    let under_way = c.requires.under_way in
-    let now = subst (AtCreate under_way.first under_way.start view) c.requires.stage under_way.goes.1 in
-    take-again create_stages Taking 14 (λ t. refl) c.args.self.now c.go_on-in-Again.new.self taking after view next c.go_on-in-Again.ensures.stage c.requires.stage c.turn.ensures.step c.turn.ensures.made
+    take-again create_stages Taking 14 (λ t. refl) (λ t. refl) c.args.self.now c.go_on-in-Again.new.self taking after view next c.go_on-in-Again.ensures.stage c.requires.stage c.turn.ensures.step c.turn.ensures.made c.in-Again.ensures.loads
     (λ first start making at. take-on first start view next taking after (c.in-Again.ensures.keeps (taking_of (index_lock start.config) Write) view at.1) c.turn.ensures.made at)
-    c.in-Again.lock c.in-Again.word taking.mode now.1.mode c.in-Again.ensures.turned
+    c.in-Again.lock c.in-Again.word c.in-Again.ensures.turned

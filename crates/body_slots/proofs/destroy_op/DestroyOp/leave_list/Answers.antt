@@ -5,7 +5,7 @@ use Rattle.pass_table.specs.Holding.{LetGo}
 use Rattle.pass_table.specs.Passes.{view_of}
 use Rattle.pass_table.proofs.Calling.{calling-sizes, released-step, released-made}
 use Rattle.body_slots.specs.declared.destroy_op.DestroyStage.TheVariants.{Destroyed, Leaving}
-use Rattle.body_slots.proofs.Stages.{went-on}
+use Rattle.pass_table.proofs.Stages.{went-on}
 use Rattle.body_slots.proofs.DestroyTurns.{destroy_stages}
 use Rattle.body_slots.proofs.DestroyEnds.{left-list, may-leave-list}
 use Rattle.body_slots.proofs.destroy_op.DestroyOp.leave_list.Goals as goal
@@ -17,7 +17,7 @@ returns-clause-turn c =
     let lock = c.index_lock.result in
     let go = c.release.ensures.step in
     went-on destroy_stages c.go_on.result c.args.self.now c.go_on.new.self Destroyed (Leaving (Ok tt)) view next c.go_on.ensures.more c.go_on.ensures.stage c.requires.stage
-    (released-step view next lock go.0 go.1) (released-made view next lock go.0 go.1 c.args.pass.now.number c.args.pass.now.numbered) (omega arith)
+    (released-step view next lock go.0 go.1) (released-made view next lock go.0 go.1 c.args.pass.now.number c.args.pass.now.numbered) (omega arith) tt
     (λ first start making at.
     let named = c.index_lock.ensures ∙ ap (λ (sizes : Config). index_lock sizes) (sym c.requires.of.sizes ∙ calling-sizes start view view _ _ _ at.0) in
     left-list first.id start view making.1 at next go.0 (subst (λ (l : ℕ). LetGo view l go.0 next) named go.1))

@@ -3,7 +3,7 @@ use Rattle.pass_table.specs.Passes.{view_of}
 use Rattle.body_slots.specs.Destroying.{AtDestroy}
 use Rattle.body_slots.specs.declared.destroy_op.DestroyStage.TheVariants.{Locked, Headed}
 use Rattle.body_slots.proofs.CreateTurns.{head-step, head-made}
-use Rattle.body_slots.proofs.Stages.{went-on}
+use Rattle.pass_table.proofs.Stages.{went-on}
 use Rattle.body_slots.proofs.DestroyTurns.{destroy_stages, has-list}
 use Rattle.body_slots.proofs.DestroyEnds.{head-loaded}
 use Rattle.body_slots.proofs.destroy_op.DestroyOp.load_head.Goals as goal
@@ -15,7 +15,7 @@ returns-clause-turn c =
     let head = c.load_head-head.result in
     let loaded = c.load_head-head.ensures.loaded in
     went-on destroy_stages c.go_on.result c.args.self.now c.go_on.new.self Locked (Headed head) view next c.go_on.ensures.more c.go_on.ensures.stage c.requires.stage
-    (head-step view next head loaded) (head-made view next head loaded) (omega arith) (λ first start making at. head-loaded first.id start view next head making.1 loaded at)
+    (head-step view next head loaded) (head-made view next head loaded) (omega arith) tt (λ first start making at. head-loaded first.id start view next head making.1 loaded at)
 
 pub load_head-head-requires-clause-list : goal.load_head-head-requires-clause-list
 load_head-head-requires-clause-list c =

@@ -9,7 +9,7 @@ use Rattle.pass_table.proofs.Bodies.{body-load-step, body-load-made}
 use Rattle.body_slots.specs.declared.destroy_op.DestroyStage.TheVariants.{Joining, Placed}
 use Rattle.body_slots.specs.Destroying.{AtDestroy}
 use Rattle.body_slots.specs.DestroyLater.{stripe-held}
-use Rattle.body_slots.proofs.Stages.{went-on}
+use Rattle.pass_table.proofs.Stages.{went-on}
 use Rattle.body_slots.proofs.DestroyTurns.{destroy_stages, layer-placed, layer-low}
 use Rattle.body_slots.proofs.destroy_op.DestroyOp.load_layer.Goals as goal
 
@@ -42,6 +42,6 @@ returns-clause-turn c =
     let slot = c.args.slot in
     let stepped = c.step_15-layer.ensures.step in
     went-on destroy_stages c.go_on.result c.args.self.now c.go_on.new.self (Joining slot) (Placed slot layer) view next c.go_on.ensures.more c.go_on.ensures.stage c.requires.stage
-    (body-load-step view next (Layer c.index.result) layer stepped) (body-load-made view next (Layer c.index.result) layer stepped) (omega arith)
+    (body-load-step view next (Layer c.index.result) layer stepped) (body-load-made view next (Layer c.index.result) layer stepped) (omega arith) tt
     (λ first start making at.
     layer-placed first.id start view next slot layer making.1 (subst (λ (n : ℕ). Stepped MayLoadBody load_body view (Layer n) 0 0 layer next) (c.index.ensures.value ∙ ap (λ (i : Id). i.index) making.0) stepped) at)

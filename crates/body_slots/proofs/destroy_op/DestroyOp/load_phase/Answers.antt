@@ -1,4 +1,4 @@
-use Rattle.std.proofs.Common.{◌≡◌, ℕ, ◌+◌, ◌-◌, ◌<◌, Err, sym, ◌∙◌, ap, subst, arith}
+use Rattle.std.proofs.Common.{◌≡◌, ℕ, ◌+◌, ◌-◌, ◌<◌, Some, Err, sym, ◌∙◌, ap, subst, arith}
 use Rattle.body_ident.specs.Id.{Id}
 use Rattle.scene_model.specs.declared.body_view.Phase.TheVariants.{In}
 use Rattle.word_map.specs.declared.config.Config.{Config}
@@ -10,6 +10,7 @@ use Rattle.pass_table.specs.declared.pass.Pass.{Pass}
 use Rattle.pass_table.specs.declared.take_op.TakeOp.{TakeOp}
 use Rattle.pass_table.specs.Stepping.{Stepped}
 use Rattle.pass_table.specs.TakeTurns.{taking_of, IsTaking}
+use Rattle.pass_table.specs.Turning.{LoadsNow}
 use Rattle.pass_table.specs.Passes.{view_of}
 use Rattle.pass_table.proofs.Calling.{calling-sizes}
 use Rattle.pass_table.proofs.Bodies.{body-load-step, body-load-made}
@@ -18,7 +19,7 @@ use Rattle.body_slots.specs.declared.answers.DestroyRefused.TheVariants.{InUse}
 use Rattle.body_slots.specs.declared.destroy_op.DestroyStage.TheVariants.{Live, Joining, TakingList, Leaving}
 use Rattle.body_slots.specs.Destroying.{AtDestroy, stage_left, IsDestroyTurn}
 use Rattle.body_slots.specs.DestroyLater.{stripe-held}
-use Rattle.body_slots.proofs.Stages.{went-on}
+use Rattle.pass_table.proofs.Stages.{went-on}
 use Rattle.body_slots.proofs.DestroyTurns.{destroy_stages, phase-calling, phase-out, phase-is_in, phase-joining, phase-low, list-named, list-free}
 use Rattle.body_slots.proofs.destroy_op.DestroyOp.load_phase.Goals as goal
 
@@ -42,6 +43,7 @@ returns-then-phase-eq0-clause-turn c =
     (went-on destroy_stages c.go_on.result c.args.self.now c.go_on.new.self Live (TakingList taking) view next c.go_on.ensures.more c.go_on.ensures.stage c.requires.stage
     (body-load-step view next (Phase c.index.result) phase stepped) (body-load-made view next (Phase c.index.result) phase stepped)
     (subst (λ (t : TakeOp). stage_left (TakingList t) < 11) (sym c.new-taking.ensures.begun) (omega arith))
+    (subst (λ (t : TakeOp). LoadsNow view next (Some t)) (sym c.new-taking.ensures.begun) tt)
     (λ first start making at.
     let named = subst (λ (n : ℕ). Stepped MayLoadBody load_body view (Phase n) 0 0 phase next) (c.index.ensures.value ∙ ap (λ (i : Id). i.index) making.0) stepped in
     let lock = c.index_lock-lock.ensures ∙ ap (λ (sizes : Config). index_lock sizes) (sym c.requires.of.sizes ∙ calling-sizes start view view _ _ _ at.0) in (
@@ -57,7 +59,7 @@ returns-then-phase-eq1-clause-turn c =
     let phase = c.step_15-phase.result in
     let stepped = c.step_15-phase.ensures.step in
     went-on destroy_stages c.refuse.result c.args.self.now c.refuse.new.self Live (Leaving (Err (InUse In))) view next c.refuse.ensures.more c.refuse.ensures.stage c.requires.stage
-    (body-load-step view next (Phase c.index.result) phase stepped) (body-load-made view next (Phase c.index.result) phase stepped) (omega arith)
+    (body-load-step view next (Phase c.index.result) phase stepped) (body-load-made view next (Phase c.index.result) phase stepped) (omega arith) tt
     (λ first start making at.
     let named = subst (λ (n : ℕ). Stepped MayLoadBody load_body view (Phase n) 0 0 phase next) (c.index.ensures.value ∙ ap (λ (i : Id). i.index) making.0) stepped in
     phase-is_in first.id start view next phase making.1 named at c.if-phase-eq1.true)
@@ -86,7 +88,7 @@ returns-clause-turn c =
     let phase = c.step_15-phase.result in
     let stepped = c.step_15-phase.ensures.step in
     went-on destroy_stages c.go_on-2.result c.args.self.now c.go_on-2.new.self Live (Joining (phase - 2)) view next c.go_on-2.ensures.more c.go_on-2.ensures.stage c.requires.stage
-    (body-load-step view next (Phase c.index.result) phase stepped) (body-load-made view next (Phase c.index.result) phase stepped) (omega arith)
+    (body-load-step view next (Phase c.index.result) phase stepped) (body-load-made view next (Phase c.index.result) phase stepped) (omega arith) tt
     (λ first start making at.
     let named = subst (λ (n : ℕ). Stepped MayLoadBody load_body view (Phase n) 0 0 phase next) (c.index.ensures.value ∙ ap (λ (i : Id). i.index) making.0) stepped in
     phase-joining first.id start view next phase making.1 named at (phase - 2) (names phase c.if-phase-eq0.false c.if-phase-eq1.false))

@@ -10,7 +10,7 @@ use Rattle.body_slots.specs.declared.answers.DestroyRefused.TheVariants.{Gone}
 use Rattle.body_slots.specs.declared.destroy_op.DestroyStage.TheVariants.{Held, Live, Leaving}
 use Rattle.body_slots.specs.Destroying.{AtDestroy}
 use Rattle.body_slots.specs.DestroyLater.{stripe-held}
-use Rattle.body_slots.proofs.Stages.{went-on}
+use Rattle.pass_table.proofs.Stages.{went-on}
 use Rattle.body_slots.proofs.DestroyTurns.{destroy_stages, state-live, state-gone}
 use Rattle.body_slots.proofs.destroy_op.DestroyOp.load_state.Goals as goal
 
@@ -29,7 +29,7 @@ returns-then-state-to_word-clause-turn c =
     let state = c.step_15-state.result in
     let stepped = c.step_15-state.ensures.step in
     went-on destroy_stages c.go_on.result c.args.self.now c.go_on.new.self Held Live view next c.go_on.ensures.more c.go_on.ensures.stage c.requires.stage
-    (body-load-step view next (State c.index.result) state stepped) (body-load-made view next (State c.index.result) state stepped) (omega arith)
+    (body-load-step view next (State c.index.result) state stepped) (body-load-made view next (State c.index.result) state stepped) (omega arith) tt
     (λ first start making at.
     state-live first.id start view next state (subst (λ (n : ℕ). Stepped MayLoadBody load_body view (State n) 0 0 state next) (c.index.ensures.value ∙ ap (λ (i : Id). i.index) making.0) stepped)
     (let says = c.if-state-to_word.true in let word = c.to_word.ensures in let seq : c.seq.result ≡ first.id.seq = c.seq.ensures ∙ ap (λ (i : Id). i.seq) making.0 in omega arith) at)
@@ -41,7 +41,7 @@ returns-clause-turn c =
     let state = c.step_15-state.result in
     let stepped = c.step_15-state.ensures.step in
     went-on destroy_stages c.go_on-2.result c.args.self.now c.go_on-2.new.self Held (Leaving (Err (Gone state))) view next c.go_on-2.ensures.more c.go_on-2.ensures.stage c.requires.stage
-    (body-load-step view next (State c.index.result) state stepped) (body-load-made view next (State c.index.result) state stepped) (omega arith)
+    (body-load-step view next (State c.index.result) state stepped) (body-load-made view next (State c.index.result) state stepped) (omega arith) tt
     (λ first start making at.
     state-gone first.id start view next state making.1 (subst (λ (n : ℕ). Stepped MayLoadBody load_body view (State n) 0 0 state next) (c.index.ensures.value ∙ ap (λ (i : Id). i.index) making.0) stepped)
     (λ says. let word = c.to_word.ensures in let seq : c.seq.result ≡ first.id.seq = c.seq.ensures ∙ ap (λ (i : Id). i.seq) making.0 in c.if-state-to_word.false (omega arith)) at)

@@ -7,7 +7,7 @@ use Rattle.word_map.specs.declared.name.Name.TheVariants.{SlotHead, SlotNext}
 use Rattle.core_state.specs.View.{known_word}
 use Rattle.body_slots.specs.Destroying.{AtDestroy}
 use Rattle.body_slots.specs.declared.destroy_op.DestroyStage.TheVariants.{Linked, InFront}
-use Rattle.body_slots.proofs.Stages.{went-on}
+use Rattle.pass_table.proofs.Stages.{went-on}
 use Rattle.body_slots.proofs.DestroyTurns.{destroy_stages, has-list, has-out}
 use Rattle.body_slots.proofs.DestroyEnds.{put-step, put-made, put-first}
 use Rattle.body_slots.proofs.destroy_op.DestroyOp.put_in_front.Goals as goal
@@ -18,7 +18,7 @@ returns-clause-turn c =
     let next = view_of c.put_in_front.new.pass in
     let put = c.put_in_front.ensures.put in
     went-on destroy_stages c.go_on.result c.args.self.now c.go_on.new.self Linked InFront view next c.go_on.ensures.more c.go_on.ensures.stage c.requires.stage
-    (put-step view next c.index.result put) (put-made view next c.index.result put c.args.pass.now.number c.args.pass.now.numbered) (omega arith)
+    (put-step view next c.index.result put) (put-made view next c.index.result put c.args.pass.now.number c.args.pass.now.numbered) (omega arith) tt
     (λ first start making at. put-first first.id start view next making.1 (subst (λ (n : ℕ). PutInFront view next n) (c.index.ensures.value ∙ ap (λ (i : Id). i.index) making.0) put) at)
 
 pub put_in_front-requires-clause-list : goal.put_in_front-requires-clause-list

@@ -5,7 +5,7 @@ use Rattle.free_list.specs.Heads.{LinkedTo}
 use Rattle.core_state.specs.Lists.{IsLiveAndOut}
 use Rattle.body_slots.specs.Destroying.{AtDestroy}
 use Rattle.body_slots.specs.declared.destroy_op.DestroyStage.TheVariants.{Headed, Linked}
-use Rattle.body_slots.proofs.Stages.{went-on}
+use Rattle.pass_table.proofs.Stages.{went-on}
 use Rattle.body_slots.proofs.DestroyTurns.{destroy_stages, has-list, has-out}
 use Rattle.body_slots.proofs.DestroyEnds.{linked-step, linked-made, link-stored}
 use Rattle.body_slots.proofs.destroy_op.DestroyOp.store_link.Goals as goal
@@ -17,7 +17,7 @@ returns-clause-turn c =
     let head = c.args.head in
     let linked = c.store_link.ensures.linked in
     went-on destroy_stages c.go_on.result c.args.self.now c.go_on.new.self (Headed head) Linked view next c.go_on.ensures.more c.go_on.ensures.stage c.requires.stage
-    (linked-step view next c.index.result head linked) (linked-made view next c.index.result head linked c.args.pass.now.number c.args.pass.now.numbered) (omega arith)
+    (linked-step view next c.index.result head linked) (linked-made view next c.index.result head linked c.args.pass.now.number c.args.pass.now.numbered) (omega arith) tt
     (λ first start making at.
     link-stored first.id start view next head making.1 (subst (λ (n : ℕ). LinkedTo view next n head) (c.index.ensures.value ∙ ap (λ (i : Id). i.index) making.0) linked) at)
 

@@ -6,7 +6,7 @@ use Rattle.pass_table.specs.Passes.{view_of}
 use Rattle.pass_table.proofs.Calling.{some-left}
 use Rattle.body_slots.specs.declared.destroy_op.DestroyStage.TheVariants.{TakingStripe, Held}
 use Rattle.body_slots.specs.Destroying.{AtDestroy}
-use Rattle.body_slots.proofs.Stages.{went-on, take-more, take-again}
+use Rattle.pass_table.proofs.Stages.{went-on, take-more, take-again}
 use Rattle.body_slots.proofs.DestroyTurns.{destroy_stages, stripe-done, stripe-on}
 use Rattle.body_slots.proofs.destroy_op.DestroyOp.take_stripe.Goals as goal
 
@@ -16,7 +16,7 @@ returns-in-Done-clause-turn c =
     let next = view_of c.turn.new.pass in
     let taking = c.args.taking in
     let left = some-left taking in
-    went-on destroy_stages c.go_on.result c.args.self.now c.go_on.new.self (TakingStripe taking) Held view next c.go_on.ensures.more c.go_on.ensures.stage c.requires.stage c.turn.ensures.step c.turn.ensures.made (omega arith)
+    went-on destroy_stages c.go_on.result c.args.self.now c.go_on.new.self (TakingStripe taking) Held view next c.go_on.ensures.more c.go_on.ensures.stage c.requires.stage c.turn.ensures.step c.turn.ensures.made (omega arith) tt
     (λ first start making at. stripe-done first.id start view next taking (c.in-Done.ensures.answers (taking_of (stripe_of start.config first.id.index) Write) view at.1) c.turn.ensures.made at)
 
 pub returns-in-More-clause-turn : goal.returns-in-More-clause-turn
@@ -25,11 +25,9 @@ returns-in-More-clause-turn c =
     let next = view_of c.turn.new.pass in
     let taking = c.args.taking in
     let after = c.turn.new.self in
-    let under_way = c.requires.under_way in
-    let now = subst (AtDestroy under_way.first.id under_way.start view) c.requires.stage under_way.goes.2 in
-    take-more destroy_stages TakingStripe 12 (λ t. refl) c.args.self.now c.go_on-in-More.new.self taking after view next c.go_on-in-More.ensures.stage c.requires.stage c.turn.ensures.step c.turn.ensures.made
+    take-more destroy_stages TakingStripe 12 (λ t. refl) (λ t. refl) c.args.self.now c.go_on-in-More.new.self taking after view next c.go_on-in-More.ensures.stage c.requires.stage c.turn.ensures.step c.turn.ensures.made c.in-More.ensures.loads
     (λ first start making at. stripe-on first.id start view next taking after (c.in-More.ensures.keeps (taking_of (stripe_of start.config first.id.index) Write) view at.1) c.turn.ensures.made at)
-    c.go_on-in-More.result c.go_on-in-More.ensures.more taking.mode now.1.mode c.in-More.ensures.turned
+    c.go_on-in-More.result c.go_on-in-More.ensures.more c.in-More.ensures.turned
 
 pub returns-in-Again-clause-turn : goal.returns-in-Again-clause-turn
 returns-in-Again-clause-turn c =
@@ -37,8 +35,6 @@ returns-in-Again-clause-turn c =
     let next = view_of c.turn.new.pass in
     let taking = c.args.taking in
     let after = c.turn.new.self in
-    let under_way = c.requires.under_way in
-    let now = subst (AtDestroy under_way.first.id under_way.start view) c.requires.stage under_way.goes.2 in
-    take-again destroy_stages TakingStripe 12 (λ t. refl) c.args.self.now c.go_on-in-Again.new.self taking after view next c.go_on-in-Again.ensures.stage c.requires.stage c.turn.ensures.step c.turn.ensures.made
+    take-again destroy_stages TakingStripe 12 (λ t. refl) (λ t. refl) c.args.self.now c.go_on-in-Again.new.self taking after view next c.go_on-in-Again.ensures.stage c.requires.stage c.turn.ensures.step c.turn.ensures.made c.in-Again.ensures.loads
     (λ first start making at. stripe-on first.id start view next taking after (c.in-Again.ensures.keeps (taking_of (stripe_of start.config first.id.index) Write) view at.1) c.turn.ensures.made at)
-    c.in-Again.lock c.in-Again.word taking.mode now.1.mode c.in-Again.ensures.turned
+    c.in-Again.lock c.in-Again.word c.in-Again.ensures.turned

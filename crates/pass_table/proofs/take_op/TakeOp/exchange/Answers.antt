@@ -21,7 +21,7 @@ returns-in-Err-clause-step c =
 pub returns-in-Err-clause-turned : goal.returns-in-Err-clause-turned
 returns-in-Err-clause-turned c = inr (
   sym (ap (λ (o : Option ℕ). suc (turns_after o)) c.requires.second),
-  record { lock = c.args.self.now.lock; loaded = c.args.word; found = c.in-Err.field-0; missed = c.in-Err.ensures.exchanged },
+  record { taking = c.args.self.now; is = refl; word = c.args.word; loaded = c.requires.second; found = c.in-Err.field-0; missed = c.in-Err.ensures.exchanged },
 )
 
 pub returns-in-Ok-clause-answers : goal.returns-in-Ok-clause-answers

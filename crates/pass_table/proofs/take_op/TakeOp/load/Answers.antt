@@ -1,6 +1,7 @@
-use Rattle.std.proofs.Common.{Some, refl, sym, ◌∙◌}
+use Rattle.std.proofs.Common.{ℕ, Option, IfSome, Some, refl, sym, ◌∙◌, subst}
 use Rattle.std.proofs.lemmas.Bool.{false≢true}
 use Rattle.pass_table.specs.Passes.{view_of}
+use Rattle.pass_table.specs.Turning.{HasLoaded}
 use Rattle.pass_table.proofs.Turning.{loaded-step, loaded-made}
 use Rattle.pass_table.proofs.Knowing.{step-alone, lock-step-quiet}
 use Rattle.pass_table.proofs.TakingTurns.{taking-on}
@@ -30,3 +31,14 @@ returns-clause-made c = loaded-made (view_of c.args.pass.now) (view_of c.load_wo
 
 pub returns-then-excludes-clause-made : goal.returns-then-excludes-clause-made
 returns-then-excludes-clause-made c = loaded-made (view_of c.args.pass.now) (view_of c.load_word-word.new.pass) _ _ c.load_word-word.ensures.step
+
+pub returns-clause-loads : goal.returns-clause-loads
+returns-clause-loads c = record { load = c.load_word-word.ensures.step; had = c.load_word-word.ensures.had }
+
+pub returns-then-excludes-clause-loads : goal.returns-then-excludes-clause-loads
+returns-then-excludes-clause-loads c =
+    subst (λ (o : Option ℕ). IfSome o (HasLoaded (view_of c.args.pass.now) (view_of c.load_word-word.new.pass) c.args.self.now.lock)) (sym c.requires.first) tt
+
+pub returns-then-excludes-clause-turned : goal.returns-then-excludes-clause-turned
+returns-then-excludes-clause-turned c =
+    (refl, record { taking = c.args.self.now; is = refl; same = refl; load = c.load_word-word.ensures.step; had = c.load_word-word.ensures.had; excludes = c.excludes.ensures.0 c.if-excludes.true })

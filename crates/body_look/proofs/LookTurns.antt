@@ -1,5 +1,5 @@
 -- The turns of a look at a body.
-use Rattle.std.proofs.Common.{◌≡◌, ◌≢◌, inl, inr, ℕ, ◌<◌, ◌≤◌, [], ◌∷◌, None, refl, sym, ◌∙◌, subst, arith}
+use Rattle.std.proofs.Common.{◌≡◌, ◌≢◌, inl, inr, ℕ, ◌<◌, ◌≤◌, [], ◌∷◌, Some, None, refl, sym, ◌∙◌, subst, arith}
 use Rattle.body_ident.specs.Id.{Id}
 use Rattle.word_map.specs.declared.config.Config.{Config}
 use Rattle.word_map.specs.declared.name.Name.{Name}
@@ -17,7 +17,7 @@ use Rattle.pass_table.specs.declared.turn.Turn.TheVariants.{Done, More, Again}
 use Rattle.pass_table.specs.Stepping.{Stepped}
 use Rattle.pass_table.specs.Knowing.{alone-refl, alone-trans}
 use Rattle.pass_table.specs.Holding.{IsAtRest}
-use Rattle.pass_table.specs.Turning.{IsUnderWay, AtMostOneStep, MadeBy, Turned, LostLock, IsHeldUp}
+use Rattle.pass_table.specs.Turning.{IsUnderWay, AtMostOneStep, MadeBy, Turned, LoadsNow}
 use Rattle.pass_table.specs.TakeTurns.{taking_of, IsTaking, HasTaken, turns_left}
 use Rattle.pass_table.specs.Bodies.{IsGuarded, Loaded, live_state, KnowsLive}
 use Rattle.pass_table.proofs.Bodies.{loaded-body, body-load-step, body-load-made, gone-now}
@@ -34,7 +34,7 @@ use Rattle.body_look.specs.declared.look_op.LookStage.{LookStage}
 use Rattle.body_look.specs.declared.look_op.LookStage.TheVariants.{Taking, Striped, Live, Joining, Placed}
 use Rattle.body_look.specs.declared.look_op.LookOp.{LookOp}
 use Rattle.body_look.specs.Found.{IsAsked, IsFound}
-use Rattle.body_look.specs.Looking.{left_at, HasStripe, Guards, AtLive, AtLook, IsLooking, GuardsFound, HasLooked, IsLookTurn}
+use Rattle.body_look.specs.Looking.{left_at, HasStripe, Guards, AtLive, AtLook, IsLooking, GuardsFound, HasLooked, takes_at, IsLookTurn}
 use Rattle.body_look.specs.LookLater.{only-role, only-sizes, only-quiet, only-more, stripe-mode, is-guarded, live-more, join-more, guarded}
 use Rattle.body_look.proofs.Finding.{finds-out, finds-in, names-slot, finds-held, finds-joined}
 
@@ -47,7 +47,7 @@ module _ (before : LookOp) (stage : LookStage) (view next : View) (at : before.s
   now-at first start looking = subst (λ (s : LookStage). AtLook before.id before.mode before.depth start s view) at looking.stage
 
   -- it goes on to another one
-  module _ (after : LookStage) (keeps : (start : View) → IsAtRest start → before.id.index < start.config.bodies → AtLook before.id before.mode before.depth start stage view → AtLook before.id before.mode before.depth start after next) where
+  module _ (after : LookStage) (loads : LoadsNow view next (takes_at after)) (keeps : (start : View) → IsAtRest start → before.id.index < start.config.bodies → AtLook before.id before.mode before.depth start stage view → AtLook before.id before.mode before.depth start after next) where
     goes_on : (first : LookOp) (start : View) → IsLooking first start before view → IsLooking first start (record before { stage = after }) next
     goes_on first start looking = record {
       id = looking.id;
@@ -58,21 +58,23 @@ module _ (before : LookOp) (stage : LookStage) (view next : View) (at : before.s
       stage = keeps start looking.rest looking.below (now-at first start looking);
     }
 
-    pub goes-more : Turned {T = BodyFound} More view next before.mode (left_at before.depth stage) (left_at before.depth after) → IsLookTurn More before (record before { stage = after }) view next
+    pub goes-more : Turned {T = BodyFound} More view next (takes_at stage) (left_at before.depth stage) (left_at before.depth after) → IsLookTurn More before (record before { stage = after }) view next
     goes-more turned = record {
       step = step;
       made = made;
-      turned = subst (λ (s : LookStage). Turned {T = BodyFound} More view next before.mode (left_at before.depth s) (left_at before.depth after)) (sym at) turned;
+      turned = subst (λ (s : LookStage). Turned {T = BodyFound} More view next (takes_at s) (left_at before.depth s) (left_at before.depth after)) (sym at) turned;
+      loads = loads;
       keeps = goes_on;
       answered = λ first start looking. tt;
     }
 
-    pub goes-again : (lock word : ℕ) → Turned {T = BodyFound} (Again lock word) view next before.mode (left_at before.depth stage) (left_at before.depth after)
+    pub goes-again : (lock word : ℕ) → Turned {T = BodyFound} (Again lock word) view next (takes_at stage) (left_at before.depth stage) (left_at before.depth after)
         → IsLookTurn (Again lock word) before (record before { stage = after }) view next
     goes-again lock word turned = record {
       step = step;
       made = made;
-      turned = subst (λ (s : LookStage). Turned {T = BodyFound} (Again lock word) view next before.mode (left_at before.depth s) (left_at before.depth after)) (sym at) turned;
+      turned = subst (λ (s : LookStage). Turned {T = BodyFound} (Again lock word) view next (takes_at s) (left_at before.depth s) (left_at before.depth after)) (sym at) turned;
+      loads = loads;
       keeps = goes_on;
       answered = λ first start looking. tt;
     }
@@ -84,6 +86,7 @@ module _ (before : LookOp) (stage : LookStage) (view next : View) (at : before.s
     step = step;
     made = made;
     turned = tt;
+    loads = tt;
     keeps = λ first start looking. tt;
     answered = λ first start looking.
         subst (λ (d : LookDepth). HasLooked first.id first.mode d start next found) looking.depth
@@ -137,29 +140,26 @@ module _ (id : Id) (mode : Mode) (depth : LookDepth) (start view next : View) (r
 module _ (before : LookOp) (taking : TakeOp) (view next : View) (at : before.stage ≡ Taking taking) (step : AtMostOneStep view next) (made : MadeBy view next None) where
   pub take-done : ((first : TakeOp) (start : View) → IsTaking first start taking view → HasTaken first start next) → IsLookTurn More before (record before { stage = Striped }) view next
   take-done taken =
-      goes-more before (Taking taking) view next at step made Striped
+      goes-more before (Taking taking) view next at step made Striped tt
       (λ start rest below now. stripe-taken before.id before.mode before.depth start view next rest taking made now (taken (taking_of (stripe_of start.config before.id.index) before.mode) view now.goes))
       (inl (let some = some-left taking in omega arith))
 
-  take-mode : IsUnderWay IsLooking before view → taking.mode ≡ before.mode
-  take-mode way = (now-at before (Taking taking) view next at step made way.first way.start way.goes).goes.mode
-
-  module _ (after : TakeOp) (way : IsUnderWay IsLooking before view) (keeps : (first : TakeOp) (start : View) → IsTaking first start taking view → IsTaking first start after next) where
+  module _ (after : TakeOp) (loads : LoadsNow view next (Some after)) (keeps : (first : TakeOp) (start : View) → IsTaking first start taking view → IsTaking first start after next) where
     tried : (start : View) → IsAtRest start → before.id.index < start.config.bodies → AtLook before.id before.mode before.depth start (Taking taking) view → AtLook before.id before.mode before.depth start (Taking after) next
     tried start rest below now = stripe-tried before.id before.mode before.depth start view next rest taking made now after (keeps (taking_of (stripe_of start.config before.id.index) before.mode) view now.goes)
 
-    pub take-more : Turned {T = Unit {0}} More view next taking.mode (turns_left taking) (turns_left after) → IsLookTurn More before (record before { stage = Taking after }) view next
+    pub take-more : Turned {T = Unit {0}} More view next (Some taking) (turns_left taking) (turns_left after) → IsLookTurn More before (record before { stage = Taking after }) view next
     take-more turned =
-        goes-more before (Taking taking) view next at step made (Taking after) tried
+        goes-more before (Taking taking) view next at step made (Taking after) loads tried
         (elim turned [
           | inl less ↦ inl (omega arith)
-          | inr lost ↦ inr (let one = lost.0 in omega arith, subst (LostLock view next) (take-mode way) lost.1)
+          | inr lost ↦ inr (let one = lost.0 in omega arith, lost.1)
         ])
 
-    pub take-again : (lock word : ℕ) → Turned {T = Unit {0}} (Again lock word) view next taking.mode (turns_left taking) (turns_left after) → IsLookTurn (Again lock word) before (record before { stage = Taking after }) view next
+    pub take-again : (lock word : ℕ) → Turned {T = Unit {0}} (Again lock word) view next (Some taking) (turns_left taking) (turns_left after) → IsLookTurn (Again lock word) before (record before { stage = Taking after }) view next
     take-again lock word turned =
-        goes-again before (Taking taking) view next at step made (Taking after) tried lock word
-        (let same = turned.0 in omega arith, subst (λ (m : Mode). IsHeldUp view next m lock word) (take-mode way) turned.1)
+        goes-again before (Taking taking) view next at step made (Taking after) loads tried lock word
+        (let same = turned.0 in omega arith, turned.1)
 
 -- ---- the state word
 
@@ -227,7 +227,7 @@ module _ (before : LookOp) (view next : View) (index state : ℕ) (at : before.s
     -- or its phase is
     pub state-goes : before.depth ≡ ItsPhase → IsLookTurn More before (record before { stage = Live }) view next
     state-goes so =
-        goes-more before Striped view next at (body-load-step view next (State index) state stepped) (body-load-made view next (State index) state stepped) Live
+        goes-more before Striped view next at (body-load-step view next (State index) state stepped) (body-load-made view next (State index) state stepped) Live tt
         (λ start rest below stripe. record { stripe = stripe_then start rest stripe; deep = so; guards = guards_then start rest below stripe })
         (inl (subst (λ (d : LookDepth). 3 < left_at d Striped) (sym so) (omega arith)))
 
@@ -278,7 +278,7 @@ module _ (before : LookOp) (view next : View) (word : ℕ) (at : before.stage �
 
   pub phase-joins : (slot : ℕ) → phase_join slot ≡ word → IsLookTurn More before (record before { stage = Joining slot }) view next
   phase-joins slot says =
-      goes-more before Live view next at step made (Joining slot)
+      goes-more before Live view next at step made (Joining slot) tt
       (λ start rest below live.
       let so = guards-next before.id before.mode before.depth start view next (Phase before.id.index) word rest live loaded in
       record {
@@ -294,7 +294,7 @@ module _ (before : LookOp) (view next : View) (word : ℕ) (at : before.stage �
 pub layer-placed : (before : LookOp) (view next : View) (slot layer : ℕ) → before.stage ≡ Joining slot → AtMostOneStep view next → MadeBy view next None → Loaded view next (Layer before.id.index) layer
     → IsLookTurn More before (record before { stage = Placed slot layer }) view next
 layer-placed before view next slot layer at step made loaded =
-    goes-more before (Joining slot) view next at step made (Placed slot layer)
+    goes-more before (Joining slot) view next at step made (Placed slot layer) tt
     (λ start rest below now.
     let so = guards-next before.id before.mode before.depth start view next (Layer before.id.index) layer rest now.live loaded in (
       join-more before.id before.mode before.depth start rest view next loaded.more slot now,

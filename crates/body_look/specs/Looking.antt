@@ -1,5 +1,5 @@
 -- Looking at a body by turns.
-use Rattle.std.specs.Prelude.{◌≡◌, ⊤, ℕ, ◌+◌, ◌<◌, List, [], ◌∷◌, None}
+use Rattle.std.specs.Prelude.{◌≡◌, ⊤, ℕ, ◌+◌, ◌<◌, List, [], ◌∷◌, Option, Some, None}
 use Rattle.body_ident.specs.Id.{Id}
 use Rattle.word_map.specs.declared.config.Config.{Config}
 use Rattle.word_map.specs.declared.name.Name.TheVariants.{Lock, Phase, Layer}
@@ -115,7 +115,15 @@ pub record HasLooked (id : Id) (mode : Mode) (depth : LookDepth) (start next : V
   pub asked : IsAsked depth found
   pub is : IsFound id next found
 
+-- the lock that it takes
+abbrev pub takes_at : LookStage → Option TakeOp
+takes_at (Taking taking) = Some taking
+takes_at _ = None
+
+abbrev pub look_takes : LookOp → Option TakeOp
+look_takes operation = takes_at operation.stage
+
 -- what a turn of it owes
 abbrev pub IsLookTurn : Turn BodyFound → LookOp → LookOp → View → View → Type 0
 IsLookTurn turn before after view next =
-    IsTurn IsLooking (λ first start end answer. HasLooked first.id first.mode first.depth start end answer) look_left (λ operation. None) before.mode turn before after view next
+    IsTurn IsLooking (λ first start end answer. HasLooked first.id first.mode first.depth start end answer) look_left (λ operation. None) look_takes turn before after view next

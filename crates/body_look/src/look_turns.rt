@@ -16,7 +16,7 @@ use word_map::{Name, PhaseWord, SlotWord, StateWord};
 
 /// The stripe is held when it is done, whatever it answers; the caller lets it go.
 impl Operation for LookOp {
-    ghost use Rattle.body_look.specs.Looking.{look_left, HasLooked};
+    ghost use Rattle.body_look.specs.Looking.{look_left, look_takes, HasLooked};
     ghost use Rattle.body_look.specs.LookLater.{looking-later};
 
     type Done = BodyFound;
@@ -27,7 +27,7 @@ impl Operation for LookOp {
 
     ghost left = { look_left };
 
-    ghost takes = { λ operation. operation.mode };
+    ghost takes = { look_takes };
 
     ghost reached = { λ operation. None };
 

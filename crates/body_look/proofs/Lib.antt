@@ -1,0 +1,4 @@
+pub mod BoxLoads
+pub mod Finding
+pub mod LookTurns
+pub mod Answering

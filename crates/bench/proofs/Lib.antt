@@ -1,3 +1,2 @@
-pub mod Idle
 pub mod Pairs
 pub mod Stores

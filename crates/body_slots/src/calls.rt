@@ -33,6 +33,7 @@ pub fn create<R: Wait>(
     ensures lawful { KnowsLawful (view_of pass.new) }
     ensures tells { Tells (view_of pass.old) (view_of pass.new) [] }
     ensures keeps { belongings_of (view_of pass.new) ≡ belongings_of (view_of pass.old) }
+    ensures below { IfOk result (λ id. id.index < world.now.map.bodies) }
     ensures created { IfOk result (HasCreated layer bounds user (view_of pass.old) (view_of pass.new)) }
     ensures full { IfErr result (WasFull (view_of pass.old) (view_of pass.new)) }
 {

@@ -1,5 +1,5 @@
 -- A lock that was taken can be let go, and then the pass is at rest as before. A pass that did nothing yet is idle.
-use Rattle.std.proofs.Common.{◌≡◌, ℕ, Bool, true, false, eqb, cond, Option, Some, None, refl, ap, ◌∙◌}
+use Rattle.std.proofs.Common.{◌≡◌, ℕ, List, Bool, true, false, eqb, cond, Option, Some, None, get_or, refl, ap, ◌∙◌}
 use Rattle.std.proofs.lemmas.Bool.{eq-eqb}
 use Rattle.core_state.specs.declared.view.Mode.{Mode}
 use Rattle.core_state.specs.declared.view.LockStep.TheVariants.{Taken, Released}
@@ -8,7 +8,7 @@ use Rattle.core_state.specs.View.{mode_of, mode_after}
 use Rattle.pass_table.specs.Holding.{MayLetGo, LetGo, IsAtRest}
 use Rattle.pass_table.specs.declared.pass.Pass.{Pass}
 use Rattle.pass_table.specs.declared.world.World.{World}
-use Rattle.pass_table.specs.Opened.{IsFresh}
+use Rattle.pass_table.specs.Opened.{IsFresh, AreAll, AreIdle}
 use Rattle.pass_table.specs.Passes.{IsIdle}
 use Rattle.pass_table.specs.Trying.{Leaves, with_taken}
 use Rattle.core_guard.proofs.LockWords.{mode-push}
@@ -47,3 +47,7 @@ fresh-idle world number pass fresh = record {
   of = fresh.of;
   rest = record { free = λ lock. ap (λ (v : View). mode_of v.locks lock) fresh.view; done = ap (λ (v : View). v.call.task) fresh.view };
 }
+
+-- and so is each of all its passes
+pub all-idle : (world : World) (passes : List Pass) → AreAll world passes → AreIdle world passes
+all-idle world passes all k d below = fresh-idle world k (get_or passes k d) (all.fresh k d below)

@@ -1,5 +1,5 @@
 -- What opening a world gives.
-use Rattle.std.specs.Prelude.{◌≡◌, ℕ, ◌<◌, ◌-◌, List, length, slice_index_or, Some}
+use Rattle.std.specs.Prelude.{◌≡◌, ℕ, ◌<◌, ◌-◌, List, length, slice_index_or, All, Some}
 use Rattle.atomic_table.specs.declared.shared.Seat.{Seat}
 use Rattle.word_map.specs.declared.config.Config.{Config}
 use Rattle.word_map.specs.Limits.{IsConfig, fault_of}
@@ -10,7 +10,7 @@ use Rattle.pass_table.specs.declared.opened.OpenFault.{OpenFault}
 use Rattle.pass_table.specs.declared.opened.OpenFault.TheVariants.{BadConfig, Memory}
 use Rattle.pass_table.specs.declared.pass.Pass.{Pass}
 use Rattle.pass_table.specs.declared.world.World.{World}
-use Rattle.pass_table.specs.Passes.{view_of, IsOf}
+use Rattle.pass_table.specs.Passes.{view_of, IsOf, IsIdle}
 
 -- the pass of this number, of this world, before its first step: it knows the empty log, and has nothing
 pub record IsFresh (world : World) (number : ℕ) (pass : Pass) : Type 0 where
@@ -25,6 +25,10 @@ AreFresh world passes = (number : ℕ) (past : Pass) → number < length passes 
 pub record AreAll (world : World) (passes : List Pass) : Type 0 where
   pub count : length passes ≡ world.map.passes
   pub fresh : AreFresh world passes
+
+-- each of these passes is one of the world and idle
+abbrev pub AreIdle : World → List Pass → Type 0
+AreIdle world passes = All (IsIdle world) passes
 
 -- the seat of the pass that has all numbers from this one on
 pub record IsLast (world : World) (number : ℕ) (seat : Seat (Unit {0}) View) : Type 0 where

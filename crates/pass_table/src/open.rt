@@ -1,9 +1,11 @@
 //! Opening a world.
-ghost use Rattle.std.specs.Prelude.{◌≡◌, ◌<◌, ◌+◌, ◌-◌, [], ◌∷◌, IfOk, IfErr, MatchOption};
+ghost use Rattle.std.specs.Prelude.{◌≡◌, ◌<◌, ◌+◌, ◌-◌, [], ◌∷◌, IfOk, IfErr, IfSome, MatchOption};
 ghost use Rattle.word_map.specs.Limits.{IsConfig};
 ghost use Rattle.core_state.specs.View.{blank_view};
 ghost use Rattle.core_state.specs.declared.view.Role.TheVariants.{Pass as PassRole};
-ghost use Rattle.pass_table.specs.Opened.{IsFresh, AreAll, IsLast, IsFaultOf};
+ghost use Rattle.pass_table.specs.Opened.{IsFresh, AreAll, AreIdle, IsLast, IsFaultOf};
+ghost use Rattle.pass_table.specs.Passes.{IsIdle};
+ghost use Rattle.pass_table.specs.declared.world.World.{World};
 
 use crate::lock_set::LockSet;
 use crate::opened::OpenFault;
@@ -30,9 +32,12 @@ impl PassList {
         self.passes.as_slice()
     }
 
-    /// The pass with the lowest number that was not handed out, and `None` exactly where all were.
+    /// The pass with the lowest number that was not handed out, and `None` exactly where all were. Passes that were idle are so
+    /// still.
     pub fn next(&mut self) -> Option<Pass>
-        ensures { MatchOption result ((self.old.passes.items ≡ []) × (self.new.passes.items ≡ [])) (λ pass. self.old.passes.items ≡ pass ∷ self.new.passes.items) }
+        ensures idle { (world : World) → AreIdle world self.old.passes.items → IfSome result (IsIdle world) }
+        ensures others { (world : World) → AreIdle world self.old.passes.items → AreIdle world self.new.passes.items }
+        ensures first { MatchOption result ((self.old.passes.items ≡ []) × (self.new.passes.items ≡ [])) (λ pass. self.old.passes.items ≡ pass ∷ self.new.passes.items) }
     {
         if self.passes.is_empty() {
             return None;
@@ -48,6 +53,7 @@ impl PassList {
 pub fn open_world(alloc: Global, config: Config) -> Result<(World, PassList), OpenFault>
     ensures sizes { IfOk result (λ opened. IsConfig config × (opened.0.map ≡ config)) }
     ensures passes { IfOk result (λ opened. AreAll opened.0 opened.1.passes.items) }
+    ensures idle { IfOk result (λ opened. AreIdle opened.0 opened.1.passes.items) }
     ensures fault { IfErr result (IsFaultOf config) }
 {
     match check(config) {

@@ -1,0 +1,122 @@
+//! Batches that are prepared, two at once, attached and given up, with other calls in between.
+ghost use Rattle.std.specs.Prelude.{◌≡◌, ◌<◌, ◌≤◌, All, IfSome, length};
+ghost use Rattle.pass_table.specs.Belongings.{belongings_of};
+ghost use Rattle.pass_table.specs.Passes.{view_of, IsIdle};
+ghost use Rattle.batch_add.specs.Prepared.{IsGood, IsApart};
+
+use crate::lives::{live, point, user_of};
+use crate::tally::Tally;
+use batch_add::{Prepared, abort, finalize, prepare};
+use body_ident::BodyId;
+use body_lock::lock_read;
+use body_slots::{create, destroy};
+use pass_table::{Pass, World};
+use std::alloc::Global;
+use std::sync::Wait;
+
+/// How often each of the two threads streams.
+const ROUNDS: u32 = 32;
+
+/// Creates a body.
+fn body<R: Wait>(rt: &R, world: &World, pass: &mut Pass, layer: u32) -> Option<BodyId>
+    requires idle { IsIdle world.now pass.old }
+    requires in_layers { layer < world.now.map.layers }
+    ensures idle { IsIdle world.now pass.new }
+    ensures keeps { belongings_of (view_of pass.new) ≡ belongings_of (view_of pass.old) }
+    ensures below { IfSome result (λ id. id.index < world.now.map.bodies) }
+{
+    create(rt, world, pass, layer, point()?, 7).ok()
+}
+
+/// Attaches the younger of two batches while a body of the older one is read, then lives, and gives the older one up.
+fn end<R: Wait>(
+    rt: &R,
+    world: &World,
+    pass: &mut Pass,
+    layer: u32,
+    id: BodyId,
+    older: Prepared,
+    younger: Prepared,
+) -> Tally
+    requires idle { IsIdle world.now pass.old }
+    requires in_layers { layer < world.now.map.layers }
+    requires below { id.index < world.now.map.bodies }
+    requires older { IsGood older (view_of pass.old) }
+    requires younger { IsGood younger (view_of pass.old) }
+    requires apart { IsApart older younger }
+    ensures idle { IsIdle world.now pass.new }
+{
+    let mut read = 0;
+    match lock_read(rt, world, pass, id) {
+        Ok(guard) => {
+            finalize(world, pass, younger);
+            read = u32::from(guard.view(world, pass).user == 7);
+            guard.unlock(world, pass);
+        }
+        Err(_) => finalize(world, pass, younger),
+    }
+    let lived = live(rt, world, pass, layer, 1).unwrap_or(Tally::NOTHING);
+    abort(rt, world, pass, older);
+    Tally {
+        read,
+        attached: 1,
+        given_up: 1,
+        ..Tally::NOTHING
+    }
+    .and(lived)
+}
+
+/// One round: a batch of two bodies, a life, another batch of one, and then both come to their ends. The bodies of the batch
+/// that was given up are destroyed.
+fn stream_once<R: Wait>(
+    rt: &R,
+    alloc: Global,
+    world: &World,
+    pass: &mut Pass,
+    layer: u32,
+) -> Option<Tally>
+    requires idle { IsIdle world.now pass.old }
+    requires in_layers { layer < world.now.map.layers }
+    ensures idle { IsIdle world.now pass.new }
+{
+    let (one, two) = (body(rt, world, pass, layer)?, body(rt, world, pass, layer)?);
+    let three = body(rt, world, pass, layer)?;
+    let older = prepare(rt, alloc, world, pass, layer, &[one, two]).ok()?;
+    let lived = live(rt, world, pass, layer, 2).unwrap_or(Tally::NOTHING);
+    let tally = match prepare(rt, alloc, world, pass, layer, &[three]) {
+        Ok(younger) => end(rt, world, pass, layer, one, older, younger),
+        Err(_) => {
+            abort(rt, world, pass, older);
+            return None;
+        }
+    };
+    let gone = [destroy(rt, world, pass, one).is_ok(), destroy(rt, world, pass, two).is_ok()];
+    let destroyed = u32::from(gone[0]) + u32::from(gone[1]);
+    let made = Tally {
+        created: 3,
+        destroyed,
+        ..Tally::NOTHING
+    };
+    Some(tally.and(lived).and(made))
+}
+
+/// What one thread does: it streams in a layer of its own.
+pub(crate) fn stream<R: Wait>(
+    rt: &R,
+    alloc: Global,
+    world: &World,
+    pass: Pass,
+    layer: u32,
+) -> Tally
+    requires idle { IsIdle world.now pass }
+    requires in_layers { layer < world.now.map.layers }
+{
+    let mut pass = pass;
+    let mut tally = Tally::NOTHING;
+    for _ in 0..ROUNDS {
+        if let Some(more) = stream_once(rt, alloc, world, &mut pass, layer) {
+            tally = tally.and(more);
+        }
+    }
+    tally
+}

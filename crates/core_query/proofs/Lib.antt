@@ -13,6 +13,7 @@ pub mod Keeping
 pub mod Asked
 pub mod Positions
 pub mod Recording
+pub mod Followed
 pub mod Pruned
 pub mod Finding
 pub mod Reading

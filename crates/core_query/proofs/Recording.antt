@@ -14,9 +14,9 @@ use Rattle.core_query.specs.Ends.{IsAtEnd}
 use Rattle.core_query.specs.WholeRecord.{ReadChild, six_words, child_loads, node_loads, node_to_walk, nodes_to_walk, IsWholeRecord, nothing_left, of_word, of_node}
 
 -- the loads are what is read from a position on, to the end
-record Ends (query : Query) (at : Position) (loads : List Load) : Type 0 where
-  follows : FollowsFrom query at loads
-  end : IsAtEnd (replay query at loads)
+pub record Ends (query : Query) (at : Position) (loads : List Load) : Type 0 where
+  pub follows : FollowsFrom query at loads
+  pub end : IsAtEnd (replay query at loads)
 
 child-moves : (n level k : ℕ) → at_child n level k ≢ resting
 child-moves n level k e = absurd cc
@@ -25,16 +25,16 @@ bound-moves : (n level k x : ℕ) (read : List ℕ) → at_bound n level k x rea
 bound-moves n level k x read e = absurd cc
 
 -- four pieces taken off the front of a list, one after the other
-four-joined : {X : Type 0} (l a b c d la lb lc ld : List X) → l ≡ a ++ la → la ≡ b ++ lb → lb ≡ c ++ lc → lc ≡ d ++ ld → l ≡ (a ++ (b ++ (c ++ (d ++ [])))) ++ ld
+pub four-joined : {X : Type 0} (l a b c d la lb lc ld : List X) → l ≡ a ++ la → la ≡ b ++ lb → lb ≡ c ++ lc → lc ≡ d ++ ld → l ≡ (a ++ (b ++ (c ++ (d ++ [])))) ++ ld
 four-joined l a b c d la lb lc ld p q r s = rw (p, q, r, s) (simp append_assoc)
 
 -- ---- a child
 
 -- the stack when a child was read
-abbrev put : Query → ℕ → ReadChild → List Waiting → List Waiting
+abbrev pub put : Query → ℕ → ReadChild → List Waiting → List Waiting
 put query level child stack = if child.word == 0 then stack else if query.test (six_words child.bound) then pushed level child.word stack else stack
 
-abbrev node_of : Waiting → ℕ
+abbrev pub node_of : Waiting → ℕ
 node_of w = w.node
 
 put-by : (none touches node : Bool) (m level : ℕ) (stack : List Waiting)
@@ -44,7 +44,7 @@ put-by false false node m level stack = refl
 put-by false true true m level stack = refl
 put-by false true false m level stack = refl
 
-put-nodes : (query : Query) (level : ℕ) (child : ReadChild) (stack : List Waiting) → map node_of (put query level child stack) ≡ node_to_walk query child ++ map node_of stack
+pub put-nodes : (query : Query) (level : ℕ) (child : ReadChild) (stack : List Waiting) → map node_of (put query level child stack) ≡ node_to_walk query child ++ map node_of stack
 put-nodes query level child stack = put-by (child.word == 0) (query.test (six_words child.bound)) (child.word % 2 == 0) ((child.word - 2) / 2) (suc level) stack
 
 module _ (query : Query) (rest : List Name) where
@@ -105,13 +105,13 @@ module _ (query : Query) (rest : List Name) where
     goes_on : Ends query (next_node rest next) later
 
   -- the nodes that wait after one child, after two, and after three
-  abbrev after_one : ℕ → ReadChild → List Waiting → List Waiting
+  abbrev pub after_one : ℕ → ReadChild → List Waiting → List Waiting
   after_one level a stack = put query level a stack
 
-  abbrev after_two : ℕ → ReadChild → ReadChild → List Waiting → List Waiting
+  abbrev pub after_two : ℕ → ReadChild → ReadChild → List Waiting → List Waiting
   after_two level a b stack = put query level b (after_one level a stack)
 
-  abbrev after_three : ℕ → ReadChild → ReadChild → ReadChild → List Waiting → List Waiting
+  abbrev pub after_three : ℕ → ReadChild → ReadChild → ReadChild → List Waiting → List Waiting
   after_three level a b c stack = put query level c (after_two level a b stack)
 
   by-children : (stack : List Waiting) (n level : ℕ) (loads : List Load) (a : ReadsChild stack n level 0 loads) (b : ReadsChild (after_one level a.child stack) n level 1 a.later)

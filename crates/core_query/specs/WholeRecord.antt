@@ -27,7 +27,7 @@ child_loads n k child = record { name = Child n k; value = child.word } ∷ (if 
 abbrev pub node_loads : ℕ → (ℕ → ReadChild) → List Load
 node_loads n children = flat_map (λ k. child_loads n k (children k)) (range_with_len 0 4)
 
--- the node that a child is, where its bound touches the shape; a body is even less one
+-- the node that a child is, where it is one, as even words are, and its bound touches the shape
 abbrev pub node_to_walk : Query → ReadChild → List ℕ
 node_to_walk query child = if child.word == 0 then [] else if query.test (six_words child.bound) then if child.word % 2 == 0 then (child.word - 2) / 2 ∷ [] else [] else []
 

@@ -81,13 +81,15 @@ pub fn stacks_of_walks_are_short()
         → length (walked_to core query view).stack < 31 }
 {}
 
-/// What a query has read when nothing is left is a whole record, and nothing else: for each asked layer, ascending, one load
-/// of each slot and then of the main word, each followed by the walk of its tree; of each node that is walked one load of
-/// each of its four children, and six of the bound of each child that is not 0. No word that is asked for is asked for twice,
-/// so where no node was walked twice no word was read twice.
+/// What a query has read when nothing is left is a whole record, and each whole record is read so. That is, for each asked
+/// layer, ascending, one load of each slot and then of the main word, each followed by the walk of its tree; of each node
+/// that is walked one load of each of its four children, and six of the bound of each child that is not 0. No word is asked
+/// for twice, so where no node was walked twice no word was read twice.
 pub fn records_of_walks_are_whole()
     ensures whole { (c : Config) (query : Query) (loads : List Load) → Follows c query loads → IsAtEnd (position_of c query loads)
         → IsWholeRecord query [] (asked_words c query.mask) loads }
+    ensures read { (c : Config) (query : Query) (loads : List Load) → IsWholeRecord query [] (asked_words c query.mask) loads
+        → Follows c query loads × IsAtEnd (position_of c query loads) }
     ensures words { (c : Config) (mask : ℕ) → AllPairs (λ a b. a ≢ b) (asked_words c mask) }
     ensures once { (c : Config) (query : Query) (loads : List Load) → Follows c query loads → IsAtEnd (position_of c query loads) → WalksOnce loads
         → AllPairs (λ a b. a.name ≢ b.name) loads }
@@ -113,8 +115,9 @@ pub fn nodes_are_walked_once()
         → WalksOnce (view.walk.loads ++ record { name = name; value = value } ∷ []) }
 {}
 
-/// Where the shape touches no box in the space of an asked layer, as it stands when nothing is left to read, a walk has read
-/// of each tree no more than the root: 29 loads for each slot and main word. It found no body, and has no candidate.
+/// Where the shape touches no box in the space of any asked layer, as it stands when nothing is left to read, a walk has made
+/// at most 29 loads for each slot and main word, since it has read of each tree the root alone. It found no body, and where
+/// no node was walked twice it has no candidate.
 pub fn clear_walks_read_roots_alone()
     ensures loads { (core : Core) (query : Query) (seat number : ℕ) (view : View) → Invariants core → IsWalking core query seat number view
         → IsAtEnd (walked_to core query view) → IsClear core query

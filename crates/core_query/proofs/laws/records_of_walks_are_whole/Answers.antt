@@ -2,6 +2,7 @@ use Rattle.std.proofs.Common.{[]}
 use Rattle.core_state.specs.Walking.{asked_words}
 use Rattle.core_query.proofs.Finding.{asked-layers}
 use Rattle.core_query.proofs.Recording.{whole-record}
+use Rattle.core_query.proofs.Followed.{whole-followed}
 use Rattle.core_query.proofs.Apart.{asked-apart, loads-apart}
 use Rattle.core_query.proofs.laws.records_of_walks_are_whole.Goals as goal
 
@@ -14,3 +15,6 @@ returns-clause-words c = asked-apart
 pub returns-clause-once : goal.returns-clause-once
 returns-clause-once c = λ config query loads follows end.
     loads-apart query [] (asked_words config query.mask) loads (whole-record config query loads follows end) (asked-layers config query.mask) (asked-apart config query.mask)
+
+pub returns-clause-read : goal.returns-clause-read
+returns-clause-read c = whole-followed

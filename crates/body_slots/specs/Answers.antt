@@ -5,13 +5,13 @@ use Rattle.body_ident.specs.Id.{Id, id_of}
 use Rattle.scene_model.specs.declared.entry.Entry.TheVariants.{Create}
 use Rattle.scene_model.specs.Scene.{Scene, place_at, next_index}
 use Rattle.scene_model.specs.Cause.{IsCauseAt, full}
-use Rattle.scene_model.specs.History.{IsLawfulHistory}
 use Rattle.word_map.specs.declared.config.Config.{Config}
 use Rattle.word_map.specs.declared.name.Name.TheVariants.{SlotHead}
 use Rattle.core_state.specs.declared.item.Item.{Item}
 use Rattle.core_state.specs.declared.view.View.{View}
-use Rattle.core_state.specs.Log.{word, history}
+use Rattle.core_state.specs.Log.{word}
 use Rattle.core_state.specs.Guards.{scene_at}
+use Rattle.pass_table.specs.Knowing.{KnowsLawful}
 use Rattle.pass_table.specs.Calls.{Adds, AtPoint, MakesAt, RestsAgain}
 use Rattle.body_slots.specs.declared.answers.Full.{Full}
 
@@ -40,10 +40,6 @@ pub record WasFull (start next : View) (refused : Full) : Type 0 where
 -- what a creation answers is so
 abbrev pub IsCreateAnswer : ℕ → FixBox → ℕ → View → View → Result Id Full → Type 0
 IsCreateAnswer layer bounds user start next answer = MatchResult answer (HasCreated layer bounds user start next) (WasFull start next)
-
--- the history that is known is lawful
-abbrev pub KnowsLawful : View → Type 0
-KnowsLawful view = IsLawfulHistory view.config.layers view.config.bodies (history view.known)
 
 -- a call that a pass made at rest has ended: the pass is at rest again, and the history is lawful
 pub record HasEnded (start next : View) : Type 0 where

@@ -108,7 +108,7 @@ pub adds-none : (start view next : View) (entries : List Entry) → view.role �
 adds-none start view next entries role adds by = subst (Adds start next) (append-nil entries) (adds-made start view next entries None role adds by)
 
 -- what others stored adds none
-more-foreign : (view next : View) (number : ℕ) (more : KnowsMore view next) → IsPass view number → All (λ (item : Item). item.pass ≢ number) more.since
+pub more-foreign : (view next : View) (number : ℕ) (more : KnowsMore view next) → IsPass view number → All (λ (item : Item). item.pass ≢ number) more.since
 more-foreign view next number more pass = λ k d below same.
     (more.others (take k more.since) (drop (suc k) more.since) (get_or more.since k d) (cut_at more.since k d below)).foreign (pass ∙ ap Some (sym same))
 

@@ -7,11 +7,12 @@ use Rattle.std.proofs.lemmas.Option.{same_Some}
 use Rattle.word_map.specs.declared.config.Config.{Config}
 use Rattle.word_map.specs.declared.name.Name.{Name}
 use Rattle.word_map.specs.declared.name.Name.TheVariants.{Lock, Update}
+use Rattle.word_map.specs.Layout.{name_of}
 use Rattle.core_state.specs.declared.item.Item.{Item}
 use Rattle.core_state.specs.declared.view.View.{View}
 use Rattle.core_state.specs.Log.{IsPrefix}
 use Rattle.core_state.specs.Looking.{MayLook, look}
-use Rattle.core_state.specs.Seats.{joined_view}
+use Rattle.core_state.specs.Seats.{visitor_of, joined_view}
 use Rattle.core_state.specs.Kind.{Kind, Asking, Step, learned, found_by, left_by, item_of, gained_by, log_after}
 use Rattle.core_state.proofs.Prefixes.{IsPrefix-trans}
 use Rattle.core_state.proofs.Forming.{unspent_pass}
@@ -24,6 +25,7 @@ use Rattle.core_state.proofs.Quiet.{in_first, in_second, append_cut, one_cut, no
 use Rattle.core_state.proofs.Steps.{gained-unstored, Gains, nothing, its_item, gains}
 use Rattle.pass_table.specs.Knowing.{IsOthers, KnowsMore, StoresAlone, Looked, MeetsWith}
 use Rattle.pass_table.proofs.Keeping.{All-second}
+use Rattle.pass_table.proofs.Leaving.{stepped-named}
 
 -- the kind leaves the view as it was, but for what is known
 abbrev pub IsPlain : Kind → Type 0
@@ -81,6 +83,13 @@ looked view next found stepped = record {
   whole = ap (λ (v : View). v.known) stepped.leaves ∙ append-nil stepped.before.log;
   more = knows-more MayLook look view next Update 0 0 found stepped (λ v n f a b. refl) (λ word operand. refl);
 }
+
+-- the look of a meeting, at the place of a word: the pass made it after it was joined by a visitor of the other
+pub met-look : (key c : Config) (view other visitor joined next : View) (place found : ℕ) → key ≡ c → name_of c place ≡ Update → visitor ≡ visitor_of other → joined ≡ joined_view view visitor
+    → Stepped MayLook look joined (name_of key place) 0 0 found next → Stepped MayLook look (joined_view view other) Update 0 0 found next
+met-look key c view other visitor joined next place found keyed named left joins stepped =
+    subst (λ (v : View). Stepped MayLook look v Update 0 0 found next) (joins ∙ ap (joined_view view) left)
+    (stepped-named MayLook look look joined next key c place 0 0 found Update keyed named refl stepped)
 
 -- a look after two met tells that what it knows goes on from what either knew
 pub meets-with : (view other next : View) → Looked (joined_view view other) next → MeetsWith view other next

@@ -8,6 +8,7 @@ pub mod Seating
 pub mod Knowing
 pub mod Bodies
 pub mod LockedBodies
+pub mod Current
 pub mod Ruling
 pub mod Trying
 pub mod Turning
@@ -17,3 +18,5 @@ pub mod Calling
 pub mod WorkLater
 pub mod Working
 pub mod Between
+pub mod Telling
+pub mod Several

@@ -1,5 +1,7 @@
 -- A world is opened in the state that the rule asks for, and its passes are those of its numbers.
-use Rattle.std.proofs.Common.{◌≡◌, ℕ, ◌+◌, ◌-◌, ◌<◌, ◌≤◌, List, [], ◌∷◌, ◌++◌, map, length, slice_index_or, refl, ap, sym, ◌∙◌, subst, inl, inr, arith}
+use Rattle.std.proofs.Common.{◌≡◌, ℕ, zero, suc, ◌+◌, ◌-◌, ◌<◌, ◌≤◌, List, [], ◌∷◌, ◌++◌, map, length, set, slice_index_or, None, refl, ap, sym, ◌∙◌, subst, inl, inr, arith}
+use mathlib.Core.Option.{some}
+use lib.ListN.{get_elem?}
 use Rattle.std.specs.List.{range_with_len}
 use Rattle.std.proofs.lemmas.Bool.{cases_lt}
 use Rattle.std.proofs.lemmas.List.{length-append, get_or_append_left}
@@ -20,8 +22,13 @@ use Rattle.core_state.specs.declared.view.Role.TheVariants.{Pass as PassRole}
 use Rattle.core_state.specs.declared.view.View.{View}
 use Rattle.core_state.specs.Log.{opening_word, words}
 use Rattle.core_state.specs.View.{blank_view}
-use Rattle.pass_table.specs.Standing.{IsRuled}
-use Rattle.pass_table.proofs.Keeping.{Stands-opening}
+use Rattle.core_state.specs.Core.{IsViewAt}
+use Rattle.core_state.specs.Seats.{after_split}
+use Rattle.core_state.specs.Event.{opens_pass}
+use Rattle.core_state.proofs.Lookups.{at_bound, set_here, at_longer}
+use Rattle.pass_table.specs.Standing.{core_of, Stands, IsRuled}
+use Rattle.pass_table.specs.Bodies.{IsCurrent}
+use Rattle.pass_table.proofs.Keeping.{Stands-event, Stands-opening}
 
 -- one opening word more
 pub opening-more : (c : Config) (items : List ℕ) (n v : ℕ) → items ≡ map (λ p. opening_word c (name_of c p)) (range_with_len 0 n) → v ≡ opening_word c (name_of c n)
@@ -87,7 +94,60 @@ last-view world seat passes number last all same =
 -- with the last pass there are all
 pub all-fresh : (world : World) (passes all : List Pass) (pass : Pass) (count number : ℕ) → count ≡ world.map.passes → 1 ≤ count → number ≡ count - 1 → all ≡ passes ++ pass ∷ [] → length passes ≡ number
     → AreFresh world passes → IsFresh world (count - 1) pass → AreAll world all
-all-fresh world passes all pass count number sizes some same parts many fresh last =
+all-fresh world passes all pass count number sizes least same parts many fresh last =
     let more = fresh-more world passes all pass number parts many fresh (subst (λ (n : ℕ). IsFresh world n pass) (sym same) last) in
     let whole : number + 1 ≡ world.map.passes = omega arith in
     record { count = more.0 ∙ whole; fresh = more.1 }
+
+-- ---- a fresh pass knows all that there is to know
+
+-- the last of a list, by its place
+at_last : (views : List View) (view : View) → get_elem? (views ++ view ∷ []) (length views) ≡ some view
+at_last [] view = refl
+at_last (v ∷ views) view = at_last views view
+
+-- a core without a log that stands, in which one seat has all numbers from this one on
+record HasLast (c : Config) (number further : ℕ) : Type 0 where
+  pub views : List View
+  pub seat : ℕ
+  pub stands : Stands (core_of c [] views)
+  pub at : IsViewAt (core_of c [] views) seat (blank_view c (PassRole number further))
+
+-- it is that of a world in which all passes up to this one were opened
+has-last : (c : Config) → IsConfig c → (number further : ℕ) → number + further ≡ c.passes - 1 → HasLast c number further
+has-last c sizes zero further whole =
+    record { views = blank_view c (PassRole 0 further) ∷ []; seat = 0; stands = subst (λ (n : ℕ). Stands (core_of c [] (blank_view c (PassRole 0 n) ∷ []))) (omega arith) (Stands-opening c sizes); at = refl }
+has-last c sizes (suc number) further whole =
+    let last = has-last c sizes number (suc further) (omega arith) in
+    let core = core_of c [] last.views in
+    let own = blank_view c (PassRole number 0) in
+    let next = blank_view c (PassRole (suc number) further) in
+    record {
+      views = set last.views last.seat own ++ next ∷ [];
+      seat = length (set last.views last.seat own);
+      stands = Stands-event core (after_split core last.seat own next) (opens_pass (record { seat = last.seat; number = number; further = further; at = last.at; result = refl })) last.stands;
+      at = at_last (set last.views last.seat own) next;
+    }
+
+-- so has one that kept its own number alone
+pub blank-current : (c : Config) → IsConfig c → (number : ℕ) → number < c.passes → IsCurrent (blank_view c (PassRole number 0))
+blank-current c sizes number below = go (c.passes - 1 - number) (omega arith)
+  where
+    go : (further : ℕ) → number + further ≡ c.passes - 1 → IsCurrent (blank_view c (PassRole number 0))
+    go zero whole =
+        let last = has-last c sizes number 0 whole in
+        record { core = core_of c [] last.views; seat = last.seat; stands = last.stands; at = last.at; sizes = refl; whole = refl; alone = refl }
+    go (suc further) whole =
+        let last = has-last c sizes number (suc further) whole in
+        let core = core_of c [] last.views in
+        let own = blank_view c (PassRole number 0) in
+        let next = blank_view c (PassRole (suc number) further) in
+        record {
+          core = after_split core last.seat own next;
+          seat = last.seat;
+          stands = Stands-event core (after_split core last.seat own next) (opens_pass (record { seat = last.seat; number = number; further = further; at = last.at; result = refl })) last.stands;
+          at = at_longer (set last.views last.seat own) (next ∷ []) last.seat own (set_here last.views last.seat own (at_bound last.views last.seat _ last.at));
+          sizes = refl;
+          whole = refl;
+          alone = refl;
+        }

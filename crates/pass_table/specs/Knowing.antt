@@ -2,17 +2,22 @@
 use Rattle.std.specs.Prelude.{◌≡◌, ℕ, List, [], ◌∷◌, ◌++◌, None}
 use Rattle.std.proofs.Common.{ap, sym, ◌∙◌, append_assoc}
 use Rattle.std.proofs.lemmas.List.{append-nil}
+use Rattle.scene_model.specs.History.{IsLawfulHistory}
 use Rattle.word_map.specs.declared.name.Name.TheVariants.{Update}
 use Rattle.word_map.specs.declared.name.Name.{Name}
 use Rattle.core_state.specs.declared.view.View.{View}
 use Rattle.core_state.specs.declared.item.Item.{Item}
-use Rattle.core_state.specs.Log.{IsPrefix}
+use Rattle.core_state.specs.Log.{history, IsPrefix}
 use Rattle.core_state.specs.View.{number_in, IsPass}
 use Rattle.core_state.specs.Guards.{IsQuiet}
 use Rattle.core_state.proofs.Quiet.{append_cut, in_first, in_second, no_cut}
 use Rattle.core_state.specs.Looking.{MayLook, look}
 use Rattle.core_state.specs.Seats.{joined_view}
 use Rattle.pass_table.specs.Stepping.{Stepped}
+
+-- the history that the pass knows is lawful
+abbrev pub KnowsLawful : View → Type 0
+KnowsLawful view = IsLawfulHistory view.config.layers view.config.bodies (history view.known)
 
 -- an item that another pass stored, and that stores no word which this one has for itself
 pub record IsOthers (view : View) (first : List Item) (item : Item) : Type 0 where

@@ -14,3 +14,4 @@ pub mod Numbered
 pub mod Calls
 pub mod Work
 pub mod Belongings
+pub mod Several

@@ -1,9 +1,14 @@
 //! Taking locks and letting them go.
-ghost use Rattle.std.specs.Prelude.{◌≡◌, ◌≢◌, ◌↔◌, ℕ, ◌^◌, true, ◌<◌, ◌≤◌};
+ghost use Rattle.std.specs.Prelude.{◌≡◌, ◌≢◌, ◌↔◌, ℕ, ◌^◌, true, ◌<◌, ◌≤◌, [], None};
 ghost use Rattle.word_map.specs.declared.name.Name.TheVariants.{Lock};
 ghost use Rattle.word_map.specs.Names.{IsName};
 ghost use Rattle.core_state.specs.View.{HoldsNot};
 ghost use Rattle.core_state.specs.declared.view.Mode.TheVariants.{Read, Write};
+ghost use Rattle.pass_table.specs.Belongings.{belongings_of};
+ghost use Rattle.pass_table.specs.Calls.{Adds};
+ghost use Rattle.pass_table.specs.Work.{Tells};
+ghost use Rattle.pass_table.specs.Turning.{MadeBy};
+ghost use Rattle.pass_table.specs.TakeTurns.{taking_of, HasTaken};
 ghost use Rattle.pass_table.specs.Holding.{MayLetGo, LetGo};
 ghost use Rattle.pass_table.specs.Trying.{mode_if, Excludes, Leaves, HadWord, with_taken, LoadedLock, Exchanged, Tried};
 ghost use Rattle.pass_table.specs.Passes.{view_of, IsOf};
@@ -24,6 +29,9 @@ pub fn release(world: &World, pass: &mut Pass, lock: u32)
     requires may { MayLetGo (view_of pass.old) lock }
     ensures of { IsOf world.now pass.new }
     ensures step { (found : ℕ) × LetGo (view_of pass.old) lock found (view_of pass.new) }
+    ensures adds { Adds (view_of pass.old) (view_of pass.new) [] }
+    ensures tells { Tells (view_of pass.old) (view_of pass.new) [] }
+    ensures keeps { belongings_of (view_of pass.new) ≡ belongings_of (view_of pass.old) }
 {
     pass.let_go(world, lock);
 }
@@ -133,6 +141,9 @@ pub fn try_take(world: &World, pass: &mut Pass, lock: u32, write: bool) -> Take
     requires free { HoldsNot (view_of pass.old) lock }
     ensures of { IsOf world.now pass.new }
     ensures tried { Tried (view_of pass.old) (view_of pass.new) lock (mode_if write) result }
+    ensures adds { Adds (view_of pass.old) (view_of pass.new) [] }
+    ensures tells { Tells (view_of pass.old) (view_of pass.new) [] }
+    ensures keeps { belongings_of (view_of pass.new) ≡ belongings_of (view_of pass.old) }
 {
     if write {
         try_mode(world, pass, lock, Mode::Write)
@@ -148,6 +159,11 @@ fn take<R: Wait>(rt: &R, world: &World, pass: &mut Pass, lock: u32, mode: Mode)
     requires free { HoldsNot (view_of pass.old) lock }
     ensures of { IsOf world.now pass.new }
     ensures left { Leaves (view_of pass.old) (view_of pass.new) (with_taken (view_of pass.old) lock mode) }
+    ensures taken { HasTaken (taking_of lock mode) (view_of pass.old) (view_of pass.new) }
+    ensures made { MadeBy (view_of pass.old) (view_of pass.new) None }
+    ensures adds { Adds (view_of pass.old) (view_of pass.new) [] }
+    ensures tells { Tells (view_of pass.old) (view_of pass.new) [] }
+    ensures keeps { belongings_of (view_of pass.new) ≡ belongings_of (view_of pass.old) }
 {
     let backoff = Backoff::new();
     for _ in rt.forever() {
@@ -168,6 +184,11 @@ pub fn take_read<R: Wait>(rt: &R, world: &World, pass: &mut Pass, lock: u32)
     requires order { (held : ℕ) → lock ≤ held → HoldsNot (view_of pass.old) held }
     ensures of { IsOf world.now pass.new }
     ensures left { Leaves (view_of pass.old) (view_of pass.new) (with_taken (view_of pass.old) lock Read) }
+    ensures taken { HasTaken (taking_of lock Read) (view_of pass.old) (view_of pass.new) }
+    ensures made { MadeBy (view_of pass.old) (view_of pass.new) None }
+    ensures adds { Adds (view_of pass.old) (view_of pass.new) [] }
+    ensures tells { Tells (view_of pass.old) (view_of pass.new) [] }
+    ensures keeps { belongings_of (view_of pass.new) ≡ belongings_of (view_of pass.old) }
 {
     take(rt, world, pass, lock, Mode::Read);
 }
@@ -181,6 +202,11 @@ pub fn take_write<R: Wait>(rt: &R, world: &World, pass: &mut Pass, lock: u32)
     requires order { (held : ℕ) → lock ≤ held → HoldsNot (view_of pass.old) held }
     ensures of { IsOf world.now pass.new }
     ensures left { Leaves (view_of pass.old) (view_of pass.new) (with_taken (view_of pass.old) lock Write) }
+    ensures taken { HasTaken (taking_of lock Write) (view_of pass.old) (view_of pass.new) }
+    ensures made { MadeBy (view_of pass.old) (view_of pass.new) None }
+    ensures adds { Adds (view_of pass.old) (view_of pass.new) [] }
+    ensures tells { Tells (view_of pass.old) (view_of pass.new) [] }
+    ensures keeps { belongings_of (view_of pass.new) ≡ belongings_of (view_of pass.old) }
 {
     take(rt, world, pass, lock, Mode::Write);
 }

@@ -1,12 +1,15 @@
 //! Looking at the log, and meeting.
-ghost use Rattle.std.specs.Prelude.{◌≡◌};
-ghost use Rattle.core_state.specs.Seats.{joined_view};
+ghost use Rattle.std.specs.Prelude.{◌≡◌, []};
+ghost use Rattle.pass_table.specs.Belongings.{belongings_of};
+ghost use Rattle.pass_table.specs.Calls.{Adds};
+ghost use Rattle.pass_table.specs.Work.{Tells};
 ghost use Rattle.pass_table.specs.Knowing.{Looked, MeetsWith};
 ghost use Rattle.pass_table.specs.Passes.{view_of, IsOf};
 
 use crate::kinds::Look;
 use crate::pass::Pass;
 use crate::seats::{Meet, Visit};
+use crate::step;
 use crate::world::World;
 use word_map::Name;
 
@@ -16,6 +19,9 @@ impl Pass {
         requires of { IsOf world.now self.old }
         ensures of { IsOf world.now self.new }
         ensures looked { Looked (view_of self.old) (view_of self.new) }
+        ensures adds { Adds (view_of self.old) (view_of self.new) [] }
+        ensures tells { Tells (view_of self.old) (view_of self.new) [] }
+        ensures keeps { belongings_of (view_of self.new) ≡ belongings_of (view_of self.old) }
     {
         self.load::<Look>(world, Name::Update);
     }
@@ -31,22 +37,14 @@ impl Pass {
         ensures other_of { IsOf world.now other.new }
         ensures other_view { view_of other.new ≡ view_of other.old }
         ensures meets { MeetsWith (view_of self.old) (view_of other.old) (view_of self.new) }
-    {
-        self.join(world, other);
-        self.look(world);
-    }
-
-    /// The two steps of a meeting that change seats.
-    fn join(&mut self, world: &World, other: &mut Pass)
-        requires of { IsOf world.now self.old }
-        requires other_of { IsOf world.now other.old }
-        ensures of { IsOf world.now self.new }
-        ensures other_of { IsOf world.now other.new }
-        ensures other_view { view_of other.new ≡ view_of other.old }
-        ensures joined { view_of self.new ≡ joined_view (view_of self.old) (view_of other.old) }
+        ensures adds { Adds (view_of self.old) (view_of self.new) [] }
+        ensures tells { Tells (view_of self.old) (view_of self.new) [] }
+        ensures keeps { belongings_of (view_of self.new) ≡ belongings_of (view_of self.old) }
     {
         let words = &world.table.shared;
         let visitor = words.split_seat::<Visit>(&mut other.seat);
         words.join_seat::<Meet>(&mut self.seat, visitor);
+        let place = world.map.place(Name::Update);
+        step::load::<Look>(words, &mut self.seat, place);
     }
 }

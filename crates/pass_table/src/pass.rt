@@ -1,6 +1,7 @@
 //! What a caller of a world is.
 ghost use Rattle.std.specs.Prelude.{◌≡◌, ◌<◌};
 ghost use Rattle.core_state.specs.View.{IsPass};
+ghost use Rattle.pass_table.specs.Bodies.{IsCurrent};
 ghost use Rattle.pass_table.specs.Holding.{AreHeld};
 
 use crate::lock_set::LockSet;
@@ -23,4 +24,5 @@ pub struct Pass {
     ghost numbered: { IsPass seat.me.0 number },
     ghost holds: { AreHeld held written seat.me.0.locks },
     ghost walking: { walks ≡ seat.me.0.walk.is_on },
+    ghost current: { ∥ IsCurrent seat.me.0 ∥₁ },
 }

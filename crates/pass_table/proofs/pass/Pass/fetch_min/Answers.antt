@@ -1,5 +1,6 @@
 use Rattle.std.proofs.Common.{sym, ◌∙◌, refl, arith}
 use Rattle.pass_table.proofs.Leaving.{may-step, stepped-named, number-left, walk-left, of-left, still-held}
+use Rattle.pass_table.proofs.Bodies.{stepped-current}
 use Rattle.pass_table.proofs.pass.Pass.fetch_min.Goals as goal
 
 pub fetch_min-requires-clause-may : goal.fetch_min-requires-clause-may
@@ -17,6 +18,9 @@ invariant_of-self-clause-holds g c = let pass = c.args.self.now in still-held _ 
 
 pub invariant_of-self-clause-walking : goal.invariant_of-self-clause-walking
 invariant_of-self-clause-walking g c = let pass = c.args.self.now in pass.walking ∙ sym (walk-left _ _ pass.seat.me.0 _ _ _ _ _ c.fetch_min.ensures.step g.met.K.StillKind.still)
+
+pub invariant_of-self-clause-current : goal.invariant_of-self-clause-current
+invariant_of-self-clause-current g c = ∣ stepped-current _ _ _ _ _ _ _ _ c.fetch_min.ensures.step ∣₁
 
 pub returns-clause-of : goal.returns-clause-of
 returns-clause-of g c = of-left _ _ c.args.world.now c.args.self.now _ _ _ _ _ c.fetch_min.ensures.step c.fetch_min.ensures.seat.0 c.requires.of

@@ -2,7 +2,8 @@ use Rattle.std.proofs.Common.{ap, sym, subst, arith}
 use Rattle.core_state.specs.declared.view.View.{View}
 use Rattle.core_state.specs.View.{number_of}
 use Rattle.pass_table.specs.Holding.{AreHeld}
-use Rattle.pass_table.proofs.Ruling.{fresh-held}
+use Rattle.pass_table.specs.Bodies.{IsCurrent}
+use Rattle.pass_table.proofs.Ruling.{fresh-held, blank-current}
 use Rattle.pass_table.proofs.pass.Pass.fresh.Goals as goal
 
 pub invariant_of-result-clause-few : goal.invariant_of-result-clause-few
@@ -16,3 +17,6 @@ invariant_of-result-clause-holds c = subst (λ (v : View). AreHeld c.none.result
 
 pub invariant_of-result-clause-walking : goal.invariant_of-result-clause-walking
 invariant_of-result-clause-walking c = ap (λ (v : View). v.walk.is_on) (sym c.requires.view)
+
+pub invariant_of-result-clause-current : goal.invariant_of-result-clause-current
+invariant_of-result-clause-current c = ∣ subst IsCurrent (sym c.requires.view) (blank-current c.args.world.now.map c.args.world.now.in_limits c.args.number c.requires.below) ∣₁

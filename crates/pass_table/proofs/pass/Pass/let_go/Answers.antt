@@ -2,6 +2,7 @@ use Rattle.std.proofs.Common.{refl, sym, ◌∙◌, arith}
 use Rattle.word_map.specs.declared.name.Name.TheVariants.{Lock}
 use Rattle.core_state.specs.Locking.{MayRelease, release}
 use Rattle.pass_table.proofs.Leaving.{may-step, may-release, lock-below, stepped-named, number-left, of-left, held-let_go, let_go-walk}
+use Rattle.pass_table.proofs.Bodies.{stepped-current}
 use Rattle.pass_table.proofs.pass.Pass.let_go.Goals as goal
 
 pub place-place-requires : goal.place-place-requires
@@ -57,6 +58,9 @@ invariant_of-self-clause-walking c =
     sym
     (let_go-walk _ pass.seat.me.0 _ a.lock _ _ c.fetch_add-found.result
     (stepped-named _ _ release _ _ _ world.map _ _ _ _ (Lock a.lock) world.sized.0 c.place-place.ensures.name refl c.fetch_add-found.ensures.step))
+
+pub invariant_of-self-clause-current : goal.invariant_of-self-clause-current
+invariant_of-self-clause-current c = ∣ stepped-current _ _ _ _ _ _ _ _ c.fetch_add-found.ensures.step ∣₁
 
 pub returns-clause-of : goal.returns-clause-of
 returns-clause-of c = of-left _ _ c.args.world.now c.args.self.now _ _ _ _ _ c.fetch_add-found.ensures.step c.fetch_add-found.ensures.seat.0 c.requires.of

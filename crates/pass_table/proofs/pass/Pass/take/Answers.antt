@@ -6,6 +6,7 @@ use Rattle.pass_table.specs.Holding.{AreHeld}
 use Rattle.pass_table.specs.LockSets.{IsChanged}
 use Rattle.pass_table.specs.Stepping.{Stepped}
 use Rattle.pass_table.proofs.Leaving.{may-step, lock-below, stepped-named, number-left, of-left, written_bit, held-took, missed-locks, took-walk}
+use Rattle.pass_table.proofs.Bodies.{stepped-current}
 use Rattle.pass_table.proofs.pass.Pass.take.Goals as goal
 
 pub invariant_of-self-in-Read-clause-holds : goal.invariant_of-self-in-Read-clause-holds
@@ -97,6 +98,15 @@ invariant_of-self-clause-walking g c =
     sym
     (took-walk _ a.mode pass.seat.me.0 _ a.lock a.expected a.new c.compare_exchange-found.result
     (stepped-named _ _ (take a.mode) _ _ _ world.map _ _ _ _ (Lock a.lock) world.sized.0 c.place-place.ensures.name c.requires.takes c.compare_exchange-found.ensures.step))
+
+pub invariant_of-self-in-Read-clause-current : goal.invariant_of-self-in-Read-clause-current
+invariant_of-self-in-Read-clause-current g c = ∣ stepped-current _ _ _ _ _ _ _ _ c.compare_exchange-found.ensures.step ∣₁
+
+pub invariant_of-self-in-Write-clause-current : goal.invariant_of-self-in-Write-clause-current
+invariant_of-self-in-Write-clause-current g c = ∣ stepped-current _ _ _ _ _ _ _ _ c.compare_exchange-found.ensures.step ∣₁
+
+pub invariant_of-self-clause-current : goal.invariant_of-self-clause-current
+invariant_of-self-clause-current g c = ∣ stepped-current _ _ _ _ _ _ _ _ c.compare_exchange-found.ensures.step ∣₁
 
 pub returns-then-found-expected-clause-of : goal.returns-then-found-expected-clause-of
 returns-then-found-expected-clause-of g c = of-left _ _ c.args.world.now c.args.self.now _ _ _ _ _ c.compare_exchange-found.ensures.step c.compare_exchange-found.ensures.seat.0 c.requires.of

@@ -74,7 +74,7 @@ module _ (prepared : Prepared) (view : View) (before : List Batch) (batch : Batc
   }
 
   -- and once it is given up, its nodes are as many as the tree over its bodies needs, and other batches are good still
-  pub aborted-so : IsCurrent view → (number : ℕ) → IsPass view number → (next : View) → HasGivenUp before batch after view next → HasAborted prepared view next
+  pub aborted-so : ∥ IsCurrent view ∥₁ → (number : ℕ) → IsPass view number → (next : View) → HasGivenUp before batch after view next → HasAborted prepared view next
   aborted-so now number pass next given =
       let made = root-made is.drawn in
       let count = is.drawn.nodes in
@@ -104,7 +104,7 @@ aborted-any first start operation view aborting last next given prepared good ke
 
 -- ---- turns of the operation
 
-pub aborting-goes : (turn : Turn (Unit {0})) (first : AbortOp) (start : View) (operation : AbortOp) (view : View) → IsCurrent start → GoesOn turn (IsGivingUp first.giving start operation.giving view)
+pub aborting-goes : (turn : Turn (Unit {0})) (first : AbortOp) (start : View) (operation : AbortOp) (view : View) → ∥ IsCurrent start ∥₁ → GoesOn turn (IsGivingUp first.giving start operation.giving view)
     → GoesOn turn (IsAborting first start operation view)
 aborting-goes (Done answer) first start operation view now goes = tt
 aborting-goes More first start operation view now goes = record { gives = goes; current = now }

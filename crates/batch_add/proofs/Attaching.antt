@@ -19,7 +19,7 @@ use Rattle.pass_table.specs.Work.{Tells}
 use Rattle.batch_add.specs.Parts.{stored_as}
 use Rattle.batch_add.specs.Shape.{tree_at}
 use Rattle.batch_add.proofs.Batches.{owns-batch_node, among-middle}
-use Rattle.std.proofs.Common.{◌≡◌, ℕ, ◌++◌, ◌∷◌, List, [], Option, Some, None, IsSomeAnd, All, Contains, map, fold, get_or, refl, ap, sym, ◌∙◌, subst, arith}
+use Rattle.std.proofs.Common.{◌≡◌, ℕ, ◌<◌, ◌++◌, ◌∷◌, List, [], Option, Some, None, IsSomeAnd, All, Contains, map, fold, get_or, refl, ap, sym, ◌∙◌, subst, arith}
 use Rattle.std.proofs.lemmas.List.Elements.{Contains-get_or, filter_map-append}
 use Rattle.std.proofs.lemmas.List.Sums.{fold-append}
 use Rattle.fixed_box.specs.declared.fix_box.FixBox.{FixBox}
@@ -83,7 +83,7 @@ joined-in scene later indexes layer i joins among held = subst (λ (o : Option R
 -- ---- the step
 
 module _ (prepared : Prepared) (view next : View) (number : ℕ) (pass : IsPass view number) (before : List Batch) (batch : Batch) (after : List Batch) (bodies : List (ℕ × FixBox))
-    (is : IsTheBatch prepared (belongings_of view) before batch after bodies) (now : IsCurrent view) where
+    (is : IsTheBatch prepared (belongings_of view) before batch after bodies) (now : ∥ IsCurrent view ∥₁) where
   abbrev slot_name : Name
   slot_name = Slot prepared.layer prepared.slot
 
@@ -97,7 +97,7 @@ module _ (prepared : Prepared) (view next : View) (number : ℕ) (pass : IsPass 
   among_batches = subst (λ (l : List Batch). Contains l batch) (sym is.among) (among-middle before batch after)
 
   drawn_known : IsDrawn (known_word view) bodies is.plan is.bound batch
-  drawn_known = drawn-now view now number pass prepared before batch after bodies is
+  drawn_known = drawn-now view number pass now prepared before batch after bodies is
 
   whole_known : IsWholeTree (known_word view) batch (node_at batch.nodes 0)
   whole_known = drawn-whole (known_word view) bodies is.plan is.bound batch drawn_known

@@ -1,7 +1,9 @@
 -- What a pass whose view is current knows of the nodes of its batches: their words are what it wrote, and each node is one
 -- batch's.
 use Rattle.std.proofs.Common.{◌≡◌, ◌≢◌, ℕ, ◌+◌, ◌-◌, ◌<◌, ◌≤◌, ◌++◌, Bool, true, cond, List, [], Option, Some, None, All, Contains, refl, ap, sym, ◌∙◌, subst, inl, inr, arith}
+use mathlib.Core.Logic.{∥∥₁_elim}
 use Rattle.std.specs.Prelude.{flat_map, option_map, IfSome, IsSomeAnd}
+use Rattle.std.proofs.Props.{props}
 use Rattle.std.proofs.lemmas.Option.{none-some}
 use Rattle.std.proofs.lemmas.List.Elements.{All-contains, Contains-append_left, Contains-append_cases}
 use Rattle.word_map.specs.declared.config.Config.{Config}
@@ -50,7 +52,7 @@ in_arena-above : (c : Config) (arena : Option ℕ) (n : ℕ) → IsSomeAnd arena
 in_arena-above c None n h = absurd h
 in_arena-above c (Some old) n h = let low = h.0 in omega arith
 
-module _ (view : View) (now : IsCurrent view) (number : ℕ) (pass : IsPass view number) where
+module _ (view : View) (number : ℕ) (pass : IsPass view number) (now : IsCurrent view) where
   abbrev laws : Invariants now.core
   laws = now.stands.laws
 
@@ -69,42 +71,39 @@ module _ (view : View) (now : IsCurrent view) (number : ℕ) (pass : IsPass view
       subst (λ (o : Option ℕ). IfSome o (λ m. IsOwnedBy number (laws.nodes.home m) × IsAsStored (sight tree_scope now.core).word (laws.nodes.home m) s.name s.value)) of_node (owned_as s has)
 
   -- a word of a batch node is what the pass wrote there
-  pub written-stands : (name : Name) (n value : ℕ) → node_in name ≡ Some n → Contains (batch_nodes_of view) n → HasWritten view.written name value → known_word view name ≡ value
-  written-stands name n value of_node among has =
+  stands-so : (name : Name) (n value : ℕ) → node_in name ≡ Some n → Contains (batch_nodes_of view) n → HasWritten view.written name value → known_word view name ≡ value
+  stands-so name n value of_node among has =
       let home : laws.nodes.home n ≡ owned number = batch-home now.core laws.nodes laws.places now.seat number view now.at pass n among in
       let stands : (sight tree_scope now.core).word name ≡ value =
       subst (λ (h : Home). IsAsStored (sight tree_scope now.core).word h name value) home (owned_so (record { name = name; value = value }) n has of_node).1
       in
       known-now view now name ∙ (sym (ap (λ (t : Bool). cond t (word_of now.core name) 0) (tree-named name n of_node)) ∙ stands)
 
-  -- nothing is written in batch nodes that are not the pass's
-  pub fresh-unwritten : (nodes : List ℕ) → All (λ n. ¬ Contains (batch_nodes_of view) n) nodes → All (λ n. n < view.config.nodes) nodes → written_outside nodes view.written ≡ view.written
-  fresh-unwritten nodes others below = outside-all nodes view.written none
-    where
-      update_above : (o : Option Rebuild) (n : ℕ) → IfSome (option_map update_on_nodes o) (λ r. (m : ℕ) → Contains r.nodes m → IsSomeAnd r.arena (λ old. IsInArena now.core.config (1 - old) m))
-          → Contains (nodes_in o) n → now.core.config.nodes ≤ n
-      update_above None n h among = absurd (none_in n among)
-      update_above (Some r) n h among = in_arena-above now.core.config r.arena n (h n among)
+  -- the nodes of its update are no batch nodes
+  update_above : (o : Option Rebuild) (n : ℕ) → IfSome (option_map update_on_nodes o) (λ r. (m : ℕ) → Contains r.nodes m → IsSomeAnd r.arena (λ old. IsInArena now.core.config (1 - old) m))
+      → Contains (nodes_in o) n → now.core.config.nodes ≤ n
+  update_above None n h among = absurd (none_in n among)
+  update_above (Some r) n h among = in_arena-above now.core.config r.arena n (h n among)
 
-      above : (n : ℕ) → Contains (nodes_in view.rebuild) n → now.core.config.nodes ≤ n
-      above n among =
-          update_above view.rebuild n
-          (each-seat node_scope (λ k v. refl) now.core (λ k v. IfSome v.rebuild (λ r. (m : ℕ) → Contains r.nodes m → IsSomeAnd r.arena (λ old. IsInArena now.core.config (1 - old) m)))
-          laws.places.in_arena now.seat number view now.at pass) among
+  above : (n : ℕ) → Contains (nodes_in view.rebuild) n → now.core.config.nodes ≤ n
+  above n among =
+      update_above view.rebuild n
+      (each-seat node_scope (λ k v. refl) now.core (λ k v. IfSome v.rebuild (λ r. (m : ℕ) → Contains r.nodes m → IsSomeAnd r.arena (λ old. IsInArena now.core.config (1 - old) m)))
+      laws.places.in_arena now.seat number view now.at pass) among
 
-      none : (s : Store) → Contains view.written s → (n : ℕ) → node_in s.name ≡ Some n → ¬ Contains nodes n
-      none s has n of_node inside =
-          let low : n < now.core.config.nodes =
-          subst (λ (c : Config). n < c.nodes) (sym now.sizes) (All-contains (λ (m : ℕ). m < view.config.nodes) nodes n below inside)
-          in
-          let among : Contains (nodes_of view) n = owner-has now.core laws.nodes laws.places now.stands.formed now.seat number view now.at pass n (owned_so s n has of_node).0 in
-          elim (Contains-append_cases (batch_nodes_of view) (nodes_in view.rebuild) n (subst (λ (l : List ℕ). Contains l n) (nodes_split view) among)) [
-            | inl batches ↦ All-contains (λ (m : ℕ). ¬ Contains (batch_nodes_of view) m) nodes n others inside batches
-            | inr update ↦ let high = above n update in absurd (omega arith)
-          ]
+  -- what is written in a batch node is in one of the pass's
+  none-fresh : (nodes : List ℕ) → All (λ n. ¬ Contains (batch_nodes_of view) n) nodes → All (λ n. n < view.config.nodes) nodes
+      → (s : Store) → Contains view.written s → (n : ℕ) → node_in s.name ≡ Some n → ¬ Contains nodes n
+  none-fresh nodes others below s has n of_node inside =
+      let low : n < now.core.config.nodes = subst (λ (c : Config). n < c.nodes) (sym now.sizes) (All-contains (λ (m : ℕ). m < view.config.nodes) nodes n below inside) in
+      let among : Contains (nodes_of view) n = owner-has now.core laws.nodes laws.places now.stands.formed now.seat number view now.at pass n (owned_so s n has of_node).0 in
+      elim (Contains-append_cases (batch_nodes_of view) (nodes_in view.rebuild) n (subst (λ (l : List ℕ). Contains l n) (nodes_split view) among)) [
+        | inl batches ↦ All-contains (λ (m : ℕ). ¬ Contains (batch_nodes_of view) m) nodes n others inside batches
+        | inr update ↦ let high = above n update in absurd (omega arith)
+      ]
 
   -- a node is one batch's
-  pub one-batch : (one other : Batch) (n : ℕ) → Contains view.batches one → Contains view.batches other → Contains one.nodes n → Contains other.nodes n → one ≡ other
+  one-batch : (one other : Batch) (n : ℕ) → Contains view.batches one → Contains view.batches other → Contains one.nodes n → Contains other.nodes n → one ≡ other
   one-batch one other n among beside inside there =
       let once : IsOnce (nodes_of view) =
       subst IsOnce (seen-nodes number view) (each-seat node_scope (λ k v. refl) now.core (λ k v. IsOnce (nodes_of v)) laws.places.owned_once now.seat number view now.at pass)
@@ -112,7 +111,21 @@ module _ (view : View) (now : IsCurrent view) (number : ℕ) (pass : IsPass view
       flat-once (λ b. b.nodes) view.batches one other n (pairs-left (λ (a b : ℕ). a ≢ b) (flat_map (λ b. b.nodes) view.batches) (view.loose ++ nodes_in view.rebuild) once)
       among beside inside there
 
-  -- so the tree of a batch that is good is in the words that the pass knows
+module _ (view : View) (number : ℕ) (pass : IsPass view number) (current : ∥ IsCurrent view ∥₁) where
+  -- a word of a batch node is what the pass wrote there
+  pub written-stands : (name : Name) (n value : ℕ) → node_in name ≡ Some n → Contains (batch_nodes_of view) n → HasWritten view.written name value → known_word view name ≡ value
+  written-stands name n value of_node among has = ∥∥₁_elim current (hlevel props) (λ now. stands-so view number pass now name n value of_node among has)
+
+  -- nothing is written in batch nodes that are not the pass's
+  pub fresh-unwritten : (nodes : List ℕ) → All (λ n. ¬ Contains (batch_nodes_of view) n) nodes → All (λ n. n < view.config.nodes) nodes → written_outside nodes view.written ≡ view.written
+  fresh-unwritten nodes others below =
+      outside-all nodes view.written (λ s has n of_node inside. ∥∥₁_elim current (hlevel props) (λ now. none-fresh view number pass now nodes others below s has n of_node inside))
+
+  -- two batches share no node
+  pub batches-apart : (one other : Batch) (n : ℕ) → Contains view.batches one → Contains view.batches other → ¬ (one ≡ other) → Contains one.nodes n → ¬ Contains other.nodes n
+  batches-apart one other n among beside apart inside there = ∥∥₁_elim current (hlevel props) (λ now. apart (one-batch view number pass now one other n among beside inside there))
+
+  -- the tree of a batch that is good is in the words that the pass knows
   pub drawn-now : (prepared : Prepared) (before : List Batch) (batch : Batch) (after : List Batch) (bodies : List (ℕ × FixBox)) (is : IsTheBatch prepared (belongings_of view) before batch after bodies)
       → IsDrawn (known_word view) bodies is.plan is.bound batch
   drawn-now prepared before batch after bodies is =

@@ -39,3 +39,4 @@ pub mod PrepareBegun
 pub mod PrepareGives
 pub mod Known
 pub mod Staying
+pub mod Unjoined

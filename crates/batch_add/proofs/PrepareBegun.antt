@@ -39,7 +39,7 @@ pub same-most : (a b c : ℕ) → a ≡ b → c ≡ b → a ≤ c
 same-most a b c same most = omega arith
 
 -- with all that it needs it is begun
-module _ (op : PrepareOp) (view : View) (number : ℕ) (pass : IsPass view number) (rest : IsAtRest view) (current : IsCurrent view)
+module _ (op : PrepareOp) (view : View) (number : ℕ) (pass : IsPass view number) (rest : IsAtRest view) (current : ∥ IsCurrent view ∥₁)
     (in_layers : op.layer < view.config.layers) (below : All (λ id. id.index < view.config.bodies) (ids_of op)) (few : count_of op ≤ 1048576)
     (layer : op.search.layer ≡ op.layer) (searching : IsSearching op.search view op.search view) (taking : op.taking.count ≡ need_of op) (nodes : length op.taking.nodes.items ≡ need_of op)
     (bodies : length op.marking.bodies.items ≡ count_of op) (plans : CanPlan (count_of op) op.plans) (indexes : op.indexes.items ≡ map (λ id. id.index) (ids_of op)) where

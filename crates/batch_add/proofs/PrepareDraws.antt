@@ -181,7 +181,7 @@ module _ (before : PrepareOp) (drawing new : TreeDrawing) (view next : View) (st
       only : written_outside now.drawn.nodes now.has.written ≡ start.written
       only =
           now.has.only
-          ∙ ((λ i. written_outside (now.from.nodes i) (mid_written i)) ∙ fresh-unwritten start preparing.wanted.current prepared.number of_pass own fresh own_below)
+          ∙ ((λ i. written_outside (now.from.nodes i) (mid_written i)) ∙ fresh-unwritten start prepared.number of_pass preparing.wanted.current own fresh own_below)
 
       alone : All (λ (b : Batch). ¬ IsForSlot prepared.layer prepared.slot b) start.batches
       alone = λ k d below for_slot. has.reserved.alone k d below (for_slot.0 ∙ layer, for_slot.1 ∙ slot)

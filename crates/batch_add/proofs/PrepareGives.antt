@@ -62,7 +62,7 @@ stores_some batch free (n ∷ rest) some = refl
 
 -- ---- fewer nodes were free
 
-module _ (operation : PrepareOp) (start mid next : View) (current : IsCurrent start) (batch : Batch) (given : HasGivenUp start.batches batch [] mid next) where
+module _ (operation : PrepareOp) (start mid next : View) (current : ∥ IsCurrent start ∥₁) (batch : Batch) (given : HasGivenUp start.batches batch [] mid next) where
   abbrev layer : ℕ
   layer = operation.layer
 
@@ -152,7 +152,7 @@ module _ (operation : PrepareOp) (start mid next : View) (current : IsCurrent st
       let fresh = fresh-start start reserved_at layer slot nodes (ap (λ (v : View). v.batches) reserved.done.left) (ap (λ (v : View). v.loose) reserved.done.left) taken.others in
       let low = subst (λ (c : Config). All (λ (n : ℕ). n < c.nodes) nodes) (ap (λ (v : View). v.config) reserved.done.left) taken.below in
       let kept : written_outside batch.nodes mid.written ≡ start.written =
-      (λ i. written_outside (own i) (written i)) ∙ fresh-unwritten start current number reserved.pass nodes fresh low
+      (λ i. written_outside (own i) (written i)) ∙ fresh-unwritten start number reserved.pass current nodes fresh low
       in
       let unmarks : map (λ (m : Marked). Unmark m.index) batch.marked ≡ map (λ (id : Id). Unmark id.index) (take at ids) =
       ap (λ (b : Batch). map (λ (m : Marked). Unmark m.index) b.marked) is ∙ (map_map (λ (m : Marked). Unmark m.index) marked_as bodies ∙ entries_of (λ n. Unmark n) bodies (take at ids) indexes)

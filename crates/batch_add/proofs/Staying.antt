@@ -24,7 +24,7 @@ use Rattle.batch_add.specs.Drawing.{HasWritten}
 use Rattle.batch_add.specs.Prepared.{IsTheBatch, IsGoodIn, IsGood, IsApart, LeavesOthers}
 use Rattle.batch_add.proofs.Batches.{other-false, without-one, among-middle}
 use Rattle.batch_add.proofs.Drawn.{drawn-as}
-use Rattle.batch_add.proofs.Known.{one-batch}
+use Rattle.batch_add.proofs.Known.{batches-apart}
 use Rattle.batch_add.proofs.Written.{outside-keeps}
 
 -- ---- by what the pass has
@@ -108,7 +108,7 @@ fresh-start view reserved layer slot nodes batches loose fresh = subst (λ (own 
 
 -- ---- a batch goes
 
-module _ (view : View) (now : IsCurrent view) (number : ℕ) (pass : IsPass view number) (prepared : Prepared) (before : List Batch) (batch : Batch) (after : List Batch) (bodies : List (ℕ × FixBox))
+module _ (view : View) (current : ∥ IsCurrent view ∥₁) (number : ℕ) (pass : IsPass view number) (prepared : Prepared) (before : List Batch) (batch : Batch) (after : List Batch) (bodies : List (ℕ × FixBox))
     (is : IsTheBatch prepared (belongings_of view) before batch after bodies) (next : View) (sizes : next.config ≡ view.config) (role : next.role ≡ view.role)
     (batches : next.batches ≡ before ++ after) (written : next.written ≡ written_outside batch.nodes view.written) where
   abbrev is_other : Batch → Bool
@@ -134,7 +134,5 @@ module _ (view : View) (now : IsCurrent view) (number : ℕ) (pass : IsPass view
       subst (λ (l : List Store). Contains l s) (sym written)
       (outside-keeps batch.nodes view.written s n has of_node
       (λ in_one.
-      other_slot
-      (subst (IsForSlot prepared.layer prepared.slot)
-      (one-batch view now number pass batch good.batch n (subst (λ (l : List Batch). Contains l batch) (sym is.among) (among-middle before batch after)) (good-among other view good) in_one inside)
-      is.for_slot))))
+      batches-apart view number pass current batch good.batch n (subst (λ (l : List Batch). Contains l batch) (sym is.among) (among-middle before batch after)) (good-among other view good)
+      (λ same. other_slot (subst (IsForSlot prepared.layer prepared.slot) same is.for_slot)) in_one inside)))

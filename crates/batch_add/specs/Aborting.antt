@@ -29,7 +29,7 @@ kept_of prepared = record {
 -- it is being given up, by a pass that knew the log of a core that stands when it began
 pub record IsAborting (first : AbortOp) (start : View) (operation : AbortOp) (view : View) : Type 0 where
   pub gives : IsGivingUp first.giving start operation.giving view
-  pub current : IsCurrent start
+  pub current : ∥ IsCurrent start ∥₁
 
 -- The batch is given up: its bodies are unmarked, in order, its slot is empty, and its nodes, as many as the tree over its bodies
 -- needs, are in the pool again

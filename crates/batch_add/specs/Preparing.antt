@@ -173,7 +173,7 @@ pub record IsWanted (operation : PrepareOp) (start : View) : Type 0 where
   pub below : All (λ id. id.index < start.config.bodies) (ids_of operation)
   pub few : count_of operation ≤ 1048576
   pub rest : IsAtRest start
-  pub current : IsCurrent start
+  pub current : ∥ IsCurrent start ∥₁
 
 -- ---- parts
 

@@ -13,15 +13,15 @@ use Rattle.batch_add.proofs.Resting.{attached-rest}
 use Rattle.batch_add.proofs.finalizing.finalize.Goals as goal
 
 -- there is a root
-some-nodes : {before after : List Batch} {batch : Batch} {bodies : List (ℕ × FixBox)} {view : View} (prepared : Prepared) → IsTheBatch prepared (belongings_of view) before batch after bodies → 0 < length prepared.nodes.items
-some-nodes prepared is =
+some-nodes : {before after : List Batch} {batch : Batch} {bodies : List (ℕ × FixBox)} (view : View) (prepared : Prepared) → IsTheBatch prepared (belongings_of view) before batch after bodies → 0 < length prepared.nodes.items
+some-nodes view prepared is =
     let some = root-made is.drawn in
     let count = is.drawn.nodes in
     let same = ap (λ (l : List ℕ). length l) is.nodes in
     omega arith
 
 pub first_node-root-requires : goal.first_node-root-requires
-first_node-root-requires c = subst (λ (l : List ℕ). 0 < length l) (sym c.as_slice.ensures.value) (some-nodes c.args.batch c.requires.good.is)
+first_node-root-requires c = subst (λ (l : List ℕ). 0 < length l) (sym c.as_slice.ensures.value) (some-nodes (view_of c.args.pass.now) c.args.batch c.requires.good.is)
 
 pub step_24-requires-clause-asks : goal.step_24-requires-clause-asks
 step_24-requires-clause-asks c =

@@ -47,4 +47,4 @@ new-requires-clause-begun c =
     )
 
 pub returns-clause-under_way : goal.returns-clause-under_way
-returns-clause-under_way c = record { gives = c.new-giving.ensures.under_way; current = c.args.pass.now.current }
+returns-clause-under_way c = record { gives = c.new.ensures.under_way; current = c.args.pass.now.current }

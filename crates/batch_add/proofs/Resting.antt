@@ -11,7 +11,7 @@ use Rattle.batch_add.specs.declared.prepared.Prepared.{Prepared}
 use Rattle.batch_add.specs.Prepared.{IsGood, IsApart, HasAttached}
 use Rattle.batch_add.specs.Preparing.{PrepareAnswers}
 use Rattle.batch_add.specs.Aborting.{HasAborted}
-use Rattle.batch_add.proofs.Staying.{good-kept}
+use Rattle.batch_add.proofs.Staying.{good-kept, apart-back}
 
 pub prepare-rest : (layer : ℕ) (ids : List Id) (start next : View) (answer : Result Prepared PrepareRefused) → IsAtRest start → PrepareAnswers layer ids start next answer → IsAtRest next
 prepare-rest layer ids start next (Ok prepared) rest h = h.done.rest
@@ -64,3 +64,9 @@ pub prepare-apart : (layer : ℕ) (ids : List Id) (start next : View) (answer : 
     → IfOk answer (λ batch. (other : Prepared) → IsGood other start → IsApart other batch)
 prepare-apart layer ids start next (Ok prepared) h = h.apart
 prepare-apart layer ids start next (Err refused) h = tt
+
+-- and they are apart from it
+pub prepare-beside : (layer : ℕ) (ids : List Id) (start next : View) (answer : Result Prepared PrepareRefused) → PrepareAnswers layer ids start next answer
+    → IfOk answer (λ batch. (other : Prepared) → IsGood other start → IsApart batch other)
+prepare-beside layer ids start next (Ok prepared) h = λ other good. apart-back other prepared (h.apart other good)
+prepare-beside layer ids start next (Err refused) h = tt

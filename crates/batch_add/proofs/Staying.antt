@@ -78,8 +78,14 @@ good-nodes prepared view good n inside =
 
 -- a batch for a slot for which none was is apart from each that is good
 pub comes-apart : (prepared : Prepared) (view : View) → All (λ b. ¬ IsForSlot prepared.layer prepared.slot b) view.batches → (other : Prepared) → IsGood other view → IsApart other prepared
-comes-apart prepared view alone other good same =
-    All-contains (λ b. ¬ IsForSlot prepared.layer prepared.slot b) view.batches good.batch alone (good-among other view good) (good.is.for_slot.0 ∙ same.0, good.is.for_slot.1 ∙ same.1)
+comes-apart prepared view alone other good = record {
+  slots = λ same.
+      All-contains (λ b. ¬ IsForSlot prepared.layer prepared.slot b) view.batches good.batch alone (good-among other view good) (good.is.for_slot.0 ∙ same.0, good.is.for_slot.1 ∙ same.1);
+}
+
+-- of two that are apart each is apart from the other
+pub apart-back : (one other : Prepared) → IsApart one other → IsApart other one
+apart-back one other apart = record { slots = λ same. apart.slots (sym same.0, sym same.1) }
 
 module _ (prepared : Prepared) (view next : View) (batch : Batch) (for_slot : IsForSlot prepared.layer prepared.slot batch) (alone : All (λ b. ¬ IsForSlot prepared.layer prepared.slot b) view.batches)
     (sizes : next.config ≡ view.config) (role : next.role ≡ view.role) (batches : next.batches ≡ view.batches ++ batch ∷ [])
@@ -92,7 +98,7 @@ module _ (prepared : Prepared) (view next : View) (batch : Batch) (for_slot : Is
       (batches ∙ (ap (λ (l : List Batch). l ++ batch ∷ []) good.is.among ∙ append_assoc good.before (good.batch ∷ good.after) (batch ∷ [])))
       good.is.alone_before
       (All-append (λ b. ¬ IsForSlot other.layer other.slot b) good.after (batch ∷ []) good.is.alone_after
-      (All-cons (λ b. ¬ IsForSlot other.layer other.slot b) batch [] (λ for. apart (sym for.0 ∙ for_slot.0, sym for.1 ∙ for_slot.1)) (All-nil (λ b. ¬ IsForSlot other.layer other.slot b))))
+      (All-cons (λ b. ¬ IsForSlot other.layer other.slot b) batch [] (λ for. apart.slots (sym for.0 ∙ for_slot.0, sym for.1 ∙ for_slot.1)) (All-nil (λ b. ¬ IsForSlot other.layer other.slot b))))
       (λ s n has of_node inside.
       (filter_from (λ (s : Store). not (is_in_nodes batch.nodes (node_in s.name))) next.written s (subst (λ (l : List Store). Contains l s) (sym written) has)).0)
 
@@ -117,7 +123,7 @@ module _ (view : View) (current : ∥ IsCurrent view ∥₁) (number : ℕ) (pas
   -- it leaves those that are good and for another slot
   pub goes-beside : LeavesOthers prepared view next
   goes-beside other good apart =
-      let other_slot : ¬ IsForSlot prepared.layer prepared.slot good.batch = λ for. apart (sym good.is.for_slot.0 ∙ for.0, sym good.is.for_slot.1 ∙ for.1) in
+      let other_slot : ¬ IsForSlot prepared.layer prepared.slot good.batch = λ for. apart.slots (sym good.is.for_slot.0 ∙ for.0, sym good.is.for_slot.1 ∙ for.1) in
       let early = without_batch prepared.layer prepared.slot good.before in
       let late = without_batch prepared.layer prepared.slot good.after in
       let all : next.batches ≡ early ++ good.batch ∷ late =

@@ -61,8 +61,8 @@ abbrev pub IsGood : Prepared → View → Type 0
 IsGood prepared view = IsGoodIn prepared (belongings_of view)
 
 -- the two are for two slots
-abbrev pub IsApart : Prepared → Prepared → Type 0
-IsApart one other = ¬ ((one.layer ≡ other.layer) × (one.slot ≡ other.slot))
+pub record IsApart (one other : Prepared) : Type 0 where
+  pub slots : ¬ ((one.layer ≡ other.layer) × (one.slot ≡ other.slot))
 
 -- all other batches that were good are good still
 abbrev pub LeavesOthers : Prepared → View → View → Type 0

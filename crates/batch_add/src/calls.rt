@@ -40,6 +40,7 @@ pub fn prepare<R: Wait>(
     ensures good { IfOk result (λ batch. IsGood batch (view_of pass.new)) }
     ensures others { (other : Prepared) → IsGood other (view_of pass.old) → IsGood other (view_of pass.new) }
     ensures apart { IfOk result (λ batch. (other : Prepared) → IsGood other (view_of pass.old) → IsApart other batch) }
+    ensures beside { IfOk result (λ batch. (other : Prepared) → IsGood other (view_of pass.old) → IsApart batch other) }
     ensures keeps { IfErr result (λ refused. belongings_of (view_of pass.new) ≡ belongings_of (view_of pass.old)) }
 {
     match PrepareOp::new(alloc, world, pass, layer, ids) {

@@ -1,18 +1,25 @@
 -- What attaching a batch that is prepared leaves.
-use Rattle.std.specs.Prelude.{option_map}
+use Rattle.std.specs.Prelude.{option_map, find, slice_index}
 use Rattle.std.specs.List.{cons_option}
-use Rattle.std.specs.Prelude.{find}
+use Rattle.std.proofs.lemmas.Grind.{same_number_lists}
+use Rattle.body_ident.specs.Id.{Id}
+use Rattle.fixed_box.specs.FixBox.{words_of}
+use Rattle.fixed_box.proofs.Words.{words_tell_boxes_apart}
 use Rattle.scene_model.specs.Tree.{tree}
 use Rattle.scene_model.specs.Step.{with_phase}
-use Rattle.word_map.specs.declared.name.Name.TheVariants.{Phase}
-use Rattle.word_map.specs.Names.{IsName}
-use Rattle.core_state.specs.View.{number_of}
-use Rattle.core_state.specs.Batches.{is_for, IsWholeTree}
+use Rattle.word_map.specs.Names.{stripe_of}
+use Rattle.core_state.specs.declared.view.Mode.{Mode}
+use Rattle.core_state.specs.View.{number_of, mode_of}
+use Rattle.core_state.specs.Core.{scene_of}
+use Rattle.core_state.specs.Event.{attaches, of_batches}
+use Rattle.core_state.specs.Batches.{is_for, nodes_for, written_outside, IsWholeTree}
+use Rattle.core_state.proofs.Beginning.{record_body}
+use Rattle.core_batch.proofs.Attaching.{Attaching as AttachingOf, joining}
 use Rattle.pass_table.specs.Work.{Tells}
 use Rattle.batch_add.specs.Parts.{stored_as}
 use Rattle.batch_add.specs.Shape.{tree_at}
 use Rattle.batch_add.proofs.Batches.{owns-batch_node, among-middle}
-use Rattle.std.proofs.Common.{◌≡◌, ℕ, ◌++◌, ◌∷◌, List, [], Option, Some, None, IsSomeAnd, All, Contains, map, fold, get_or, refl, ap, sym, ◌∙◌, subst, arith}
+use Rattle.std.proofs.Common.{◌≡◌, ℕ, ◌<◌, ◌++◌, ◌∷◌, List, [], Option, Some, None, IsSomeAnd, All, Contains, map, fold, get_or, refl, ap, sym, ◌∙◌, subst, arith}
 use Rattle.std.proofs.lemmas.List.Elements.{Contains-get_or, filter_map-append}
 use Rattle.std.proofs.lemmas.List.Sums.{fold-append}
 use Rattle.fixed_box.specs.declared.fix_box.FixBox.{FixBox}
@@ -28,7 +35,7 @@ use Rattle.scene_model.proofs.Batches.{JoinsOnly-fold}
 use Rattle.scene_model.proofs.Histories.{lawful_parts}
 use Rattle.word_map.specs.declared.config.Config.{Config}
 use Rattle.word_map.specs.declared.name.Name.{Name}
-use Rattle.word_map.specs.declared.name.Name.TheVariants.{Slot, Child, Bound, Parent}
+use Rattle.word_map.specs.declared.name.Name.TheVariants.{Slot, State}
 use Rattle.core_state.specs.declared.item.Item.{Item}
 use Rattle.core_state.specs.declared.view.Batch.{Batch}
 use Rattle.core_state.specs.declared.view.View.{View}
@@ -41,40 +48,23 @@ use Rattle.core_state.specs.Nodes.{node_in}
 use Rattle.core_state.specs.Kind.{Step, item_of}
 use Rattle.core_state.specs.Batches.{without_batch, batch_for, joined_by, MayAttach, attach}
 use Rattle.pass_table.specs.Stepping.{step_by, Stored}
-use Rattle.pass_table.specs.Knowing.{KnowsMore}
-use Rattle.pass_table.specs.Turning.{MadeBy}
+use Rattle.pass_table.specs.Belongings.{belongings_of}
+use Rattle.pass_table.specs.Bodies.{IsCurrent, IsGuarding}
+use Rattle.pass_table.proofs.LockedBodies.{live-steady}
+use Rattle.pass_table.specs.Turning.{OneStep, MadeBy}
 use Rattle.pass_table.specs.Calls.{StoresWord}
-use Rattle.pass_table.proofs.Calling.{Adds-refl, adds-made, stepped-sizes, stepped-known, stores-word, stored-gained, stored-made, word-now, word-beside, steady-more}
+use Rattle.pass_table.proofs.Calling.{Adds-refl, adds-made, stepped-sizes, stepped-known, stores-word, stored-gained, stored-made, word-now, word-beside}
 use Rattle.tree_plan.specs.Plan.{Plan}
 use Rattle.batch_add.specs.declared.prepared.Prepared.{Prepared}
 use Rattle.batch_add.specs.Drawing.{node_at, IsDrawn}
-use Rattle.batch_add.specs.Prepared.{IsTheBatch, IsGood, AllHeld, HasAttached}
+use Rattle.batch_add.specs.Prepared.{IsTheBatch, LeavesOthers, AllHeld, HaveBoxes, HasAttached}
 use Rattle.batch_add.proofs.Batches.{without-one, found-one}
-use Rattle.batch_add.proofs.Drawn.{node-among}
+use Rattle.batch_add.proofs.Drawn.{drawn-as}
+use Rattle.batch_add.proofs.Known.{drawn-now}
+use Rattle.batch_add.proofs.Staying.{goes-beside}
 use Rattle.batch_add.proofs.Whole.{drawn-whole}
 use Rattle.batch_add.proofs.Shape.{drawn-tree}
 use Rattle.pass_table.proofs.Working.{tells-refl, tells-stored}
-
--- ---- words of the nodes
-
--- a batch that is drawn stays so where the words of its nodes are the same
-pub drawn-still : (word later : Name → ℕ) (bodies : List (ℕ × FixBox)) (plan : Plan) (bound : ℕ → ℕ → FixBox) (batch : Batch) → IsDrawn word bodies plan bound batch
-    → ((name : Name) (n : ℕ) → node_in name ≡ Some n → Contains batch.nodes n → later name ≡ word name) → IsDrawn later bodies plan bound batch
-drawn-still word later bodies plan bound batch drawn same = record {
-  planned = drawn.planned;
-  apart = drawn.apart;
-  some = drawn.some;
-  bounded = drawn.bounded;
-  of_batch = drawn.of_batch;
-  nodes = drawn.nodes;
-  distinct = drawn.distinct;
-  says = record {
-    child = λ n k made below. same (Child (node_at batch.nodes n) k) (node_at batch.nodes n) refl (node-among drawn n made) ∙ drawn.says.child n k made below;
-    bounds = λ n k q made below side there. same (Bound (node_at batch.nodes n) k q) (node_at batch.nodes n) refl (node-among drawn n made) ∙ drawn.says.bounds n k q made below side there;
-    parent = λ n made. same (Parent (node_at batch.nodes n)) (node_at batch.nodes n) refl (node-among drawn n made) ∙ drawn.says.parent n made;
-  };
-  placed = drawn.placed;
-}
 
 -- ---- scenes
 
@@ -93,7 +83,7 @@ joined-in scene later indexes layer i joins among held = subst (λ (o : Option R
 -- ---- the step
 
 module _ (prepared : Prepared) (view next : View) (number : ℕ) (pass : IsPass view number) (before : List Batch) (batch : Batch) (after : List Batch) (bodies : List (ℕ × FixBox))
-    (is : IsTheBatch prepared view before batch after bodies) where
+    (is : IsTheBatch prepared (belongings_of view) before batch after bodies) (now : ∥ IsCurrent view ∥₁) where
   abbrev slot_name : Name
   slot_name = Slot prepared.layer prepared.slot
 
@@ -106,6 +96,12 @@ module _ (prepared : Prepared) (view next : View) (number : ℕ) (pass : IsPass 
   among_batches : Contains view.batches batch
   among_batches = subst (λ (l : List Batch). Contains l batch) (sym is.among) (among-middle before batch after)
 
+  drawn_known : IsDrawn (known_word view) bodies is.plan is.bound batch
+  drawn_known = drawn-now view number pass now prepared before batch after bodies is
+
+  whole_known : IsWholeTree (known_word view) batch (node_at batch.nodes 0)
+  whole_known = drawn-whole (known_word view) bodies is.plan is.bound batch drawn_known
+
   pub may-attach : (value : ℕ) → value ≡ slot_tree root → MayAttach view slot_name value 0
   may-attach value same = record {
     layer = prepared.layer;
@@ -114,7 +110,7 @@ module _ (prepared : Prepared) (view next : View) (number : ℕ) (pass : IsPass 
     names = refl;
     has = record { among = among_batches; for_slot = is.for_slot };
     root = node_at batch.nodes 0;
-    whole = drawn-whole (known_word view) bodies is.plan is.bound batch is.drawn;
+    whole = whole_known;
     attached = same ∙ ap slot_tree (sym root_same);
   }
 
@@ -141,16 +137,16 @@ module _ (prepared : Prepared) (view next : View) (number : ℕ) (pass : IsPass 
         subst (λ (o : Option Entry). MadeBy view next (option_map (λ e. record { pass = number; entry = e }) o)) entry_made
         (stored-made MayAttach attach view next slot_name value refl stored number pass)
 
-    left_now : next ≡ record view { known = next.known; joined = None; batches = before ++ after; written = next.written }
+    left_now : next ≡ record view { known = next.known; joined = None; batches = before ++ after; written = written_outside batch.nodes view.written }
     left_now =
         stored.1.leaves
         ∙ ((λ i. record view {
           known = sym (ap (λ (v : View). v.known) stored.1.leaves) i;
           joined = None;
           batches = without_batch prepared.layer prepared.slot view.batches;
-          written = sym (ap (λ (v : View). v.written) stored.1.leaves) i;
+          written = written_outside (nodes_for (found i)) view.written;
         })
-        ∙ ap (λ (l : List Batch). record view { known = next.known; joined = None; batches = l; written = next.written })
+        ∙ ap (λ (l : List Batch). record view { known = next.known; joined = None; batches = l; written = written_outside batch.nodes view.written })
         (ap (without_batch prepared.layer prepared.slot) is.among ∙ without-one prepared.layer prepared.slot batch is.for_slot after before is.alone_before is.alone_after))
 
     -- the words of its nodes are as they were
@@ -159,7 +155,9 @@ module _ (prepared : Prepared) (view next : View) (number : ℕ) (pass : IsPass 
         word-beside view next slot_name value word_stored sizes name (λ e. let none = ap node_in e ∙ of_node in absurd cc) (batch-steady name n of_node among)
 
     drawn_now : IsDrawn (known_word next) bodies is.plan is.bound batch
-    drawn_now = drawn-still (known_word view) (known_word next) bodies is.plan is.bound batch is.drawn nodes_still
+    drawn_now =
+        drawn-as (λ name value. known_word view name ≡ value) (λ name value. known_word next name ≡ value) bodies is.plan is.bound batch drawn_known
+        (λ name n value of_node among says. nodes_still name n of_node among ∙ says)
 
     -- ---- the entry
 
@@ -204,6 +202,80 @@ module _ (prepared : Prepared) (view next : View) (number : ℕ) (pass : IsPass 
     held_before : AllHeld view.config prepared.layer prepared.indexes.items log
     held_before = (lawful_parts view.config.layers (empty_scene view.config.bodies) (history log) (joined_made ∷ []) lawful_now).1.0.0.2
 
+    -- ---- the step
+
+    step_so : OneStep view next
+    step_so = record {
+      kind = attach;
+      before = stored.1.before;
+      step = step_made;
+      since = stored.1.since;
+      of = refl;
+      at = stored.1.allowed.at;
+      pass = stored.1.allowed.pass;
+      stands = stored.1.stands;
+      event = of_batches (attaches (record { step = step_made; allowed = stored.1.allowed; result = refl }));
+      learns = stored.1.learns;
+      foreign = stored.1.foreign;
+      leaves = stored.1.leaves;
+      still_stands = stored.1.still_stands;
+    }
+
+    others_left : LeavesOthers prepared view next
+    others_left =
+        goes-beside view now number pass prepared before batch after bodies is next sizes (ap (λ (v : View). v.role) stored.1.leaves)
+        (ap (λ (v : View). v.batches) left_now) (ap (λ (v : View). v.written) left_now)
+
+    -- what is guarded is guarded still
+    pub guards_left : (other : ℕ) (id : Id) (mode : Mode) → IsGuarding other id mode view → IsGuarding other id mode next
+    guards_left other id mode guarding = record {
+      pass = ap (λ (v : View). number_of v) left_now ∙ guarding.pass;
+      stripe = ap (λ (v : View). mode_of v.locks (stripe_of v.config id.index)) left_now ∙ guarding.stripe;
+      below = subst (λ (c : Config). id.index < c.bodies) (sym sizes) guarding.below;
+      state =
+          word-beside view next slot_name value word_stored sizes (State id.index) (λ e. absurd cc) (live-steady id mode view (State id.index) guarding.stripe guarding.state refl)
+          ∙ guarding.state;
+      done = ap (λ (v : View). v.call.task) left_now ∙ guarding.done;
+    }
+
+    -- ---- the boxes
+
+    abbrev attaching : AttachingOf stored.1.before
+    attaching = record {
+      seat = stored.1.seat;
+      number = stored.1.number;
+      layer = prepared.layer;
+      slot = prepared.slot;
+      root = node_at batch.nodes 0;
+      second = 0;
+      view = view;
+      batch = batch;
+      at = stored.1.allowed.at;
+      pass = stored.1.allowed.pass;
+      among = among_batches;
+      for_slot = is.for_slot;
+      whole = whole_known;
+    }
+
+    core_sizes : view.config ≡ stored.1.before.config
+    core_sizes = stepped-sizes MayAttach attach view next slot_name value 0 stored.0 stored.1
+
+    scene_core : scene_at view.config log ≡ scene_of stored.1.before
+    scene_core = λ i. scene_at (core_sizes i) (sym stored.1.learns i)
+
+    -- the bodies have the boxes with which they are marked
+    boxes_then : HaveBoxes view.config bodies log
+    boxes_then body among =
+        let t = is.drawn.of_batch.all body among in
+        let m = t.0 in
+        let joins = joining stored.1.before attaching stored.1.stands.formed stored.1.stands.laws stored.1.stands.guards m t.1 in
+        let same : joins.body.bounds ≡ body.1 =
+        words_tell_boxes_apart joins.body.bounds body.1
+        (same_number_lists (words_of joins.body.bounds) (words_of body.1) refl (λ k below. joins.bounds k below ∙ ap (λ (l : List ℕ). slice_index l k) t.2.bounds))
+        in
+        record_body (record_at (scene_at view.config log) body.0) (λ r. r.bounds ≡ body.1) joins.body
+        (ap (λ (s : Scene). record_at s body.0) scene_core ∙ (ap (record_at (scene_of stored.1.before)) (sym t.2.index) ∙ joins.live)) same
+
     pub attached : HasAttached prepared view next
     attached = record {
       before = before;
@@ -211,11 +283,14 @@ module _ (prepared : Prepared) (view next : View) (number : ℕ) (pass : IsPass 
       after = after;
       bodies = bodies;
       is = is;
+      step = step_so;
+      stores = subst (λ (v : ℕ). StoresWord view next slot_name v) same word_stored;
       adds = adds-made view view next [] (Some (record { pass = number; entry = Join prepared.layer prepared.indexes.items })) refl (Adds-refl view number pass) by;
       tells =
           subst (λ (v : ℕ). Tells view next (stored_as slot_name v ∷ [])) same
           (tells-stored view view next [] slot_name value refl (tells-refl view number pass) word_stored refl);
       left = left_now;
+      others = others_left;
       makes = record {
         since = stored.1.since;
         item = item;
@@ -223,7 +298,7 @@ module _ (prepared : Prepared) (view next : View) (number : ℕ) (pass : IsPass 
         parts = known_now;
         pass = stored.1.allowed.pass;
         makes = entry_made;
-        holds = (held_before, joins);
+        holds = (held_before, boxes_then, joins);
       };
       now_in = λ k d below.
           joined-in scene_before (scene_at view.config next.known) prepared.indexes.items prepared.layer (get_or prepared.indexes.items k d) joins
@@ -234,35 +309,4 @@ module _ (prepared : Prepared) (view next : View) (number : ℕ) (pass : IsPass 
       stated =
           subst (λ (r : ℕ). tree_at (known_word next) 10 r ≡ tree bodies) root_same
           (drawn-tree (known_word next) bodies is.plan is.bound batch drawn_now 10 (omega arith));
-    }
-
--- ---- others' steps do no harm
-
-pub good-later : (prepared : Prepared) (view next : View) → KnowsMore view next → IsGood prepared view → IsGood prepared next
-good-later prepared view next more good =
-    let is = good.is in
-    let sizes : next.config ≡ view.config = ap (λ (v : View). v.config) more.rest in
-    record {
-      pass = ap (λ (v : View). number_of v) more.rest ∙ good.pass;
-      before = good.before;
-      batch = good.batch;
-      after = good.after;
-      bodies = good.bodies;
-      is = record {
-        among = ap (λ (v : View). v.batches) more.rest ∙ is.among;
-        for_slot = is.for_slot;
-        named = subst (λ (c : Config). IsName c (Slot prepared.layer prepared.slot)) (sym sizes) is.named;
-        nodes = is.nodes;
-        indexes = is.indexes;
-        once = is.once;
-        plan = is.plan;
-        bound = is.bound;
-        drawn =
-            drawn-still (known_word view) (known_word next) good.bodies is.plan is.bound good.batch is.drawn
-            (λ name n of_node among. steady-more view next name more (batch-steady prepared view next prepared.number good.pass good.before good.batch good.after good.bodies is name n of_node among));
-        alone_before = is.alone_before;
-        alone_after = is.alone_after;
-        nodes_named = subst (λ (c : Config). All (λ n. IsName c (Parent n)) good.batch.nodes) (sym sizes) is.nodes_named;
-        bodies_named = subst (λ (c : Config). All (λ m. IsName c (Phase m.index)) good.batch.marked) (sym sizes) is.bodies_named;
-      };
     }

@@ -18,7 +18,7 @@ module _ (l t : ℕ) where
   abbrev IsOther : Batch → Type 0
   IsOther b = ¬ IsForSlot l t b
 
-  other-false : (b : Batch) → IsOther b → is_for l t b ≡ false
+  pub other-false : (b : Batch) → IsOther b → is_for l t b ≡ false
   other-false b other = false_from_ne_true (is_for l t b) (λ e. other (is_for-slot l t b e))
 
   -- where none is for it, none is left out, found or changed

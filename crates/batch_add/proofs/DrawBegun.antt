@@ -84,6 +84,7 @@ module _ (view : View) (bodies sorted : List (ℕ × FixBox)) (nodes : List ℕ)
       bounds = λ n k q made few inside below some. absurd (omega arith);
       parent = λ n made below. absurd (omega arith);
     };
+    only = refl;
     placed = record {
       placed = λ m among n k made few stands below. absurd (omega arith);
       waiting = λ m among n k made few stands past. marked-waiting to.batch bodies to.marked m among;
@@ -119,6 +120,7 @@ drawn-of-set bodies others before start next drawn same has =
         says = tree.says;
         placed = tree.placed;
       };
+      only = has.only;
     }
 
 -- the newest batch of the pass, whatever it was known as

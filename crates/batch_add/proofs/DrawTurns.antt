@@ -3,6 +3,7 @@ use Rattle.std.proofs.Common.{◌≡◌, ◌≢◌, ℕ, suc, ◌+◌, ◌-◌, 
 use Rattle.std.specs.Prelude.{flat_map}
 use Rattle.std.specs.List.{IsDistinct}
 use Rattle.std.proofs.lemmas.Bool.{ltb-true, ltb-false}
+use Rattle.std.proofs.lemmas.List.Elements.{Contains-get_or}
 use Rattle.fixed_box.specs.declared.fix_box.FixBox.{FixBox}
 use Rattle.tree_plan.specs.declared.plan_child.PlanChild.{PlanChild}
 use Rattle.tree_plan.specs.declared.plan_child.PlanChild.TheVariants.{Nothing, Body, Node}
@@ -13,14 +14,15 @@ use Rattle.word_map.specs.declared.config.Config.{Config}
 use Rattle.word_map.specs.declared.name.Name.{Name}
 use Rattle.word_map.specs.declared.name.Name.TheVariants.{Child as ChildWord, Bound as BoundWord, Parent as ParentWord, LocA}
 use Rattle.core_state.specs.declared.view.Task.TheVariants.{Nothing as NoTask}
+use Rattle.core_state.specs.declared.item.Store.{Store}
 use Rattle.core_state.specs.declared.view.Marked.{Marked}
 use Rattle.core_state.specs.declared.view.Batch.{Batch}
 use Rattle.core_state.specs.declared.view.View.{View}
-use Rattle.core_state.specs.View.{IsPass, known_word}
+use Rattle.core_state.specs.View.{IsPass}
 use Rattle.core_state.specs.Event.{stores_node, places as places_one, of_batches}
 use Rattle.core_state.specs.Encoding.{place}
 use Rattle.core_state.specs.Nodes.{node_in}
-use Rattle.core_state.specs.Batches.{change_marked, MayStoreNode, store_node, MayPlace, place_body}
+use Rattle.core_state.specs.Batches.{change_marked, also_written, written_outside, MayStoreNode, store_node, MayPlace, place_body}
 use Rattle.core_batch.proofs.Lists.{contains_map}
 use Rattle.core_batch.proofs.Mapped.{AreOtherBodies, own-marks}
 use Rattle.pass_table.specs.declared.turn.Turn.{Turn}
@@ -30,18 +32,19 @@ use Rattle.pass_table.specs.Turning.{AtMostOneStep, MadeBy}
 use Rattle.pass_table.specs.Calls.{StoresWord}
 use Rattle.pass_table.proofs.Knowing.{step-alone}
 use Rattle.pass_table.proofs.Turning.{one-step}
-use Rattle.pass_table.proofs.Calling.{stores-word, stored-made, word-now, word-beside}
+use Rattle.pass_table.proofs.Calling.{stores-word, stored-made}
 use Rattle.batch_add.specs.declared.draw_stage.DrawStage.{DrawStage}
 use Rattle.batch_add.specs.declared.draw_stage.DrawStage.TheVariants.{Child, Side, Placing, Parent}
 use Rattle.batch_add.specs.declared.tree_drawing.TreeDrawing.{TreeDrawing}
 use Rattle.pass_table.specs.Work.{is_told, HasWorked}
-use Rattle.batch_add.specs.Drawing.{node_at, child_word, parent_word, SaysPlan, ArePlaced}
+use Rattle.batch_add.specs.Drawing.{node_at, child_word, parent_word, SaysPlanBy, ArePlaced, HasWritten, WritesOnly}
 use Rattle.batch_add.specs.Parts.{HasDrawn}
 use Rattle.batch_add.specs.DrawStages.{Planned, planned_of, Reached, before_child, reached, next_child, after_child, after_sides, after_side, SaysUpTo, ArePlacedUpTo, drawing_work, HasDrawnUpTo, AtDraw, stage_left, IsDrawTurn}
-use Rattle.batch_add.specs.DrawLater.{newest-among, drawn-nodes, node-inside, node-own, node-steady}
+use Rattle.batch_add.specs.DrawLater.{newest-among, drawn-nodes, node-inside, node-own}
 use Rattle.pass_table.proofs.WorkLater.{worked-pass, worked-sizes, worked-batches, worked-loose, worked-written}
 use Rattle.pass_table.proofs.Working.{worked-untold, worked-done}
-use Rattle.batch_add.proofs.DrawWords.{StoresBeside, child-said, side-said, parent-said, location-said, sides-passed}
+use Rattle.batch_add.proofs.DrawWords.{StoresBeside, child-said, side-said, parent-said, sides-passed}
+use Rattle.batch_add.proofs.Written.{written-beside, outside-also}
 use Rattle.batch_add.proofs.DrawMarks.{placed_at, with_placed, placed-from, placed-bodies, body-placed, places-passed, batches-placed, others-apart}
 
 -- ---- turns
@@ -114,6 +117,7 @@ module _ (p : Planned) (start view : View) where
     from = h.from;
     of_batch = h.of_batch;
     says = record { child = h.says.child; bounds = h.says.bounds; parent = h.says.parent };
+    only = h.only;
     placed = places-passed p h.begun_so.planned h.begun_so.apart h.drawn.marked n k made few none h.placed;
   }
 
@@ -130,7 +134,8 @@ module _ (p : Planned) (start view : View) where
     worked = h.worked;
     from = h.from;
     of_batch = h.of_batch;
-    says = sides-passed (known_word view) p _ n k few none refl h.says;
+    says = sides-passed (HasWritten h.written) p _ n k few none refl h.says;
+    only = h.only;
     placed = h.placed;
   }
 
@@ -170,16 +175,14 @@ module _ (view next : View) (name : Name) (value : ℕ) (stored : Stored MayStor
   node_word : StoresWord view next name value
   node_word = stores-word MayStoreNode store_node view next name value refl stored
 
-  node_sizes : next.config ≡ view.config
-  node_sizes = ap (λ (v : View). v.config) stored.1.leaves
-
   module _ (p : Planned) (start : View) (r : Reached) (h : HasDrawnUpTo p start view r) where
-    -- other words of the nodes stand
-    node-beside : StoresBeside (known_word view) (known_word next) p name value
-    node-beside = record {
-      now = word-now view next name value node_word node_sizes;
-      others = λ n other made is apart. word-beside view next name value node_word node_sizes other apart (node-steady p start view r h n other made is);
-    }
+    node_written : next.written ≡ also_written name value h.written
+    node_written = ap (λ (v : View). v.written) stored.1.leaves ∙ ap (also_written name value) (worked-written start view _ h.worked)
+
+    -- it is written, and what else was written still is
+    node-beside : StoresBeside (HasWritten h.written) (HasWritten next.written) name value
+    node-beside =
+        subst (λ (l : List Store). StoresBeside (HasWritten h.written) (HasWritten l) name value) (sym (node_written)) (written-beside name value h.written)
 
     node-worked : is_told name ≡ false → HasWorked start next (drawing_work start h.before h.drawn next.written)
     node-worked hidden =
@@ -195,8 +198,8 @@ module _ (view next : View) (name : Name) (value : ℕ) (stored : Stored MayStor
           written = sym (ap (λ (v : View). v.written) stored.1.leaves) i;
         })) hidden (step-alone MayStoreNode store_node view next name value 0 stored.0 stored.1)
 
-    node-on : is_told name ≡ false → (s : Reached) → s.places ≡ r.places → SaysUpTo (known_word next) p s → HasDrawnUpTo p start next s
-    node-on hidden s places says = record {
+    node-on : is_told name ≡ false → (n : ℕ) → n < node_count p.plan → node_in name ≡ Some (node_at p.nodes n) → (s : Reached) → s.places ≡ r.places → SaysUpTo (HasWritten next.written) p s → HasDrawnUpTo p start next s
+    node-on hidden n made of_node s places says = record {
       before = h.before;
       batch = h.batch;
       begun_so = h.begun_so;
@@ -206,6 +209,9 @@ module _ (view next : View) (name : Name) (value : ℕ) (stored : Stored MayStor
       from = h.from;
       of_batch = h.of_batch;
       says = says;
+      only =
+          ap (written_outside p.nodes) node_written
+          ∙ (outside-also p.nodes name (node_at p.nodes n) value h.written of_node (Contains-get_or p.nodes n 0 (let many = h.begun_so.many in omega arith)) ∙ h.only);
       placed = subst (ArePlacedUpTo p h.drawn.marked) (sym places) h.placed;
     }
 
@@ -233,8 +239,8 @@ child-drawn p start view next n k stored at = go (child_at p.plan n k) refl
 
     stored_child : HasDrawnUpTo p start next (record { children = suc (4 * n + k); sides = 6 * (4 * n + k); places = 4 * n + k; parents = n })
     stored_child =
-        node-on view next name (child_word p.nodes (child_at p.plan n k)) stored p start (before_child n k) h refl _ refl
-        (child-said (known_word view) (known_word next) p h.begun_so.distinct h.begun_so.many (before_child n k) h.says n k made few
+        node-on view next name (child_word p.nodes (child_at p.plan n k)) stored p start (before_child n k) h refl n made refl _ refl
+        (child-said (HasWritten h.written) (HasWritten next.written) p h.begun_so.distinct h.begun_so.many (before_child n k) h.says n k made few
         (node-beside view next name (child_word p.nodes (child_at p.plan n k)) stored p start (before_child n k) h) refl)
 
     first_side : HasDrawnUpTo p start next (reached (Side n k 0))
@@ -268,8 +274,8 @@ side-drawn p start view next n k q stored at = go (ltb q 5) refl
 
     stored_side : HasDrawnUpTo p start next (record { children = suc (4 * n + k); sides = suc (6 * (4 * n + k) + q); places = 4 * n + k; parents = n })
     stored_side =
-        node-on view next name (side (p.bound n k) q) stored p start (reached (Side n k q)) h refl _ refl
-        (side-said (known_word view) (known_word next) p h.begun_so.distinct h.begun_so.many (reached (Side n k q)) h.says n k q made few inside
+        node-on view next name (side (p.bound n k) q) stored p start (reached (Side n k q)) h refl n made refl _ refl
+        (side-said (HasWritten h.written) (HasWritten next.written) p h.begun_so.distinct h.begun_so.many (reached (Side n k q)) h.says n k q made few inside
         (node-beside view next name (side (p.bound n k) q) stored p start (reached (Side n k q)) h) refl)
 
     go : (t : Bool) → ltb q 5 ≡ t → AtDraw p start next (cond t (Side n k (q + 1)) (after_sides n k (child_at p.plan n k)))
@@ -288,8 +294,8 @@ module _ (p : Planned) (start view next : View) (n : ℕ) (stored : Stored MaySt
 
   pub parent_drawn : HasDrawnUpTo p start next (record { children = 4 * n + 4; sides = 6 * (4 * n + 4); places = 4 * n + 4; parents = suc n })
   parent_drawn =
-      node-on view next node_name (parent_word p.nodes (parent_at p.plan n)) stored p start (before_child n 4) at.1 refl _ refl
-      (parent-said (known_word view) (known_word next) p at.1.begun_so.distinct at.1.begun_so.many (before_child n 4) at.1.says n at.0
+      node-on view next node_name (parent_word p.nodes (parent_at p.plan n)) stored p start (before_child n 4) at.1 refl n at.0 refl _ refl
+      (parent-said (HasWritten at.1.written) (HasWritten next.written) p at.1.begun_so.distinct at.1.begun_so.many (before_child n 4) at.1.says n at.0
       (node-beside view next node_name (parent_word p.nodes (parent_at p.plan n)) stored p start (before_child n 4) at.1) refl)
 
   pub parent-drawn : suc n < node_count p.plan → AtDraw p start next (Child (n + 1) 0)
@@ -297,7 +303,7 @@ module _ (p : Planned) (start view next : View) (n : ℕ) (stored : Stored MaySt
 
   -- after the last node all is drawn
   module _ (last : suc n ≡ node_count p.plan) where
-    all_says : SaysPlan (known_word next) p.plan p.bound p.nodes
+    all_says : SaysPlanBy (HasWritten parent_drawn.written) p.plan p.bound p.nodes
     all_says = record {
       child = λ m k made few. parent_drawn.says.child m k made few (omega arith);
       bounds = λ m k q made few inside some. parent_drawn.says.bounds m k q made few inside (omega arith) some;
@@ -334,9 +340,10 @@ module _ (p : Planned) (start view next : View) (n : ℕ) (stored : Stored MaySt
             of_batch = parent_drawn.of_batch;
             nodes = ap (λ (l : List ℕ). length l) same ∙ begun_so.many;
             distinct = subst (λ (l : List ℕ). IsDistinct nat_eq l) (sym same) begun_so.distinct;
-            says = subst (SaysPlan (known_word next) p.plan p.bound) (sym same) all_says;
+            says = subst (SaysPlanBy (HasWritten parent_drawn.written) p.plan p.bound) (sym same) all_says;
             placed = subst (λ (l : List ℕ). ArePlaced p.plan l parent_drawn.drawn) (sym same) all_placed;
           };
+          only = subst (λ (l : List ℕ). WritesOnly l start.written parent_drawn.written) (sym same) parent_drawn.only;
         }
 
 -- ---- a body is placed
@@ -383,16 +390,6 @@ module _ (p : Planned) (start view : View) (n k index : ℕ) (at : AtDraw p star
     place_word : StoresWord view next (LocA index) (place (node_at p.nodes n) k)
     place_word = stores-word MayPlace place_body view next (LocA index) (place (node_at p.nodes n) k) refl stored
 
-    place_sizes : next.config ≡ view.config
-    place_sizes = ap (λ (v : View). v.config) stored.1.leaves
-
-    place_beside : StoresBeside (known_word view) (known_word next) p (LocA index) (place (node_at p.nodes n) k)
-    place_beside = record {
-      now = word-now view next (LocA index) (place (node_at p.nodes n) k) place_word place_sizes;
-      others = λ m other made_m is apart.
-          word-beside view next (LocA index) (place (node_at p.nodes n) k) place_word place_sizes other apart (node-steady p start view _ h m other made_m is);
-    }
-
     -- no other batch has marked it
     marks_apart : AllPairs AreOtherBodies (flat_map (λ b. b.marked) (h.before ++ h.drawn ∷ []))
     marks_apart =
@@ -430,9 +427,8 @@ module _ (p : Planned) (start view : View) (n k index : ℕ) (at : AtDraw p star
           worked = place_worked;
           from = placed-from h.batch h.drawn index (place (node_at p.nodes n) k) h.from;
           of_batch = placed-bodies h.drawn p.bodies index (place (node_at p.nodes n) k) h.of_batch;
-          says =
-              let says = location-said (known_word view) (known_word next) p h.begun_so.distinct h.begun_so.many _ h.says index (place (node_at p.nodes n) k) place_beside in
-              record { child = says.child; bounds = says.bounds; parent = says.parent };
+          says = record { child = h.says.child; bounds = h.says.bounds; parent = h.says.parent };
+          only = h.only;
           placed = body-placed p h.begun_so.planned h.begun_so.apart h.drawn.marked n k made few index (place (node_at p.nodes n) k) there refl h.placed;
         })
 

@@ -15,11 +15,13 @@ use Rattle.tree_plan.specs.Plan.{Plan, node_count, child_at, parent_at}
 use Rattle.tree_plan.proofs.Members.{In, in_from_contains, contains_from_in, all_in}
 use Rattle.tree_plan.proofs.OnePlace.{body_somewhere}
 use Rattle.word_map.specs.declared.name.Name.{Name}
-use Rattle.word_map.specs.declared.name.Name.TheVariants.{Child, Parent}
+use Rattle.tree_bounds.specs.Bounds.{side}
+use Rattle.word_map.specs.declared.name.Name.TheVariants.{Child, Bound, Parent}
 use Rattle.core_state.specs.declared.view.Marked.{Marked}
 use Rattle.core_state.specs.declared.view.Batch.{Batch}
+use Rattle.core_state.specs.Nodes.{node_in}
 use Rattle.core_batch.proofs.Lists.{contains_map}
-use Rattle.batch_add.specs.Drawing.{node_at, child_word, parent_word, IsDrawn}
+use Rattle.batch_add.specs.Drawing.{node_at, child_word, parent_word, IsDrawnBy, IsDrawn}
 use Rattle.batch_add.proofs.Levels.{level, level-next, node-there}
 
 -- ---- lists without repetition
@@ -70,9 +72,9 @@ pub record IsMarkedAt (batch : Batch) (bound : ℕ → ℕ → FixBox) (index n 
   pub is : m.index ≡ index
   pub bounds : m.bounds ≡ words_of (bound n k)
 
-module _ {word : Name → ℕ} {bodies : List (ℕ × FixBox)} {plan : Plan} {bound : ℕ → ℕ → FixBox} {batch : Batch} (d : IsDrawn word bodies plan bound batch) where
-  -- ---- nodes
+-- ---- nodes
 
+module _ {has : Name → ℕ → Type 0} {bodies : List (ℕ × FixBox)} {plan : Plan} {bound : ℕ → ℕ → FixBox} {batch : Batch} (d : IsDrawnBy has bodies plan bound batch) where
   -- the plan has a first node, and each of its nodes is one of the batch
   pub root-made : 0 < node_count plan
   root-made = node-there bodies plan d.planned d.some
@@ -99,8 +101,9 @@ module _ {word : Name → ℕ} {bodies : List (ℕ × FixBox)} {plan : Plan} {bo
   depth-child n k c below up made =
       depth-node_at c below ∙ level-next d.planned.parents (node_count plan) c n k up (omega arith) ∙ ap suc (sym (depth-node_at n made))
 
-  -- ---- words
+-- ---- words
 
+module _ {word : Name → ℕ} {bodies : List (ℕ × FixBox)} {plan : Plan} {bound : ℕ → ℕ → FixBox} {batch : Batch} (d : IsDrawn word bodies plan bound batch) where
   -- the words of a child and of a parent, by what the plan has
   pub child-said : (n k : ℕ) (e : PlanChild) → n < node_count plan → k < 4 → child_at plan n k ≡ e → word (Child (node_at batch.nodes n) k) ≡ child_word batch.nodes e
   child-said n k e made few there = d.says.child n k made few ∙ ap (child_word batch.nodes) there
@@ -112,8 +115,9 @@ module _ {word : Name → ℕ} {bodies : List (ℕ × FixBox)} {plan : Plan} {bo
   pub child-there : (n k : ℕ) → n < node_count plan → k < 4 → word (Child (node_at batch.nodes n) k) ≢ 0 → child_at plan n k ≢ Nothing
   child-there n k made few some none = some (child-said n k Nothing made few none)
 
-  -- ---- bodies
+-- ---- bodies
 
+module _ {has : Name → ℕ → Type 0} {bodies : List (ℕ × FixBox)} {plan : Plan} {bound : ℕ → ℕ → FixBox} {batch : Batch} (d : IsDrawnBy has bodies plan bound batch) where
   -- what the plan has as a body is a body of the batch, and the other way round
   pub marked-at : (n k index : ℕ) → n < node_count plan → k < 4 → child_at plan n k ≡ Body index → IsMarkedAt batch bound index n k
   marked-at n k index made few there =
@@ -138,3 +142,25 @@ module _ {word : Name → ℕ} {bodies : List (ℕ × FixBox)} {plan : Plan} {bo
         there = s.1.3 ∙ ap Body (sym t.2.index);
         bounds = t.2.bounds ∙ ap (λ (b : ℕ × FixBox). words_of b.1) (sym own);
       }
+
+-- ---- other words
+
+-- a batch that is drawn stays so where the words of its nodes have the values that they had
+pub drawn-as : (one two : Name → ℕ → Type 0) (bodies : List (ℕ × FixBox)) (plan : Plan) (bound : ℕ → ℕ → FixBox) (batch : Batch) → IsDrawnBy one bodies plan bound batch
+    → ((name : Name) (n value : ℕ) → node_in name ≡ Some n → Contains batch.nodes n → one name value → two name value) → IsDrawnBy two bodies plan bound batch
+drawn-as one two bodies plan bound batch drawn keeps = record {
+  planned = drawn.planned;
+  apart = drawn.apart;
+  some = drawn.some;
+  bounded = drawn.bounded;
+  of_batch = drawn.of_batch;
+  nodes = drawn.nodes;
+  distinct = drawn.distinct;
+  says = record {
+    child = λ n k made few. keeps (Child (node_at batch.nodes n) k) (node_at batch.nodes n) (child_word batch.nodes (child_at plan n k)) refl (node-among drawn n made) (drawn.says.child n k made few);
+    bounds = λ n k q made few side_q there.
+        keeps (Bound (node_at batch.nodes n) k q) (node_at batch.nodes n) (side (bound n k) q) refl (node-among drawn n made) (drawn.says.bounds n k q made few side_q there);
+    parent = λ n made. keeps (Parent (node_at batch.nodes n)) (node_at batch.nodes n) (parent_word batch.nodes (parent_at plan n)) refl (node-among drawn n made) (drawn.says.parent n made);
+  };
+  placed = drawn.placed;
+}

@@ -21,7 +21,7 @@ use Rattle.batch_add.specs.GivingUp.{with_marks, unplaced}
 
 module _ {X : Type 0} (p : X → Bool) where
   -- all are left that pass the test
-  filter_all : (xs : List X) → ((x : X) → Contains xs x → p x ≡ true) → filter p xs ≡ xs
+  pub filter_all : (xs : List X) → ((x : X) → Contains xs x → p x ≡ true) → filter p xs ≡ xs
   filter_all [] all = refl
   filter_all (x ∷ xs) all =
       ap (λ (t : Bool). cond t (x ∷ filter p xs) (filter p xs)) (all x (contains_first x xs)) ∙ ap (λ (l : List X). x ∷ l) (filter_all xs (λ y c. all y (contains_later x xs y c)))

@@ -2,6 +2,7 @@ pub mod Levels
 pub mod Drawn
 pub mod Bounds
 pub mod Whole
+pub mod Written
 pub mod Shape
 pub mod Batches
 pub mod Attaching
@@ -36,3 +37,6 @@ pub mod SearchParts
 pub mod NodeParts
 pub mod PrepareBegun
 pub mod PrepareGives
+pub mod Known
+pub mod Staying
+pub mod Unjoined

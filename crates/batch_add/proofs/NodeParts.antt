@@ -78,7 +78,7 @@ module _ (op : PrepareOp) (view : View) (at : op.stage ≡ TakingNodes) where
         record {
           layer = h.layer;
           ids = h.ids;
-          wanted = record { in_layers = h.wanted.in_layers; below = h.wanted.below; few = h.wanted.few; rest = h.wanted.rest };
+          wanted = record { in_layers = h.wanted.in_layers; below = h.wanted.below; few = h.wanted.few; rest = h.wanted.rest; current = h.wanted.current };
           at =
               subst (AtPrepare taken start next) (sym at) (
                 a.0,
@@ -171,6 +171,7 @@ module _ (op : PrepareOp) (view : View) (at : op.stage ≡ TakingNodes) where
                 below = subst (λ (l : List Id). All (λ id. id.index < start.config.bodies) l) (sym ids) h.wanted.below;
                 few = subst (λ (l : List Id). length l ≤ 1048576) (sym ids) h.wanted.few;
                 rest = h.wanted.rest;
+                current = h.wanted.current;
               };
               at = (
                 subst (λ (l : List Id). 0 < length l) (sym ids) a.0,
@@ -272,6 +273,7 @@ module _ (op : PrepareOp) (view : View) (at : op.stage ≡ TakingNodes) where
             below = subst (λ (l : List Id). All (λ id. id.index < start.config.bodies) l) (sym begins.ids) h.wanted.below;
             few = subst (λ (l : List Id). length l ≤ 1048576) (sym begins.ids) h.wanted.few;
             rest = h.wanted.rest;
+            current = h.wanted.current;
           };
           at = few_at first start h;
         }

@@ -5,6 +5,7 @@ use Rattle.core_state.specs.declared.view.View.{View}
 use Rattle.core_state.specs.View.{IsPass}
 use Rattle.pass_table.specs.declared.turn.Turn.TheVariants.{Done}
 use Rattle.pass_table.specs.Holding.{IsAtRest}
+use Rattle.pass_table.specs.Bodies.{IsCurrent}
 use Rattle.pass_table.specs.Turning.{MadeBy}
 use Rattle.pass_table.proofs.Turning.{still-made}
 use Rattle.batch_add.specs.declared.answers.PrepareRefused.TheVariants.{Empty as NoBodies}
@@ -39,7 +40,7 @@ pub same-most : (a b c : ℕ) → a ≡ b → c ≡ b → a ≤ c
 same-most a b c same most = omega arith
 
 -- with all that it needs it is begun
-module _ (op : PrepareOp) (view : View) (number : ℕ) (pass : IsPass view number) (rest : IsAtRest view)
+module _ (op : PrepareOp) (view : View) (number : ℕ) (pass : IsPass view number) (rest : IsAtRest view) (current : ∥ IsCurrent view ∥₁)
     (in_layers : op.layer < view.config.layers) (below : All (λ id. id.index < view.config.bodies) (ids_of op)) (few : count_of op ≤ 1048576)
     (layer : op.search.layer ≡ op.layer) (searching : IsSearching op.search view op.search view) (taking : op.taking.count ≡ need_of op) (nodes : length op.taking.nodes.items ≡ need_of op)
     (bodies : length op.marking.bodies.items ≡ count_of op) (plans : CanPlan (count_of op) op.plans) (indexes : op.indexes.items ≡ map (λ id. id.index) (ids_of op)) where
@@ -55,4 +56,4 @@ module _ (op : PrepareOp) (view : View) (number : ℕ) (pass : IsPass view numbe
       )
 
   pub preparing-begun : ((count_of op ≡ 0) × (op.stage ≡ Empty)) ⊎ ((0 < count_of op) × (op.stage ≡ Searching)) → IsPreparing op view op view
-  preparing-begun stage = record { layer = refl; ids = refl; wanted = record { in_layers = in_layers; below = below; few = few; rest = rest }; at = begun_at stage }
+  preparing-begun stage = record { layer = refl; ids = refl; wanted = record { in_layers = in_layers; below = below; few = few; rest = rest; current = current }; at = begun_at stage }

@@ -1,25 +1,29 @@
 -- The turns of drawing the tree of a batch, as turns of its preparation, and what they answer.
-use Rattle.std.specs.Prelude.{All, nat_eq}
+use Rattle.std.specs.Prelude.{All, Contains, nat_eq, length}
 use Rattle.std.specs.List.{IsDistinct}
 use Rattle.std.proofs.Common.{◌≡◌, ℕ, ◌+◌, ◌<◌, List, [], ◌∷◌, ◌++◌, map, get_or, Option, Some, None, Ok, refl, ap, sym, ◌∙◌, subst, arith}
-use Rattle.std.proofs.lemmas.List.{append-nil}
+use Rattle.std.proofs.lemmas.List.{append-nil, length-map}
 use Rattle.std.proofs.lemmas.Option.{same_Some}
 use Rattle.std.proofs.lemmas.List.Elements.{All-map}
 use Rattle.body_ident.specs.Id.{Id}
 use Rattle.fixed_box.specs.declared.fix_box.FixBox.{FixBox}
+use Rattle.scene_model.specs.Need.{need}
 use Rattle.scene_model.specs.declared.entry.Entry.TheVariants.{Mark}
 use Rattle.word_map.specs.declared.config.Config.{Config}
 use Rattle.word_map.specs.declared.name.Name.TheVariants.{Slot, PoolFree, Parent}
 use Rattle.word_map.specs.Names.{IsName}
 use Rattle.core_state.specs.declared.view.Mode.TheVariants.{Write}
+use Rattle.core_state.specs.declared.item.Store.{Store}
 use Rattle.core_state.specs.declared.view.Marked.{Marked}
 use Rattle.core_state.specs.declared.view.Batch.{Batch}
 use Rattle.core_state.specs.declared.view.View.{View}
 use Rattle.core_state.specs.Encoding.{reserved_by}
 use Rattle.core_state.specs.Log.{IsPrefix}
 use Rattle.core_state.specs.View.{IsPass}
-use Rattle.core_state.specs.Batches.{new_batch}
+use Rattle.core_state.specs.Batches.{new_batch, batch_nodes_of, written_outside}
+use Rattle.core_state.specs.Bodies.{IsForSlot}
 use Rattle.pass_table.specs.declared.turn.Turn.TheVariants.{Done, More, Again}
+use Rattle.pass_table.specs.Belongings.{belongings_of}
 use Rattle.pass_table.specs.Turning.{AtMostOneStep, MadeBy, Turned, IsUnderWay}
 use Rattle.batch_add.specs.declared.prepared.Prepared.{Prepared}
 use Rattle.batch_add.specs.declared.tree_drawing.TreeDrawing.{TreeDrawing}
@@ -29,12 +33,15 @@ use Rattle.batch_add.specs.declared.prepare_op.PrepareOp.{PrepareOp}
 use Rattle.pass_table.specs.Work.{Outcome, HasDone, followed}
 use Rattle.pass_table.proofs.WorkLater.{same_pass}
 use Rattle.batch_add.specs.Parts.{stored_as, StoresFrom, HasMarked, marked_as, reserved_outcome, nodes_outcome, marks_outcome, drawn_outcome}
+use Rattle.batch_add.specs.Drawing.{IsWritten}
 use Rattle.batch_add.specs.Prepared.{IsTheBatch}
 use Rattle.batch_add.specs.TakingNodes.{from-later}
 use Rattle.batch_add.specs.DrawStages.{IsDrawing, HasDrawnAll, draw_left}
 use Rattle.batch_add.specs.Preparing.{ids_of, need_of, prepared_outcome, HasPrepared, HasPreparedOr, HasSlotAndNodes, with_slot_nodes, with_marks, IsInPart, IsInSome, CameToDraw, AtPrepare, IsPreparing, part_left, stage_left, prepare_left, entry_at, entry_of, IsPrepareTurn, takes_at}
 use Rattle.pass_table.proofs.Working.{done-then, done-prefix}
 use Rattle.batch_add.proofs.DrawBegun.{IsDrawnNow, drawn-newest}
+use Rattle.batch_add.proofs.Known.{fresh-unwritten}
+use Rattle.batch_add.proofs.Staying.{comes-apart, comes-beside, fresh-start}
 use Rattle.batch_add.proofs.Parting.{from-from}
 use Rattle.batch_add.proofs.PartTurns.{part-more, part-again}
 use Rattle.batch_add.proofs.PrepareMarks.{same-has, same-wanted, nodes-sizes, from_map, map_twice}
@@ -157,6 +164,28 @@ module _ (before : PrepareOp) (drawing new : TreeDrawing) (view next : View) (st
 
       -- ---- the batch
 
+      own_nodes : own ≡ prepared.nodes.items
+      own_nodes = sym (ends part.first part.mid part.goes).nodes ∙ sym nodes
+
+      -- none of its nodes was the pass's
+      fresh : All (λ (n : ℕ). ¬ Contains (batch_nodes_of start) n) own
+      fresh = fresh-start start has.reserved_at before.layer before.slot own (ap (λ (v : View). v.batches) has.reserved.done.left) (ap (λ (v : View). v.loose) has.reserved.done.left) has.taken.others
+
+      own_below : All (λ (n : ℕ). n < start.config.nodes) own
+      own_below = subst (λ (c : Config). All (λ (n : ℕ). n < c.nodes) own) reserved_sizes has.taken.below
+
+      mid_written : part.mid.written ≡ start.written
+      mid_written = ap (λ (v : View). v.written) marked.done.left ∙ (ap (λ (v : View). v.written) has.taken.done.left ∙ ap (λ (v : View). v.written) has.reserved.done.left)
+
+      -- in other nodes it wrote nothing
+      only : written_outside now.drawn.nodes now.has.written ≡ start.written
+      only =
+          now.has.only
+          ∙ ((λ i. written_outside (now.from.nodes i) (mid_written i)) ∙ fresh-unwritten start prepared.number of_pass preparing.wanted.current own fresh own_below)
+
+      alone : All (λ (b : Batch). ¬ IsForSlot prepared.layer prepared.slot b) start.batches
+      alone = λ k d below for_slot. has.reserved.alone k d below (for_slot.0 ∙ layer, for_slot.1 ∙ slot)
+
       all_indexes : prepared.indexes.items ≡ map (λ (id : Id). id.index) (ids_of before)
       all_indexes = indexes ∙ draws_indexes first start preparing
 
@@ -170,7 +199,7 @@ module _ (before : PrepareOp) (drawing new : TreeDrawing) (view next : View) (st
           in
           omega arith
 
-      the_batch : IsTheBatch prepared next start.batches now.drawn [] bodies
+      the_batch : IsTheBatch prepared (belongings_of next) start.batches now.drawn [] bodies
       the_batch = record {
         among = ap (λ (v : View). v.batches) now.has.done.left;
         for_slot = (now.from.layer ∙ sym layer, now.from.slot ∙ sym slot);
@@ -179,13 +208,16 @@ module _ (before : PrepareOp) (drawing new : TreeDrawing) (view next : View) (st
               subst (λ (l : ℕ). l < start.config.layers) (sym layer) preparing.wanted.in_layers,
               subst (λ (s : ℕ). s < start.config.slots) (sym slot) has.reserved.below,
             );
-        nodes = now.from.nodes ∙ (sym (ends part.first part.mid part.goes).nodes ∙ sym nodes);
+        nodes = now.from.nodes ∙ own_nodes;
         indexes = drawn_indexes ∙ sym all_indexes;
+        many =
+            ap (λ (l : List ℕ). length l) (sym own_nodes)
+            ∙ (has.taken.many ∙ ap need (sym (length-map (ids_of before) (λ (id : Id). id.index)) ∙ ap (λ (l : List ℕ). length l) (sym all_indexes)));
         once = subst (λ (l : List ℕ). IsDistinct nat_eq l) (marked.indexes ∙ sym all_indexes) marked.apart;
         plan = now.has.plan;
         bound = now.has.bound;
-        drawn = now.has.tree;
-        alone_before = λ k d below for_slot. has.reserved.alone k d below (for_slot.0 ∙ layer, for_slot.1 ∙ slot);
+        drawn = subst (λ (l : List Store). IsWritten l bodies now.has.plan now.has.bound now.drawn) (sym (ap (λ (v : View). v.written) now.has.done.left)) now.has.tree;
+        alone_before = alone;
         alone_after = λ k d below. absurd (omega arith);
         nodes_named = subst (λ (l : List ℕ). All (λ (n : ℕ). IsName next.config (Parent n)) l) (sym now.from.nodes) own_named;
         bodies_named =
@@ -265,6 +297,12 @@ module _ (before : PrepareOp) (drawing new : TreeDrawing) (view next : View) (st
         good = record { pass = pass; before = start.batches; batch = now.drawn; after = []; bodies = bodies; is = the_batch };
         first = refl;
         last = refl;
+        fresh = subst (All (λ (n : ℕ). ¬ Contains (batch_nodes_of start) n)) own_nodes fresh;
+        only = subst (λ (l : List ℕ). written_outside l now.has.written ≡ start.written) the_batch.nodes only;
+        others =
+            comes-beside prepared start next now.drawn the_batch.for_slot alone sizes role (ap (λ (v : View). v.batches) now.has.done.left)
+            (ap (written_outside now.drawn.nodes) (ap (λ (v : View). v.written) now.has.done.left) ∙ only);
+        apart = comes-apart prepared start alone;
         of_layer = layer;
         of_pass = of_pass;
         indexes = all_indexes;

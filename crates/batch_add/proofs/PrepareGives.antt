@@ -1,5 +1,5 @@
 -- Giving a batch up, as the last part of a preparation that is refused.
-use Rattle.std.specs.Prelude.{take, slice_index_or, Err, option_and_then}
+use Rattle.std.specs.Prelude.{take, slice_index_or, Err, option_and_then, All}
 use Rattle.std.proofs.Common.{◌≡◌, ℕ, ◌+◌, ◌<◌, List, [], ◌∷◌, ◌++◌, length, map, Option, Some, refl, ap, sym, ◌∙◌, subst, arith}
 use Rattle.std.proofs.lemmas.List.{append-nil}
 use Rattle.body_ident.specs.Id.{Id}
@@ -17,6 +17,7 @@ use Rattle.core_state.specs.Encoding.{reserved_by}
 use Rattle.core_state.specs.Batches.{new_batch, written_outside}
 use Rattle.tree_plan.proofs.Slots.{need_some}
 use Rattle.pass_table.specs.declared.turn.Turn.TheVariants.{Done, More, Again}
+use Rattle.pass_table.specs.Bodies.{IsCurrent}
 use Rattle.pass_table.specs.Calls.{AtPoint}
 use Rattle.pass_table.specs.Turning.{AtMostOneStep, MadeBy, Turned, IsUnderWay, LoadsNow}
 use Rattle.pass_table.proofs.Calling.{point-later}
@@ -36,6 +37,9 @@ use Rattle.batch_add.specs.GivingUp.{IsGivingUp, HasGiven, give_left, give_takes
 use Rattle.batch_add.specs.GivingLater.{from-later}
 use Rattle.batch_add.specs.Preparing.{ids_of, need_of, HadFewNodes, HadBadId, WasRefused, IsInPart, IsInSome, CameToGive, HasSlotAndNodes, HasFailed, AtPrepare, IsPreparing, with_slot_nodes, with_marks, refusal_of, refusal_of_mark, part_left, stage_left, prepare_left, entry_at, entry_of, IsPrepareTurn, prepare_takes, takes_at}
 use Rattle.pass_table.proofs.Working.{done-then, done-prefix, point-from}
+use Rattle.batch_add.proofs.GiveLists.{written-none}
+use Rattle.batch_add.proofs.Known.{fresh-unwritten}
+use Rattle.batch_add.proofs.Staying.{fresh-start}
 use Rattle.batch_add.proofs.Parting.{from-from}
 use Rattle.batch_add.proofs.PartTurns.{part-more, part-again}
 
@@ -58,7 +62,7 @@ stores_some batch free (n ∷ rest) some = refl
 
 -- ---- fewer nodes were free
 
-module _ (operation : PrepareOp) (start mid next : View) (batch : Batch) (given : HasGivenUp start.batches batch [] mid next) where
+module _ (operation : PrepareOp) (start mid next : View) (current : ∥ IsCurrent start ∥₁) (batch : Batch) (given : HasGivenUp start.batches batch [] mid next) where
   abbrev layer : ℕ
   layer = operation.layer
 
@@ -78,6 +82,7 @@ module _ (operation : PrepareOp) (start mid next : View) (batch : Batch) (given 
       let loose : mid.loose ≡ start.loose = ap (λ (v : View). v.loose) first.left ∙ ap (λ (v : View). v.loose) reserved.done.left in
       let written : mid.written ≡ start.written = ap (λ (v : View). v.written) first.left ∙ ap (λ (v : View). v.written) reserved.done.left in
       let sizes : reserved_at.config ≡ start.config = ap (λ (v : View). v.config) reserved.done.left in
+      let kept : written_outside batch.nodes mid.written ≡ start.written = (λ i. written_outside (is i).nodes (written i)) ∙ written-none start.written in
       record {
         number = number;
         pass = reserved.pass;
@@ -89,7 +94,7 @@ module _ (operation : PrepareOp) (start mid next : View) (batch : Batch) (given 
               stores = stored_as (Slot layer slot) (reserved_by number) ∷ given_stores (is i) given.free;
               batches = append-nil start.batches i;
               loose = loose i;
-              written = written_outside (is i).nodes (written i);
+              written = kept i;
             })
             all;
         from_slot =
@@ -144,6 +149,11 @@ module _ (operation : PrepareOp) (start mid next : View) (batch : Batch) (given 
       let written : mid.written ≡ start.written =
       ap (λ (v : View). v.written) before.left ∙ (ap (λ (v : View). v.written) early.left ∙ ap (λ (v : View). v.written) reserved.done.left)
       in
+      let fresh = fresh-start start reserved_at layer slot nodes (ap (λ (v : View). v.batches) reserved.done.left) (ap (λ (v : View). v.loose) reserved.done.left) taken.others in
+      let low = subst (λ (c : Config). All (λ (n : ℕ). n < c.nodes) nodes) (ap (λ (v : View). v.config) reserved.done.left) taken.below in
+      let kept : written_outside batch.nodes mid.written ≡ start.written =
+      (λ i. written_outside (own i) (written i)) ∙ fresh-unwritten start number reserved.pass current nodes fresh low
+      in
       let unmarks : map (λ (m : Marked). Unmark m.index) batch.marked ≡ map (λ (id : Id). Unmark id.index) (take at ids) =
       ap (λ (b : Batch). map (λ (m : Marked). Unmark m.index) b.marked) is ∙ (map_map (λ (m : Marked). Unmark m.index) marked_as bodies ∙ entries_of (λ n. Unmark n) bodies (take at ids) indexes)
       in
@@ -156,8 +166,6 @@ module _ (operation : PrepareOp) (start mid next : View) (batch : Batch) (given 
         slot = slot;
         left = left;
         old = from.0;
-        nodes = nodes;
-        many = nodes_many;
         some = some;
         done =
             subst (HasDone start next)
@@ -166,7 +174,7 @@ module _ (operation : PrepareOp) (start mid next : View) (batch : Batch) (given 
               stores = stored_as (Slot layer slot) (reserved_by number) ∷ stored_as PoolFree left ∷ stores i;
               batches = append-nil start.batches i;
               loose = loose i;
-              written = written_outside (own i) (written i);
+              written = kept i;
             })
             all;
         from_slot = from-later start reserved_at next (Slot layer slot) 0 (reserved_by number) (done-prefix reserved_at next (followed two (followed three four)) after_slot) reserved.from;
@@ -229,7 +237,7 @@ module _ (operation : PrepareOp) (undone : Undone) (giving : GivingUp) (stage : 
         record {
           layer = preparing.layer;
           ids = preparing.ids;
-          wanted = record { in_layers = wanted.in_layers; below = wanted.below; few = wanted.few; rest = wanted.rest };
+          wanted = record { in_layers = wanted.in_layers; below = wanted.below; few = wanted.few; rest = wanted.rest; current = wanted.current };
           at =
               subst (AtPrepare given_on start next) (sym stage) (
                 record {
@@ -274,7 +282,7 @@ module _ (operation : PrepareOp) (undone : Undone) (giving : GivingUp) (stage : 
           subst (λ (l : ℕ). WasRefused l (ids_of first) start next refusal) preparing.layer
           (subst (λ (l : List Id). WasRefused operation.layer l start next refusal) preparing.ids
           (subst (WasRefused operation.layer (ids_of operation) start next) (sym (is ∙ ap (λ (n : ℕ). refusal_of n undone) at.1))
-          (refused-so operation start part.mid next part.so.batch given undone part.so.failed)))
+          (refused-so operation start part.mid next preparing.wanted.current part.so.batch given undone part.so.failed)))
 
       pub giving-done : IsPrepareTurn (Done (Err refusal)) operation given_on view next
       giving-done = record { step = step; made = made_on; turned = tt; loads = tt; keeps = λ first start preparing. tt; answered = refused_as }

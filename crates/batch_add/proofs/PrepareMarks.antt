@@ -63,6 +63,7 @@ same-wanted a b start layer ids wanted = record {
   below = subst (λ (l : List Id). All (λ (id : Id). id.index < start.config.bodies) l) (sym ids) wanted.below;
   few = subst (λ (l : List Id). length l ≤ 1048576) (sym ids) wanted.few;
   rest = wanted.rest;
+  current = wanted.current;
 }
 
 -- the sizes are those of the world

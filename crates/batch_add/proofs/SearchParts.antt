@@ -67,7 +67,7 @@ module _ (op : PrepareOp) (view : View) (at : op.stage ≡ Searching) where
         record {
           layer = h.layer;
           ids = h.ids;
-          wanted = record { in_layers = h.wanted.in_layers; below = h.wanted.below; few = h.wanted.few; rest = h.wanted.rest };
+          wanted = record { in_layers = h.wanted.in_layers; below = h.wanted.below; few = h.wanted.few; rest = h.wanted.rest; current = h.wanted.current };
           at =
               subst (AtPrepare searched start next) (sym at) (
                 a.0,
@@ -124,7 +124,7 @@ module _ (op : PrepareOp) (view : View) (at : op.stage ≡ Searching) where
           record {
             layer = h.layer;
             ids = h.ids;
-            wanted = record { in_layers = h.wanted.in_layers; below = h.wanted.below; few = h.wanted.few; rest = h.wanted.rest };
+            wanted = record { in_layers = h.wanted.in_layers; below = h.wanted.below; few = h.wanted.few; rest = h.wanted.rest; current = h.wanted.current };
             at = (
               a.0,
               record { mid = next; first = taking; so = record { reserved = search-reserved slot ends first start h; count = count ∙ a.2 }; goes = goes },

@@ -6,4 +6,7 @@ use Rattle.batch_add.specs.Aborting.{IsAborting}
 use Rattle.batch_add.specs.GivingLater.{giving-later}
 
 pub aborting-later : (first : AbortOp) (start : View) (operation : AbortOp) (view next : View) → KnowsMore view next → IsAborting first start operation view → IsAborting first start operation next
-aborting-later first start operation view next more aborting = giving-later first.giving start operation.giving view next more aborting
+aborting-later first start operation view next more aborting = record {
+  gives = giving-later first.giving start operation.giving view next more aborting.gives;
+  current = aborting.current;
+}

@@ -51,14 +51,8 @@ module _ (p : Planned) (start view : View) (r : Reached) (h : HasDrawnUpTo p sta
       Contains-append_left (flat_map (λ (b : Batch). b.nodes) view.batches) view.loose (node_at p.nodes n)
       (contains_flat (λ (b : Batch). b.nodes) view.batches h.drawn (node_at p.nodes n) newest-among (node-inside n made))
 
-  pub node-steady : (n : ℕ) (name : Name) → n < node_count p.plan → node_in name ≡ Some (node_at p.nodes n) → IsSteady view name
-  node-steady n name made is = of_pass (own-node view (node_at p.nodes n) name (node-own n made) is)
-
   -- others made steps
   module _ (next : View) (more : KnowsMore view next) where
-    still : (n : ℕ) (name : Name) → n < node_count p.plan → node_in name ≡ Some (node_at p.nodes n) → known_word next name ≡ known_word view name
-    still n name made is = steady-more view next name more (node-steady n name made is)
-
     pub drawn-later : HasDrawnUpTo p start next r
     drawn-later = record {
       before = h.before;
@@ -69,11 +63,8 @@ module _ (p : Planned) (start view : View) (r : Reached) (h : HasDrawnUpTo p sta
       worked = worked-more start view next _ h.worked more;
       from = h.from;
       of_batch = h.of_batch;
-      says = record {
-        child = λ n k made few below. still n (ChildWord (node_at p.nodes n) k) made refl ∙ h.says.child n k made few below;
-        bounds = λ n k q made few side below some. still n (BoundWord (node_at p.nodes n) k q) made refl ∙ h.says.bounds n k q made few side below some;
-        parent = λ n made below. still n (ParentWord (node_at p.nodes n)) made refl ∙ h.says.parent n made below;
-      };
+      says = h.says;
+      only = h.only;
       placed = h.placed;
     }
 

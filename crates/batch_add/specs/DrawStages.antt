@@ -10,7 +10,6 @@ use Rattle.core_state.specs.declared.view.Mode.TheVariants.{Write}
 use Rattle.core_state.specs.declared.view.Marked.{Marked}
 use Rattle.core_state.specs.declared.view.Batch.{Batch}
 use Rattle.core_state.specs.declared.view.View.{View}
-use Rattle.core_state.specs.View.{known_word}
 use Rattle.core_state.specs.Encoding.{place}
 use Rattle.tree_plan.specs.declared.plan_child.PlanChild.{PlanChild}
 use Rattle.tree_plan.specs.declared.plan_child.PlanChild.TheVariants.{Nothing, Body, Node}
@@ -26,7 +25,7 @@ use Rattle.batch_add.specs.declared.draw_stage.DrawStage.TheVariants.{Child, Sid
 use Rattle.batch_add.specs.declared.tree_drawing.TreeDrawing.{TreeDrawing}
 use Rattle.pass_table.specs.Work.{Work, begun, HasWorked}
 use Rattle.batch_add.specs.Parts.{IsNewest, marked_as, HasDrawn}
-use Rattle.batch_add.specs.Drawing.{node_at, child_word, parent_word, HasBodies}
+use Rattle.batch_add.specs.Drawing.{node_at, child_word, parent_word, HasBodies, HasWritten, WritesOnly}
 
 -- ---- what is drawn
 
@@ -130,12 +129,12 @@ IsOfPlan plan (Side n k q) = (n < node_count plan) × (k < 4) × (q < 6) × (chi
 IsOfPlan plan (Placing n k index) = (n < node_count plan) × (k < 4) × (child_at plan n k ≡ Body index)
 IsOfPlan plan (Parent n) = n < node_count plan
 
--- the words say the plan as far as they are stored
-pub record SaysUpTo (word : Name → ℕ) (p : Planned) (r : Reached) : Type 0 where
-  pub child : (n k : ℕ) → n < node_count p.plan → k < 4 → 4 * n + k < r.children → word (ChildWord (node_at p.nodes n) k) ≡ child_word p.nodes (child_at p.plan n k)
+-- the words say the plan as far as they are stored, where `has` tells which value a word has
+pub record SaysUpTo (has : Name → ℕ → Type 0) (p : Planned) (r : Reached) : Type 0 where
+  pub child : (n k : ℕ) → n < node_count p.plan → k < 4 → 4 * n + k < r.children → has (ChildWord (node_at p.nodes n) k) (child_word p.nodes (child_at p.plan n k))
   pub bounds : (n k q : ℕ) → n < node_count p.plan → k < 4 → q < 6 → 6 * (4 * n + k) + q < r.sides → child_at p.plan n k ≢ Nothing
-      → word (BoundWord (node_at p.nodes n) k q) ≡ side (p.bound n k) q
-  pub parent : (n : ℕ) → n < node_count p.plan → n < r.parents → word (ParentWord (node_at p.nodes n)) ≡ parent_word p.nodes (parent_at p.plan n)
+      → has (BoundWord (node_at p.nodes n) k q) (side (p.bound n k) q)
+  pub parent : (n : ℕ) → n < node_count p.plan → n < r.parents → has (ParentWord (node_at p.nodes n)) (parent_word p.nodes (parent_at p.plan n))
 
 -- the bodies at so many places are placed, and the others are not
 pub record ArePlacedUpTo (p : Planned) (marked : List Marked) (places : ℕ) : Type 0 where
@@ -164,7 +163,8 @@ pub record HasDrawnUpTo (p : Planned) (start view : View) (r : Reached) : Type 0
   pub worked : HasWorked start view (drawing_work start before drawn written)
   pub from : IsDrawnFrom batch drawn
   pub of_batch : HasBodies drawn p.bodies
-  pub says : SaysUpTo (known_word view) p r
+  pub says : SaysUpTo (HasWritten written) p r
+  pub only : WritesOnly p.nodes start.written written
   pub placed : ArePlacedUpTo p drawn.marked r.places
 
 abbrev pub AtDraw : Planned → View → View → DrawStage → Type 0

@@ -10,9 +10,11 @@ use Rattle.tree_plan.specs.Arranged.{AreApart}
 use Rattle.tree_bounds.specs.Bounds.{side, AreBoundsOf}
 use Rattle.word_map.specs.declared.name.Name.{Name}
 use Rattle.word_map.specs.declared.name.Name.TheVariants.{Child, Bound, Parent}
+use Rattle.core_state.specs.declared.item.Store.{Store}
 use Rattle.core_state.specs.declared.view.Marked.{Marked}
 use Rattle.core_state.specs.declared.view.Batch.{Batch}
 use Rattle.core_state.specs.Encoding.{body_child, node_child, place}
+use Rattle.core_state.specs.Batches.{written_outside}
 
 -- the node of the table that a node of the plan becomes: the plan's first node the first of the batch's, and so on
 abbrev pub node_at : List ℕ → ℕ → ℕ
@@ -38,11 +40,11 @@ pub record HasBodies (batch : Batch) (bodies : List (ℕ × FixBox)) : Type 0 wh
   pub each : (m : Marked) → Contains batch.marked m → (body : ℕ × FixBox) × Contains bodies body × IsMarkedAs m body
   pub all : (body : ℕ × FixBox) → Contains bodies body → (m : Marked) × Contains batch.marked m × IsMarkedAs m body
 
--- the words of the nodes are the plan's
-pub record SaysPlan (word : Name → ℕ) (plan : Plan) (bound : ℕ → ℕ → FixBox) (nodes : List ℕ) : Type 0 where
-  pub child : (n k : ℕ) → n < node_count plan → k < 4 → word (Child (node_at nodes n) k) ≡ child_word nodes (child_at plan n k)
-  pub bounds : (n k q : ℕ) → n < node_count plan → k < 4 → q < 6 → child_at plan n k ≢ Nothing → word (Bound (node_at nodes n) k q) ≡ side (bound n k) q
-  pub parent : (n : ℕ) → n < node_count plan → word (Parent (node_at nodes n)) ≡ parent_word nodes (parent_at plan n)
+-- the words of the nodes are the plan's, where `has` tells which value a word has
+pub record SaysPlanBy (has : Name → ℕ → Type 0) (plan : Plan) (bound : ℕ → ℕ → FixBox) (nodes : List ℕ) : Type 0 where
+  pub child : (n k : ℕ) → n < node_count plan → k < 4 → has (Child (node_at nodes n) k) (child_word nodes (child_at plan n k))
+  pub bounds : (n k q : ℕ) → n < node_count plan → k < 4 → q < 6 → child_at plan n k ≢ Nothing → has (Bound (node_at nodes n) k q) (side (bound n k) q)
+  pub parent : (n : ℕ) → n < node_count plan → has (Parent (node_at nodes n)) (parent_word nodes (parent_at plan n))
 
 -- and each body of the batch is placed where the plan has it
 abbrev pub ArePlaced : Plan → List ℕ → Batch → Type 0
@@ -51,7 +53,7 @@ ArePlaced plan nodes batch = (m : Marked) → Contains batch.marked m → (m.is_
 
 -- The batch is drawn: its nodes are as many as the plan's, each another, their words say the plan over its bodies, of which
 -- there is one at least, and each body is placed
-pub record IsDrawn (word : Name → ℕ) (bodies : List (ℕ × FixBox)) (plan : Plan) (bound : ℕ → ℕ → FixBox) (batch : Batch) : Type 0 where
+pub record IsDrawnBy (has : Name → ℕ → Type 0) (bodies : List (ℕ × FixBox)) (plan : Plan) (bound : ℕ → ℕ → FixBox) (batch : Batch) : Type 0 where
   pub planned : IsPlanOf bodies plan
   pub apart : AreApart bodies
   pub some : 0 < length bodies
@@ -59,5 +61,21 @@ pub record IsDrawn (word : Name → ℕ) (bodies : List (ℕ × FixBox)) (plan :
   pub of_batch : HasBodies batch bodies
   pub nodes : length batch.nodes ≡ node_count plan
   pub distinct : IsDistinct nat_eq batch.nodes
-  pub says : SaysPlan word plan bound batch.nodes
+  pub says : SaysPlanBy has plan bound batch.nodes
   pub placed : ArePlaced plan batch.nodes batch
+
+-- it is drawn in these words
+abbrev pub IsDrawn : (Name → ℕ) → List (ℕ × FixBox) → Plan → (ℕ → ℕ → FixBox) → Batch → Type 0
+IsDrawn word bodies plan bound batch = IsDrawnBy (λ name value. word name ≡ value) bodies plan bound batch
+
+-- the value is what was stored in the word
+abbrev pub HasWritten : List Store → Name → ℕ → Type 0
+HasWritten written name value = Contains written (record { name = name; value = value })
+
+-- its words were so written
+abbrev pub IsWritten : List Store → List (ℕ × FixBox) → Plan → (ℕ → ℕ → FixBox) → Batch → Type 0
+IsWritten written bodies plan bound batch = IsDrawnBy (HasWritten written) bodies plan bound batch
+
+-- the pass stored words of these nodes alone: what it has stored in others is what it had
+abbrev pub WritesOnly : List ℕ → List Store → List Store → Type 0
+WritesOnly nodes before written = written_outside nodes written ≡ written_outside nodes before

@@ -15,3 +15,4 @@ pub mod Preparing
 pub mod PrepareLater
 pub mod Aborting
 pub mod AbortLater
+pub mod Unjoined

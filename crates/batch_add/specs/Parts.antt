@@ -15,7 +15,7 @@ use Rattle.core_state.specs.declared.view.Marked.{Marked}
 use Rattle.core_state.specs.declared.view.Batch.{Batch}
 use Rattle.core_state.specs.declared.view.View.{View}
 use Rattle.core_state.specs.Log.{word}
-use Rattle.core_state.specs.View.{IsPass, known_word}
+use Rattle.core_state.specs.View.{IsPass}
 use Rattle.core_state.specs.Encoding.{reserved_by, phase_join}
 use Rattle.core_state.specs.Bodies.{IsForSlot}
 use Rattle.core_state.specs.Batches.{new_batch, batch_nodes_of, written_outside}
@@ -26,7 +26,7 @@ use Rattle.pass_table.specs.Calls.{AtPoint}
 use Rattle.batch_add.specs.declared.mark_op.MarkRefused.{MarkRefused}
 use Rattle.batch_add.specs.declared.mark_op.MarkRefused.TheVariants.{Gone, Held, AlreadyIn, WrongLayer}
 use Rattle.pass_table.specs.Work.{Outcome, HasDone, idle}
-use Rattle.batch_add.specs.Drawing.{IsDrawn}
+use Rattle.batch_add.specs.Drawing.{IsWritten, WritesOnly}
 
 -- ---- stores
 
@@ -158,7 +158,8 @@ pub record HasDrawn (bodies : List (ℕ × FixBox)) (before : List Batch) (start
   pub done : HasDone start next (drawn_outcome start before drawn written)
   pub plan : Plan
   pub bound : ℕ → ℕ → FixBox
-  pub tree : IsDrawn (known_word next) bodies plan bound drawn
+  pub tree : IsWritten written bodies plan bound drawn
+  pub only : WritesOnly drawn.nodes start.written written
 
 -- ---- giving up
 

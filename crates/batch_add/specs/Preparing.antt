@@ -1,7 +1,6 @@
 -- How a batch is prepared, turn by turn, and what it answers.
 use Rattle.pass_table.specs.TakeTurns.{LoadedNone}
-use Rattle.std.specs.Prelude.{◌≡◌, ◌≢◌, ℕ, ◌+◌, ◌*◌, ◌<◌, ◌≤◌, List, [], ◌∷◌, ◌++◌, length, map, take, slice_index_or, All, Option, Some, None, Result, Ok, Err, false}
-use Rattle.std.specs.Prelude.{option_and_then}
+use Rattle.std.specs.Prelude.{◌≡◌, ◌≢◌, ℕ, ◌+◌, ◌*◌, ◌<◌, ◌≤◌, List, [], ◌∷◌, ◌++◌, length, map, take, slice_index_or, All, Option, Some, None, Result, Ok, Err, false, Contains, option_and_then}
 use Rattle.std.specs.List.Sorted.{IsPermutation}
 use Rattle.body_ident.specs.Id.{Id}
 use Rattle.fixed_box.specs.declared.fix_box.FixBox.{FixBox}
@@ -16,10 +15,11 @@ use Rattle.core_state.specs.declared.view.View.{View}
 use Rattle.core_state.specs.Log.{word}
 use Rattle.core_state.specs.View.{IsPass}
 use Rattle.core_state.specs.Encoding.{reserved_by}
-use Rattle.core_state.specs.Batches.{new_batch, written_outside}
+use Rattle.core_state.specs.Batches.{new_batch, written_outside, batch_nodes_of}
 use Rattle.pass_table.specs.declared.take_op.TakeOp.{TakeOp}
 use Rattle.pass_table.specs.declared.turn.Turn.{Turn}
 use Rattle.pass_table.specs.Holding.{IsAtRest}
+use Rattle.pass_table.specs.Bodies.{IsCurrent}
 use Rattle.pass_table.specs.Calls.{AtPoint, IsTurn}
 use Rattle.batch_add.specs.declared.answers.PrepareRefused.{PrepareRefused}
 use Rattle.batch_add.specs.declared.answers.PrepareRefused.TheVariants.{Memory, Empty as NoBodies, NoSlot, NoNodes as FewNodes, Gone as IdGone, Held as IdHeld, AlreadyIn as IdIn, WrongLayer as IdElsewhere}
@@ -40,7 +40,7 @@ use Rattle.batch_add.specs.declared.prepare_op.PrepareOp.{PrepareOp}
 use Rattle.batch_add.specs.declared.prepare_op.Plans.{Plans}
 use Rattle.pass_table.specs.Work.{Outcome, HasWorked, HasDone, begun, idle}
 use Rattle.batch_add.specs.Parts.{stored_as, StoresFrom, HasReserved, FoundNoSlot, with_nodes, HasNodes, FoundFewNodes, marked_as, HasMarked, HasMarkedBefore, IsMarkRefusedAt}
-use Rattle.batch_add.specs.Prepared.{IsGood}
+use Rattle.batch_add.specs.Prepared.{IsGood, IsApart}
 use Rattle.batch_add.specs.Searching.{IsSearching, search_left}
 use Rattle.batch_add.specs.TakingNodes.{IsTakingNodes, nodes_left, nodes_takes}
 use Rattle.batch_add.specs.Marking.{IsMarking, mark_left, mark_takes}
@@ -61,13 +61,18 @@ prepared_outcome view layer slot number ids left batch written = record {
 }
 
 -- The bodies of the ids are marked, in order, for a batch of a slot of the layer that was empty, with as many nodes of the pool
--- as their tree needs. It is good for the pass, which has no other batch more and is at rest
+-- as their tree needs, none of which the pass had. It is good for the pass, which has no other batch more and is at rest; in
+-- other nodes it has written what it had, so each batch that was good is, and it is apart from each
 pub record HasPrepared (layer : ℕ) (ids : List Id) (start next : View) (prepared : Prepared) : Type 0 where
   pub left : ℕ
   pub written : List Store
   pub good : IsGood prepared next
   pub first : good.before ≡ start.batches
   pub last : good.after ≡ []
+  pub fresh : All (λ n. ¬ Contains (batch_nodes_of start) n) prepared.nodes.items
+  pub only : written_outside prepared.nodes.items written ≡ start.written
+  pub others : (other : Prepared) → IsGood other start → IsGood other next
+  pub apart : (other : Prepared) → IsGood other start → IsApart other prepared
   pub of_layer : prepared.layer ≡ layer
   pub of_pass : IsPass start prepared.number
   pub indexes : prepared.indexes.items ≡ map (λ id. id.index) ids
@@ -85,20 +90,17 @@ pub record HadFewNodes (layer : ℕ) (ids : List Id) (start next : View) (wanted
   pub number : ℕ
   pub pass : IsPass start number
   pub slot : ℕ
-  pub done : HasDone start next (record (idle start) { stores = stored_as (Slot layer slot) (reserved_by number) ∷ stored_as (Slot layer slot) 0 ∷ []; written = written_outside [] start.written })
+  pub done : HasDone start next (record (idle start) { stores = stored_as (Slot layer slot) (reserved_by number) ∷ stored_as (Slot layer slot) 0 ∷ [] })
   pub from_slot : StoresFrom start next (Slot layer slot) 0 (reserved_by number)
   pub need_of : wanted ≡ need (length ids)
   pub few : free < wanted
   pub at : AtPoint start next (λ log. word start.config log PoolFree ≡ free)
 
 -- what a preparation leaves that is refused for an id
-abbrev pub refused_outcome : View → ℕ → ℕ → ℕ → List Id → ℕ → ℕ → List ℕ → Outcome
-refused_outcome view layer slot number ids left free nodes = record {
+abbrev pub refused_outcome : View → ℕ → ℕ → ℕ → List Id → ℕ → ℕ → Outcome
+refused_outcome view layer slot number ids left free = record (idle view) {
   entries = map (λ id. Mark id.index) ids ++ map (λ id. Unmark id.index) ids;
   stores = stored_as (Slot layer slot) (reserved_by number) ∷ stored_as PoolFree left ∷ stored_as (Slot layer slot) 0 ∷ stored_as PoolFree free ∷ [];
-  batches = view.batches;
-  loose = view.loose;
-  written = written_outside nodes view.written;
 }
 
 -- The id at this place is refused, at a point of the call, and none before it. The bodies of those were marked, in order, and
@@ -109,10 +111,8 @@ pub record HadBadId (layer : ℕ) (ids : List Id) (start next : View) (at : ℕ)
   pub slot : ℕ
   pub left : ℕ
   pub old : ℕ
-  pub nodes : List ℕ
-  pub many : length nodes ≡ need (length ids)
   pub some : at < length ids
-  pub done : HasDone start next (refused_outcome start layer slot number (take at ids) left (old + need (length ids)) nodes)
+  pub done : HasDone start next (refused_outcome start layer slot number (take at ids) left (old + need (length ids)))
   pub from_slot : StoresFrom start next (Slot layer slot) 0 (reserved_by number)
   pub from_pool : StoresFrom start next PoolFree (left + need (length ids)) left
   pub back : StoresFrom start next PoolFree old (old + need (length ids))
@@ -167,12 +167,14 @@ pub record HasRoom (operation : PrepareOp) : Type 0 where
   pub bodies : length operation.marking.bodies.items ≡ count_of operation
   pub plans : HasPlans operation
 
--- It was begun for these ids by a pass at rest: they are ids of the world, in a layer of it
+-- It was begun for these ids by a pass at rest, which knew the log of a core that stands: they are ids of the world, in a
+-- layer of it
 pub record IsWanted (operation : PrepareOp) (start : View) : Type 0 where
   pub in_layers : operation.layer < start.config.layers
   pub below : All (λ id. id.index < start.config.bodies) (ids_of operation)
   pub few : count_of operation ≤ 1048576
   pub rest : IsAtRest start
+  pub current : ∥ IsCurrent start ∥₁
 
 -- ---- parts
 

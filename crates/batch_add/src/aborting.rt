@@ -19,15 +19,15 @@ pub struct AbortOp {
 }
 
 impl Operation for AbortOp {
-    ghost use Rattle.batch_add.specs.GivingUp.{HasGiven, give_left, give_takes};
-    ghost use Rattle.batch_add.specs.Aborting.{IsAborting};
+    ghost use Rattle.batch_add.specs.GivingUp.{give_left, give_takes};
+    ghost use Rattle.batch_add.specs.Aborting.{IsAborting, HasAbortedAny};
     ghost use Rattle.batch_add.specs.AbortLater.{aborting-later};
 
     type Done = ();
 
     ghost under_way = { IsAborting };
 
-    ghost answers = { λ first start last next answer. HasGiven first.giving start last.giving next answer };
+    ghost answers = { λ first start last next answer. HasAbortedAny first start next };
 
     ghost left = { λ operation. give_left operation.giving };
 

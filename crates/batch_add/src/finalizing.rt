@@ -1,8 +1,16 @@
 //! Attaching a batch that is prepared.
-ghost use Rattle.std.specs.Prelude.{◌≡◌, ◌<◌, length};
-ghost use Rattle.batch_add.specs.Drawing.{node_at};
-ghost use Rattle.batch_add.specs.Prepared.{IsGood, HasAttached};
+ghost use Rattle.std.specs.Prelude.{◌≡◌, ℕ, ◌<◌, length};
+ghost use Rattle.body_ident.specs.Id.{Id};
+ghost use Rattle.core_state.specs.declared.view.Mode.{Mode};
+ghost use Rattle.core_state.specs.Encoding.{slot_tree};
+ghost use Rattle.word_map.specs.declared.name.Name.TheVariants.{Slot};
 ghost use Rattle.pass_table.specs.Passes.{view_of, IsOf, IsIdle};
+ghost use Rattle.pass_table.specs.Bodies.{IsGuarding};
+ghost use Rattle.pass_table.specs.Calls.{StoresWord};
+ghost use Rattle.pass_table.specs.Turning.{OneStep};
+ghost use Rattle.batch_add.specs.declared.prepared.Prepared.{Prepared};
+ghost use Rattle.batch_add.specs.Drawing.{node_at};
+ghost use Rattle.batch_add.specs.Prepared.{IsGood, IsApart, HasAttached};
 
 use crate::prepared::Prepared;
 use pass_table::{Pass, World, step_24};
@@ -10,13 +18,19 @@ use word_map::{Name, SlotWord};
 
 /// Attaches a batch: by one store all its bodies are in the broad phase, and its tree is one of their layer.
 ///
-/// It never waits, needs no memory and is not refused. Nothing else changes.
+/// It is one step, which never waits, needs no memory and is not refused. Nothing else changes: the pass holds the locks that
+/// it held, and what it locked and its other batches are good still.
 pub fn finalize(world: &World, pass: &mut Pass, batch: Prepared)
     requires of { IsOf world.now pass.old }
     requires good { IsGood batch (view_of pass.old) }
     ensures of { IsOf world.now pass.new }
     ensures idle { IsIdle world.now pass.old → IsIdle world.now pass.new }
     ensures attached { HasAttached batch (view_of pass.old) (view_of pass.new) }
+    ensures one { OneStep (view_of pass.old) (view_of pass.new) }
+    ensures stores { StoresWord (view_of pass.old) (view_of pass.new) (Slot batch.layer batch.slot) (slot_tree (node_at batch.nodes.items 0)) }
+    ensures locks { (view_of pass.new).locks ≡ (view_of pass.old).locks }
+    ensures guards { (number : ℕ) (id : Id) (mode : Mode) → IsGuarding number id mode (view_of pass.old) → IsGuarding number id mode (view_of pass.new) }
+    ensures others { (other : Prepared) → IsGood other (view_of pass.old) → IsApart other batch → IsGood other (view_of pass.new) }
 {
     let Prepared {
         number: _number,

@@ -1,14 +1,23 @@
 //! What holds of batches that are drawn, as contracts of functions that do nothing.
 
-ghost use Rattle.std.specs.Prelude.{◌≡◌, ℕ, ◌≤◌, List};
+ghost use Rattle.std.specs.Prelude.{◌≡◌, ℕ, ◌≤◌, List, ◌∷◌, ◌++◌};
 ghost use Rattle.fixed_box.specs.declared.fix_box.FixBox.{FixBox};
+ghost use Rattle.scene_model.specs.declared.entry.Entry.TheVariants.{Unmark};
+ghost use Rattle.scene_model.specs.declared.entry.Made.{Made};
+ghost use Rattle.scene_model.specs.History.{IsLawfulHistory};
 ghost use Rattle.scene_model.specs.Tree.{tree};
 ghost use Rattle.tree_plan.specs.Plan.{Plan};
 ghost use Rattle.word_map.specs.declared.name.Name.{Name};
 ghost use Rattle.core_state.specs.declared.view.Batch.{Batch};
+ghost use Rattle.core_state.specs.declared.view.View.{View};
+ghost use Rattle.core_state.specs.View.{known_word};
 ghost use Rattle.core_state.specs.Batches.{IsWholeTree};
+ghost use Rattle.pass_table.specs.Bodies.{IsCurrent};
+ghost use Rattle.batch_add.specs.declared.prepared.Prepared.{Prepared};
 ghost use Rattle.batch_add.specs.Drawing.{node_at, IsDrawn};
+ghost use Rattle.batch_add.specs.Prepared.{IsGood};
 ghost use Rattle.batch_add.specs.Shape.{tree_at};
+ghost use Rattle.batch_add.specs.Unjoined.{NoneJoins, IsUndone, IsMarkedSince};
 
 /// A batch whose nodes are drawn by the plan over its bodies is one whole tree, so it may be attached; and the tree that is
 /// read from its root is the stated tree over these bodies, wherever it is read ten levels deep or further.
@@ -17,4 +26,20 @@ pub fn drawn_batches_are_whole_trees()
         → IsWholeTree word batch (node_at batch.nodes 0) }
     ensures stated { (word : Name → ℕ) (bodies : List (ℕ × FixBox)) (plan : Plan) (bound : ℕ → ℕ → FixBox) (batch : Batch) → IsDrawn word bodies plan bound batch
         → (levels : ℕ) → 10 ≤ levels → tree_at word levels (node_at batch.nodes 0) ≡ tree bodies }
+{}
+
+/// The tree of a batch that is good is in the words that its pass knows, since what it stored in its nodes stands there: its
+/// view is current.
+pub fn good_batches_are_drawn()
+    ensures { (prepared : Prepared) (view : View) (good : IsGood prepared view) → ∥ IsCurrent view ∥₁
+        → IsDrawn (known_word view) good.bodies good.is.plan good.is.bound good.batch }
+{}
+
+/// A mark of a batch that is given up or refused is followed by its unmark, and in a lawful history no join of the body is
+/// between, by whichever pass. And before each unmark of a body is the mark of it, since which it did not join.
+pub fn undone_marks_did_not_join()
+    ensures between { (layers bodies : ℕ) (history : List Made) (i : ℕ) (between : List Made) → IsLawfulHistory layers bodies history → IsUndone history i between
+        → NoneJoins i between }
+    ensures before { (layers bodies : ℕ) (history later : List Made) (i pass : ℕ)
+        → IsLawfulHistory layers bodies (history ++ (record { pass = pass; entry = Unmark i }) ∷ later) → IsMarkedSince history i }
 {}

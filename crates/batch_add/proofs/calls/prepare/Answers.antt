@@ -7,7 +7,7 @@ use Rattle.batch_add.specs.declared.prepared.Prepared.{Prepared}
 use Rattle.batch_add.specs.declared.answers.PrepareRefused.{PrepareRefused}
 use Rattle.batch_add.specs.declared.answers.PrepareRefused.TheVariants.{Memory, Empty, NoSlot, NoNodes, Gone, Held, AlreadyIn, WrongLayer}
 use Rattle.batch_add.specs.Preparing.{IsPrepareAnswer, PrepareAnswers}
-use Rattle.batch_add.proofs.Resting.{prepare-rest}
+use Rattle.batch_add.proofs.Resting.{prepare-rest, prepare-keeps, prepare-others, prepare-good, prepare-apart, prepare-beside}
 use Rattle.batch_add.proofs.calls.prepare.Goals as goal
 
 -- no turn answers want of memory
@@ -38,3 +38,18 @@ returns-in-Ok-clause-idle g c = record {
   of = c.drive.ensures.of;
   rest = prepare-rest c.args.layer c.args.ids.now (view_of c.args.pass.now) (view_of c.drive.new.pass) c.drive.result c.requires.idle.rest (returns-in-Ok-clause-answers g c);
 }
+
+pub returns-in-Ok-clause-good : goal.returns-in-Ok-clause-good
+returns-in-Ok-clause-good g c = prepare-good c.args.layer c.args.ids.now (view_of c.args.pass.now) (view_of c.drive.new.pass) c.drive.result (returns-in-Ok-clause-answers g c)
+
+pub returns-in-Ok-clause-others : goal.returns-in-Ok-clause-others
+returns-in-Ok-clause-others g c = prepare-others c.args.layer c.args.ids.now (view_of c.args.pass.now) (view_of c.drive.new.pass) c.drive.result (returns-in-Ok-clause-answers g c)
+
+pub returns-in-Ok-clause-apart : goal.returns-in-Ok-clause-apart
+returns-in-Ok-clause-apart g c = prepare-apart c.args.layer c.args.ids.now (view_of c.args.pass.now) (view_of c.drive.new.pass) c.drive.result (returns-in-Ok-clause-answers g c)
+
+pub returns-in-Ok-clause-keeps : goal.returns-in-Ok-clause-keeps
+returns-in-Ok-clause-keeps g c = prepare-keeps c.args.layer c.args.ids.now (view_of c.args.pass.now) (view_of c.drive.new.pass) c.drive.result (returns-in-Ok-clause-answers g c)
+
+pub returns-in-Ok-clause-beside : goal.returns-in-Ok-clause-beside
+returns-in-Ok-clause-beside g c = prepare-beside c.args.layer c.args.ids.now (view_of c.args.pass.now) (view_of c.drive.new.pass) c.drive.result (returns-in-Ok-clause-answers g c)

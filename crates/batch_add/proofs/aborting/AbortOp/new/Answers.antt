@@ -45,3 +45,6 @@ new-requires-clause-begun c =
       subst (λ (k : KeptBatch). IsBegunFor k view good.before good.batch good.after) (λ i. record (kept_of prepared) { marked = marked i; node_count = nodes i })
           (prepared-begun prepared view good.before good.batch good.after good.bodies good.is c.requires.idle.rest),
     )
+
+pub returns-clause-under_way : goal.returns-clause-under_way
+returns-clause-under_way c = record { gives = c.new.ensures.under_way; current = c.args.pass.now.current }

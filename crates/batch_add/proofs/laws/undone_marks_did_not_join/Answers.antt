@@ -1,0 +1,8 @@
+use Rattle.batch_add.proofs.Unjoined.{undone-unjoined, unmarked-marked}
+use Rattle.batch_add.proofs.laws.undone_marks_did_not_join.Goals as goal
+
+pub returns-clause-between : goal.returns-clause-between
+returns-clause-between c = undone-unjoined
+
+pub returns-clause-before : goal.returns-clause-before
+returns-clause-before c = unmarked-marked

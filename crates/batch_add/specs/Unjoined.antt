@@ -1,0 +1,36 @@
+-- Marks and joins of a body in a history.
+use Rattle.std.specs.Prelude.{◌≡◌, ℕ, List, ◌∷◌, ◌++◌, All, Contains}
+use Rattle.scene_model.specs.declared.entry.Entry.{Entry}
+use Rattle.scene_model.specs.declared.entry.Entry.TheVariants.{Mark, Unmark, Join}
+use Rattle.scene_model.specs.declared.entry.Made.{Made}
+
+-- the entry marks the body at an index
+abbrev pub MarksBody : ℕ → Entry → Type 0
+MarksBody i (Mark j) = i ≡ j
+MarksBody i _ = ⊥
+
+-- the body at an index comes into the broad phase by it
+abbrev pub JoinsBody : ℕ → Entry → Type 0
+JoinsBody i (Join layer indexes) = Contains indexes i
+JoinsBody i _ = ⊥
+
+-- by none of these entries, whoever made them, the body comes into the broad phase
+abbrev pub NoneJoins : ℕ → List Made → Type 0
+NoneJoins i made = All (λ m. ¬ JoinsBody i m.entry) made
+
+-- A body is marked in a history, and unmarked later: these are the entries between, and none of them is another mark of it
+pub record IsUndone (history : List Made) (i : ℕ) (between : List Made) : Type 0 where
+  pub first : List Made
+  pub marker : ℕ
+  pub unmarker : ℕ
+  pub later : List Made
+  pub parts : history ≡ first ++ (record { pass = marker; entry = Mark i }) ∷ (between ++ (record { pass = unmarker; entry = Unmark i }) ∷ later)
+  pub once : All (λ m. ¬ MarksBody i m.entry) between
+
+-- the last mark of a body in a history, since which it did not come into the broad phase
+pub record IsMarkedSince (history : List Made) (i : ℕ) : Type 0 where
+  pub first : List Made
+  pub marker : ℕ
+  pub since : List Made
+  pub parts : history ≡ first ++ (record { pass = marker; entry = Mark i }) ∷ since
+  pub unjoined : NoneJoins i since

@@ -1,8 +1,6 @@
 -- How the turns of giving a batch up go on from stage to stage.
 use Rattle.std.proofs.Common.{◌≡◌, ℕ, suc, ◌+◌, ◌<◌, ◌≤◌, List, Option, Some, None, inl, ap, sym, ◌∙◌, subst, arith}
 use Rattle.scene_model.specs.declared.entry.Made.{Made}
-use Rattle.core_state.specs.declared.view.Mode.{Mode}
-use Rattle.core_state.specs.declared.view.Mode.TheVariants.{Write}
 use Rattle.core_state.specs.declared.view.Batch.{Batch}
 use Rattle.core_state.specs.declared.view.View.{View}
 use Rattle.pass_table.specs.declared.take_op.TakeOp.{TakeOp}

@@ -1,7 +1,6 @@
 -- How the turns of marking bodies go on, and those that take the stripe of a body.
 use Rattle.std.proofs.Common.{◌≡◌, ℕ, suc, ◌+◌, ◌-◌, ◌*◌, ◌<◌, List, length, None, Result, inl, ap, sym, ◌∙◌, subst, arith, Option, Some}
 use Rattle.word_map.specs.Names.{stripe_of}
-use Rattle.core_state.specs.declared.view.Mode.{Mode}
 use Rattle.core_state.specs.declared.view.Mode.TheVariants.{Write}
 use Rattle.core_state.specs.declared.view.Batch.{Batch}
 use Rattle.core_state.specs.declared.view.View.{View}

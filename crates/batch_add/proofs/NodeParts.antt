@@ -8,7 +8,6 @@ use Rattle.scene_model.specs.Need.{need}
 use Rattle.word_map.specs.declared.config.Config.{Config}
 use Rattle.word_map.specs.declared.name.Name.TheVariants.{Slot}
 use Rattle.word_map.specs.Names.{IsName}
-use Rattle.core_state.specs.declared.view.Mode.TheVariants.{Write}
 use Rattle.core_state.specs.declared.view.Batch.{Batch}
 use Rattle.core_state.specs.declared.view.View.{View}
 use Rattle.core_state.specs.Batches.{new_batch}

@@ -12,7 +12,6 @@ use Rattle.scene_model.specs.declared.entry.Entry.TheVariants.{Mark}
 use Rattle.word_map.specs.declared.config.Config.{Config}
 use Rattle.word_map.specs.declared.name.Name.TheVariants.{Slot, PoolFree, Parent}
 use Rattle.word_map.specs.Names.{IsName}
-use Rattle.core_state.specs.declared.view.Mode.TheVariants.{Write}
 use Rattle.core_state.specs.declared.item.Store.{Store}
 use Rattle.core_state.specs.declared.view.Marked.{Marked}
 use Rattle.core_state.specs.declared.view.Batch.{Batch}

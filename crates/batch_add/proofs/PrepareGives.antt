@@ -21,7 +21,6 @@ use Rattle.pass_table.specs.Bodies.{IsCurrent}
 use Rattle.pass_table.specs.Calls.{AtPoint}
 use Rattle.pass_table.specs.Turning.{AtMostOneStep, MadeBy, Turned, IsUnderWay, LoadsNow}
 use Rattle.pass_table.proofs.Calling.{point-later}
-use Rattle.core_state.specs.declared.view.Mode.TheVariants.{Write}
 use Rattle.batch_add.specs.declared.answers.PrepareRefused.{PrepareRefused}
 use Rattle.batch_add.specs.declared.mark_op.MarkRefused.{MarkRefused}
 use Rattle.batch_add.specs.declared.mark_op.MarkRefused.TheVariants.{Gone, Held, AlreadyIn, WrongLayer}

@@ -8,7 +8,6 @@ use Rattle.body_ident.specs.Id.{Id}
 use Rattle.fixed_box.specs.declared.fix_box.FixBox.{FixBox}
 use Rattle.scene_model.specs.Need.{need}
 use Rattle.word_map.specs.declared.config.Config.{Config}
-use Rattle.core_state.specs.declared.view.Mode.TheVariants.{Write}
 use Rattle.core_state.specs.declared.view.Marked.{Marked}
 use Rattle.core_state.specs.declared.view.Batch.{Batch}
 use Rattle.core_state.specs.declared.view.View.{View}

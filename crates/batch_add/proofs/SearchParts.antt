@@ -2,7 +2,6 @@
 use Rattle.pass_table.proofs.TakingTurns.{loads-none}
 use Rattle.pass_table.specs.TakeTurns.{LoadedNone}
 use Rattle.std.proofs.Common.{◌≡◌, ℕ, ◌+◌, ◌*◌, ◌<◌, List, length, Option, Some, None, Result, Err, refl, ap, sym, ◌∙◌, subst, arith}
-use Rattle.core_state.specs.declared.view.Mode.TheVariants.{Write}
 use Rattle.core_state.specs.declared.view.View.{View}
 use Rattle.pass_table.specs.declared.turn.Turn.TheVariants.{Done, More, Again}
 use Rattle.pass_table.specs.Turning.{AtMostOneStep, MadeBy, Turned, IsUnderWay, HasReached, Labelled}

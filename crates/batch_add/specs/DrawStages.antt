@@ -6,7 +6,6 @@ use Rattle.scene_model.specs.Need.{need}
 use Rattle.word_map.specs.declared.name.Name.{Name}
 use Rattle.word_map.specs.declared.name.Name.TheVariants.{Child as ChildWord, Bound as BoundWord, Parent as ParentWord}
 use Rattle.core_state.specs.declared.item.Store.{Store}
-use Rattle.core_state.specs.declared.view.Mode.TheVariants.{Write}
 use Rattle.core_state.specs.declared.view.Marked.{Marked}
 use Rattle.core_state.specs.declared.view.Batch.{Batch}
 use Rattle.core_state.specs.declared.view.View.{View}

@@ -9,7 +9,6 @@ use Rattle.scene_model.specs.declared.entry.Made.{Made}
 use Rattle.scene_model.specs.Need.{need}
 use Rattle.word_map.specs.declared.name.Name.TheVariants.{Slot, PoolFree}
 use Rattle.core_state.specs.declared.item.Store.{Store}
-use Rattle.core_state.specs.declared.view.Mode.TheVariants.{Write}
 use Rattle.core_state.specs.declared.view.Batch.{Batch}
 use Rattle.core_state.specs.declared.view.View.{View}
 use Rattle.core_state.specs.Log.{word}

@@ -1,7 +1,6 @@
 -- How a slot is looked for and reserved, turn by turn.
 use Rattle.std.specs.Prelude.{◌≡◌, ◌≢◌, ℕ, suc, ◌+◌, ◌-◌, ◌*◌, ◌<◌, Bool, true, false, List, length, slice_index_or, slice_set, Option, Some, None}
 use Rattle.word_map.specs.declared.name.Name.TheVariants.{Slot}
-use Rattle.core_state.specs.declared.view.Mode.TheVariants.{Write}
 use Rattle.core_state.specs.declared.view.View.{View}
 use Rattle.core_state.specs.Log.{word}
 use Rattle.pass_table.specs.declared.turn.Turn.{Turn}

@@ -5,7 +5,7 @@ use Rattle.pass_table.specs.TakeTurns.{taking_of}
 use Rattle.pass_table.specs.Passes.{view_of}
 use Rattle.pass_table.proofs.Calling.{some-left}
 use Rattle.batch_add.specs.declared.giving_up.GiveStage.TheVariants.{Locking, Locked}
-use Rattle.batch_add.proofs.GiveTurns.{at-stage, went-on, take-more, take-again}
+use Rattle.batch_add.proofs.GiveTurns.{went-on, take-more, take-again}
 use Rattle.batch_add.proofs.GiveWork.{free-taken, free-goes}
 use Rattle.batch_add.proofs.giving_up.GivingUp.take_pool.Goals as goal
 

@@ -7,7 +7,6 @@ use Rattle.pass_table.proofs.Calling.{some-left}
 use Rattle.batch_add.specs.declared.mark_op.MarkStage.TheVariants.{Taking, Striped}
 use Rattle.batch_add.specs.Marking.{marks_of, current}
 use Rattle.batch_add.proofs.MarkTurns.{went-on, take-more, take-again, stripe-done, stripe-on}
-use Rattle.batch_add.proofs.MarkEnds.{going-at}
 use Rattle.batch_add.proofs.mark_op.Marking.take_stripe.Goals as goal
 
 pub returns-in-Done-clause-turn : goal.returns-in-Done-clause-turn

@@ -1,11 +1,10 @@
-use Rattle.std.proofs.Common.{refl, subst, arith}
+use Rattle.std.proofs.Common.{refl, arith}
 use Rattle.word_map.specs.Names.{pool_lock}
 use Rattle.core_state.specs.declared.view.Mode.TheVariants.{Write}
 use Rattle.pass_table.specs.TakeTurns.{taking_of}
 use Rattle.pass_table.specs.Passes.{view_of}
 use Rattle.pass_table.proofs.Calling.{some-left}
 use Rattle.batch_add.specs.declared.node_taking.NodeStage.TheVariants.{Locking, Locked}
-use Rattle.batch_add.specs.TakingNodes.{AtNodes}
 use Rattle.batch_add.proofs.TakingNodes.{nodes-on, lock-done, lock-on, lock-more, lock-again}
 use Rattle.batch_add.proofs.node_taking.NodeTaking.lock.Goals as goal
 

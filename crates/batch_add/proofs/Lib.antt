@@ -36,3 +36,4 @@ pub mod SearchParts
 pub mod NodeParts
 pub mod PrepareBegun
 pub mod PrepareGives
+pub mod PrepareLabel

@@ -15,7 +15,6 @@ use Rattle.word_map.specs.declared.name.Name.TheVariants.{Lock}
 use Rattle.scene_model.specs.History.{scene_after, IsLawfulHistory}
 use Rattle.core_state.specs.declared.item.Item.{Item}
 use Rattle.core_state.specs.declared.view.Mode.{Mode}
-use Rattle.core_state.specs.declared.view.Mode.TheVariants.{Write}
 use Rattle.core_state.specs.declared.view.LockStep.{LockStep}
 use Rattle.core_state.specs.declared.view.LockStep.TheVariants.{Taken as TakenStep, Released}
 use Rattle.core_state.specs.declared.view.Task.TheVariants.{Nothing}

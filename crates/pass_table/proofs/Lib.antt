@@ -11,6 +11,7 @@ pub mod LockedBodies
 pub mod Ruling
 pub mod Trying
 pub mod Turning
+pub mod Labels
 pub mod Resting
 pub mod TakingTurns
 pub mod Calling

@@ -40,3 +40,4 @@ pub mod PrepareGives
 pub mod Known
 pub mod Staying
 pub mod Unjoined
+pub mod PrepareLabel

@@ -163,19 +163,19 @@ bodies_below bodies ids most same below =
 
 module _ (before : PrepareOp) (marking : Marking) (view next : View) (stage : before.stage ≡ MarkingStage)
     (ends : (first : Marking) (start : View) → IsMarking first start before.marking view → HasMadeMarks first start marking next (Ok tt)) where
-  record AllMarked (start : View) : Type 0 where
-    mid : View
-    has : HasSlotAndNodes before start mid before.taking.nodes.items
+  pub record AllMarked (start : View) : Type 0 where
+    pub mid : View
+    pub has : HasSlotAndNodes before start mid before.taking.nodes.items
     ids : marking.ids.items ≡ ids_of before
     room : length marking.bodies.items ≡ count_of before
     made : marking.made ≡ None
-    marked : HasMarked start.batches (with_slot_nodes before.layer before.slot before.taking.nodes.items) (ids_of before) mid next marking.bodies.items
+    pub marked : HasMarked start.batches (with_slot_nodes before.layer before.slot before.taking.nodes.items) (ids_of before) mid next marking.bodies.items
 
   module _ (first : PrepareOp) (start : View) (preparing : IsPreparing first start before view) where
     all_at : AtPrepare before start view MarkingStage
     all_at = subst (AtPrepare before start view) stage preparing.at
 
-    all_marked : AllMarked start
+    pub all_marked : AllMarked start
     all_marked =
         let part = all_at.1 in
         let makes = ends part.first part.mid part.goes in

@@ -1,4 +1,5 @@
 -- How a batch is prepared, turn by turn, and what it answers.
+use Rattle.pass_table.specs.Labels.{IsRefusal, EndsAfter, SaysNew}
 use Rattle.pass_table.specs.TakeTurns.{LoadedNone}
 use Rattle.std.specs.Prelude.{◌≡◌, ◌≢◌, ℕ, ◌+◌, ◌*◌, ◌<◌, ◌≤◌, List, [], ◌∷◌, ◌++◌, length, map, take, slice_index_or, All, Option, Some, None, Result, Ok, Err, false, Contains, option_and_then}
 use Rattle.std.specs.List.Sorted.{IsPermutation}
@@ -377,6 +378,35 @@ stage_label _ = None
 
 abbrev pub label_of : PrepareOp → Option ℕ
 label_of operation = stage_label operation.stage
+
+-- what a preparation leaves once all bodies are marked
+abbrev pub marked_outcome : View → ℕ → ℕ → ℕ → List Id → ℕ → List ℕ → List (ℕ × FixBox) → Outcome
+marked_outcome start layer slot number ids left nodes bodies = record (idle start) {
+  entries = map (λ id. Mark id.index) ids;
+  stores = stored_as (Slot layer slot) (reserved_by number) ∷ stored_as PoolFree left ∷ [];
+  batches = start.batches ++ with_marks (with_slot_nodes layer slot nodes) bodies ∷ [];
+}
+
+-- The label says: the bodies of the ids are marked, in order, by a pass that is at rest again. It has a batch more, of these
+-- bodies, with as many nodes of the pool as their tree needs. None of the bodies is placed, and no node is drawn
+pub record HasAllMarked (layer : ℕ) (ids : List Id) (start next : View) : Type 0 where
+  pub number : ℕ
+  pub slot : ℕ
+  pub left : ℕ
+  pub nodes : List ℕ
+  pub bodies : List (ℕ × FixBox)
+  pub of_pass : IsPass start number
+  pub many : length nodes ≡ need (length ids)
+  pub indexes : map (λ b. b.0) bodies ≡ map (λ id. id.index) ids
+  pub done : HasDone start next (marked_outcome start layer slot number ids left nodes bodies)
+
+abbrev pub label_says : PrepareOp → View → View → ℕ → Type 0
+label_says first start next label = HasAllMarked first.layer (ids_of first) start next
+
+-- what a turn owes to the label
+pub record KeepsLabel (turn : Turn (Result Prepared PrepareRefused)) (before after : PrepareOp) (view next : View) : Type 0 where
+  pub ends : EndsAfter turn IsRefusal (Some 0) (label_of before)
+  pub says : (first : PrepareOp) (start : View) → IsPreparing first start before view → SaysNew (label_of before) (label_of after) (label_says first start next)
 
 -- the entry that the last turn made
 abbrev pub entry_at : PrepareOp → PrepareStage → Option Made

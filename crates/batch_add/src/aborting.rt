@@ -1,5 +1,5 @@
 //! Giving up a batch that is prepared.
-ghost use Rattle.std.specs.Prelude.{◌≡◌, None};
+ghost use Rattle.std.specs.Prelude.{◌≡◌, None, ⊤};
 ghost use Rattle.pass_table.specs.Passes.{view_of, IsIdle};
 ghost use Rattle.batch_add.specs.Prepared.{IsGood};
 ghost use Rattle.batch_add.specs.Aborting.{kept_of, IsAborting, HasAborted};
@@ -34,6 +34,12 @@ impl Operation for AbortOp {
     ghost takes = { λ operation. give_takes operation.giving };
 
     ghost reached = { λ operation. None };
+
+    ghost last_label = { None };
+
+    ghost refused = { λ answer. ⊥ };
+
+    ghost says = { λ first start next label. ⊤ };
 
     ghost entry = { λ operation. operation.giving.made };
 

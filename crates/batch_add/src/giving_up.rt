@@ -1,6 +1,6 @@
 //! Giving a batch up, turn by turn: its bodies are unmarked, in order, each under its stripe; its slot is let go; and its
 //! nodes are put into the pool again, under the pool's lock.
-ghost use Rattle.std.specs.Prelude.{◌≡◌, ◌<◌, ◌≤◌, ℕ, List, length, None};
+ghost use Rattle.std.specs.Prelude.{◌≡◌, ◌<◌, ◌≤◌, ℕ, List, length, None, ⊤};
 ghost use Rattle.core_state.specs.declared.view.Batch.{Batch};
 ghost use Rattle.core_state.specs.View.{HoldsNot};
 ghost use Rattle.pass_table.specs.declared.turn.Turn.TheVariants.{More};
@@ -71,6 +71,12 @@ impl Operation for GivingUp {
     ghost takes = { give_takes };
 
     ghost reached = { λ operation. None };
+
+    ghost last_label = { None };
+
+    ghost refused = { λ answer. ⊥ };
+
+    ghost says = { λ first start next label. ⊤ };
 
     ghost entry = { λ operation. operation.made };
 

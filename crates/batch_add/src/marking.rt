@@ -1,5 +1,5 @@
 //! Marking the bodies of a batch, turn by turn: body by body, in the order of the ids, under the body's stripe.
-ghost use Rattle.std.specs.Prelude.{◌≡◌, ◌+◌, ◌*◌, ◌^◌, ◌<◌, ◌≤◌, ℕ, List, None, All, length};
+ghost use Rattle.std.specs.Prelude.{◌≡◌, ◌+◌, ◌*◌, ◌^◌, ◌<◌, ◌≤◌, ℕ, List, None, All, length, ⊤};
 ghost use Rattle.word_map.specs.Names.{stripe_of};
 ghost use Rattle.core_state.specs.declared.view.Batch.{Batch};
 ghost use Rattle.pass_table.specs.declared.turn.Turn.TheVariants.{More};
@@ -33,6 +33,12 @@ impl Operation for Marking {
     ghost takes = { mark_takes };
 
     ghost reached = { λ operation. None };
+
+    ghost last_label = { None };
+
+    ghost refused = { λ answer. ⊥ };
+
+    ghost says = { λ first start next label. ⊤ };
 
     ghost entry = { λ operation. operation.made };
 

@@ -1,5 +1,5 @@
 //! Preparing a batch by turns: the turns of its parts, one after the other.
-ghost use Rattle.std.specs.Prelude.{◌≡◌, ◌≢◌, ◌<◌, List, [], length, All};
+ghost use Rattle.std.specs.Prelude.{◌≡◌, ◌≢◌, ◌<◌, List, [], length, All, Some};
 ghost use Rattle.core_state.specs.declared.view.Batch.{Batch};
 ghost use Rattle.pass_table.specs.Holding.{IsAtRest};
 ghost use Rattle.pass_table.specs.Passes.{view_of, IsOf};
@@ -8,7 +8,7 @@ ghost use Rattle.batch_add.specs.declared.prepare_op.PrepareStage.TheVariants.{S
 ghost use Rattle.batch_add.specs.Marking.{IsForNewest};
 ghost use Rattle.batch_add.specs.DrawStages.{IsToDraw};
 ghost use Rattle.batch_add.specs.Keeping.{IsBegunFor};
-ghost use Rattle.batch_add.specs.Preparing.{IsPreparing, IsPrepareTurn, CanPlan, BeginsNodes, BeginsMarks, BeginsTree, BeginsUndoing, kept_of, refusal_of, label_of};
+ghost use Rattle.batch_add.specs.Preparing.{IsPreparing, IsPrepareTurn, CanPlan, BeginsNodes, BeginsMarks, BeginsTree, BeginsUndoing, kept_of, refusal_of, label_of, KeepsLabel};
 
 use crate::answers::{PrepareRefused, SlotWords};
 use crate::giving_up::GivingUp;
@@ -23,7 +23,8 @@ use scene_model::Made;
 use std::mem;
 
 impl Operation for PrepareOp {
-    ghost use Rattle.batch_add.specs.Preparing.{IsPreparing, HasPreparedOr, prepare_left, prepare_takes, label_of, entry_of};
+    ghost use Rattle.batch_add.specs.Preparing.{IsPreparing, HasPreparedOr, prepare_left, prepare_takes, label_of, label_says, entry_of};
+    ghost use Rattle.pass_table.specs.Labels.{IsRefusal};
     ghost use Rattle.batch_add.specs.PrepareLater.{preparing-later};
 
     type Done = Result<Prepared, PrepareRefused>;
@@ -37,6 +38,12 @@ impl Operation for PrepareOp {
     ghost takes = { prepare_takes };
 
     ghost reached = { label_of };
+
+    ghost last_label = { Some 0 };
+
+    ghost refused = { λ answer. IsRefusal answer };
+
+    ghost says = { label_says };
 
     ghost entry = { entry_of };
 
@@ -78,6 +85,7 @@ impl PrepareOp {
         ensures of { IsOf world.now pass.new }
         ensures turn { IsPrepareTurn result self.old self.new (view_of pass.old) (view_of pass.new) }
         ensures labelled { Labelled result (label_of self.old) (label_of self.new) }
+        ensures label { KeepsLabel result self.old self.new (view_of pass.old) (view_of pass.new) }
     {
         match self.stage {
             PrepareStage::Empty => Turn::Done(Err(PrepareRefused::Empty)),
@@ -105,6 +113,7 @@ impl PrepareOp {
         ensures of { IsOf world.now pass.new }
         ensures turn { IsPrepareTurn result self.old self.new (view_of pass.old) (view_of pass.new) }
         ensures labelled { Labelled result (label_of self.old) (label_of self.new) }
+        ensures label { KeepsLabel result self.old self.new (view_of pass.old) (view_of pass.new) }
     {
         match self.search.turn(world, pass) {
             Turn::Done(Some(slot)) => {
@@ -134,6 +143,7 @@ impl PrepareOp {
         ensures of { IsOf world.now pass.new }
         ensures turn { IsPrepareTurn result self.old self.new (view_of pass.old) (view_of pass.new) }
         ensures labelled { Labelled result (label_of self.old) (label_of self.new) }
+        ensures label { KeepsLabel result self.old self.new (view_of pass.old) (view_of pass.new) }
     {
         match self.taking.turn(world, pass) {
             Turn::Done(Ok(())) => {
@@ -161,6 +171,7 @@ impl PrepareOp {
         ensures of { IsOf world.now pass.new }
         ensures turn { IsPrepareTurn result self.old self.new (view_of pass.old) (view_of pass.new) }
         ensures labelled { Labelled result (label_of self.old) (label_of self.new) }
+        ensures label { KeepsLabel result self.old self.new (view_of pass.old) (view_of pass.new) }
     {
         match self.marking.turn(world, pass) {
             Turn::Done(Ok(())) => {
@@ -189,6 +200,7 @@ impl PrepareOp {
         ensures of { IsOf world.now pass.new }
         ensures turn { IsPrepareTurn result self.old self.new (view_of pass.old) (view_of pass.new) }
         ensures labelled { Labelled result (label_of self.old) (label_of self.new) }
+        ensures label { KeepsLabel result self.old self.new (view_of pass.old) (view_of pass.new) }
     {
         let Some(mut drawing) = mem::replace(&mut self.drawing, None) else {
             unreachable!()
@@ -228,6 +240,7 @@ impl PrepareOp {
         ensures of { IsOf world.now pass.new }
         ensures turn { IsPrepareTurn result self.old self.new (view_of pass.old) (view_of pass.new) }
         ensures labelled { Labelled result (label_of self.old) (label_of self.new) }
+        ensures label { KeepsLabel result self.old self.new (view_of pass.old) (view_of pass.new) }
     {
         let Some(giving) = &mut self.giving else {
             unreachable!()

@@ -1,5 +1,5 @@
 //! Looking for an empty slot of a layer, and reserving it.
-ghost use Rattle.std.specs.Prelude.{◌≡◌, ◌<◌, ◌^◌, ◌==◌, if◌then◌else◌, suc, true, false, length, None};
+ghost use Rattle.std.specs.Prelude.{◌≡◌, ◌<◌, ◌^◌, ◌==◌, if◌then◌else◌, suc, true, false, length, None, ⊤};
 ghost use Rattle.pass_table.specs.declared.turn.Turn.TheVariants.{Done, More};
 ghost use Rattle.pass_table.specs.Holding.{IsAtRest};
 ghost use Rattle.pass_table.specs.Passes.{view_of, IsOf};
@@ -38,6 +38,12 @@ impl Operation for SlotSearch {
     ghost takes = { λ operation. None };
 
     ghost reached = { λ operation. None };
+
+    ghost last_label = { None };
+
+    ghost refused = { λ answer. ⊥ };
+
+    ghost says = { λ first start next label. ⊤ };
 
     ghost entry = { λ operation. None };
 

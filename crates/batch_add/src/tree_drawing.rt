@@ -1,5 +1,5 @@
 //! Drawing the planned tree over the bodies of a batch in its nodes, and placing the bodies there.
-ghost use Rattle.std.specs.Prelude.{◌≡◌, ◌<◌, ◌≤◌, length, None};
+ghost use Rattle.std.specs.Prelude.{◌≡◌, ◌<◌, ◌≤◌, length, None, ⊤};
 ghost use Rattle.std.specs.List.Sorted.{IsPermutation};
 ghost use Rattle.tree_plan.specs.Arranged.{AreApart};
 ghost use Rattle.tree_plan.specs.Plan.{node_count, child_at, parent_at, IsPlanOf};
@@ -51,6 +51,12 @@ impl Operation for TreeDrawing {
     ghost takes = { λ operation. None };
 
     ghost reached = { λ operation. None };
+
+    ghost last_label = { None };
+
+    ghost refused = { λ answer. ⊥ };
+
+    ghost says = { λ first start next label. ⊤ };
 
     ghost entry = { λ operation. None };
 

@@ -1,5 +1,5 @@
 //! Locking several bodies by turns.
-ghost use Rattle.std.specs.Prelude.{◌≡◌, ◌<◌, ◌≤◌, ℕ, suc, true, None, length, slice_index_or, All};
+ghost use Rattle.std.specs.Prelude.{◌≡◌, ◌<◌, ◌≤◌, ℕ, suc, true, None, length, slice_index_or, All, ⊤};
 ghost use Rattle.pass_table.specs.Trying.{mode_if};
 ghost use Rattle.pass_table.specs.Turning.{IsUnderWay, AtMostOneStep, MadeBy};
 ghost use Rattle.pass_table.specs.TakeTurns.{LoadedNone};
@@ -34,6 +34,12 @@ impl Operation for LockMultiOp {
     ghost takes = { multi_takes };
 
     ghost reached = { λ operation. None };
+
+    ghost last_label = { None };
+
+    ghost refused = { λ answer. ⊥ };
+
+    ghost says = { λ first start next label. ⊤ };
 
     ghost entry = { λ operation. None };
 

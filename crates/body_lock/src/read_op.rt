@@ -1,5 +1,5 @@
 //! Locking a body to read, by turns.
-ghost use Rattle.std.specs.Prelude.{◌≡◌, ◌<◌, None};
+ghost use Rattle.std.specs.Prelude.{◌≡◌, ◌<◌, None, ⊤};
 ghost use Rattle.core_state.specs.declared.view.Mode.TheVariants.{Read};
 ghost use Rattle.pass_table.specs.Passes.{view_of, IsIdle};
 ghost use Rattle.body_lock.specs.Locking.{locking_of, IsLockingSo};
@@ -34,6 +34,12 @@ impl Operation for LockReadOp {
     ghost takes = { λ operation. lock_takes operation.locking };
 
     ghost reached = { λ operation. None };
+
+    ghost last_label = { None };
+
+    ghost refused = { λ answer. ⊥ };
+
+    ghost says = { λ first start next label. ⊤ };
 
     ghost entry = { λ operation. None };
 

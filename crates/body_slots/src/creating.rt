@@ -1,5 +1,5 @@
 //! Creating a body by turns.
-ghost use Rattle.std.specs.Prelude.{◌≡◌, ℕ, ◌<◌, None};
+ghost use Rattle.std.specs.Prelude.{◌≡◌, ℕ, ◌<◌, None, ⊤};
 ghost use Rattle.core_state.specs.Lives.{IsFieldOf};
 ghost use Rattle.pass_table.specs.declared.turn.Turn.TheVariants.{More};
 ghost use Rattle.pass_table.specs.Passes.{view_of, IsOf, IsIdle};
@@ -35,6 +35,12 @@ impl Operation for CreateOp {
     ghost takes = { create_takes };
 
     ghost reached = { λ operation. None };
+
+    ghost last_label = { None };
+
+    ghost refused = { λ answer. ⊥ };
+
+    ghost says = { λ first start next label. ⊤ };
 
     ghost entry = { λ operation. operation.made };
 

@@ -1,5 +1,5 @@
 //! Destroying a body by turns.
-ghost use Rattle.std.specs.Prelude.{◌≡◌, ◌<◌, Err, None};
+ghost use Rattle.std.specs.Prelude.{◌≡◌, ◌<◌, Err, None, ⊤};
 ghost use Rattle.pass_table.specs.declared.turn.Turn.TheVariants.{More};
 ghost use Rattle.pass_table.specs.Passes.{view_of, IsOf, IsIdle};
 ghost use Rattle.pass_table.specs.Turning.{IsUnderWay};
@@ -31,6 +31,12 @@ impl Operation for DestroyOp {
     ghost takes = { destroy_takes };
 
     ghost reached = { λ operation. None };
+
+    ghost last_label = { None };
+
+    ghost refused = { λ answer. ⊥ };
+
+    ghost says = { λ first start next label. ⊤ };
 
     ghost entry = { λ operation. operation.made };
 

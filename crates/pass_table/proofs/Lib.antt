@@ -12,6 +12,7 @@ pub mod Current
 pub mod Ruling
 pub mod Trying
 pub mod Turning
+pub mod Labels
 pub mod Resting
 pub mod TakingTurns
 pub mod Calling

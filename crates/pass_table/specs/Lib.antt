@@ -7,6 +7,7 @@ pub mod Knowing
 pub mod Bodies
 pub mod Trying
 pub mod Turning
+pub mod Labels
 pub mod TakeTurns
 pub mod Passes
 pub mod Opened

@@ -2,6 +2,7 @@
 ghost use Rattle.std.specs.Prelude.{◌≡◌, option_copied};
 ghost use Rattle.core_state.specs.declared.view.View.{View};
 ghost use Rattle.pass_table.specs.Passes.{view_of, IsOf};
+ghost use Rattle.pass_table.specs.Labels.{EndsAfter, SaysNew};
 ghost use Rattle.pass_table.specs.Turning.{Turned, LoadsNow, Labelled, GoesOn, Answers, IsUnderWay, AtMostOneStep, MadeBy};
 
 use crate::label::Label;
@@ -40,6 +41,15 @@ pub trait Operation {
     /// The last label that it reached.
     ghost reached: { Self → Option ℕ };
 
+    /// The number of the last label of such an operation, or none where it has no label.
+    ghost last_label: { Option ℕ };
+
+    /// Which answers are refusals.
+    ghost refused: { Self.Done → Type 0 };
+
+    /// What a label says: of the operation and the view with which it was begun, of the view now, and of its number.
+    ghost says: { Self → View → View → ℕ → Type 0 };
+
     /// The entry that the last turn made.
     ghost entry: { Self → Option Made };
 
@@ -53,6 +63,8 @@ pub trait Operation {
         ensures turned { Turned result (view_of pass.old) (view_of pass.new) (takes self.old) (left self.old) (left self.new) }
         ensures loads { GoesOn result (LoadsNow (view_of pass.old) (view_of pass.new) (takes self.new)) }
         ensures labelled { Labelled result (reached self.old) (reached self.new) }
+        ensures ends { EndsAfter result refused last_label (reached self.old) }
+        ensures says { (first : Self) (start : View) → under_way first start self.old (view_of pass.old) → SaysNew (reached self.old) (reached self.new) (says first start (view_of pass.new)) }
         ensures goes_on { GoesOn result (IsUnderWay under_way self.new (view_of pass.new)) }
         ensures keeps { (first : Self) (start : View) → under_way first start self.old (view_of pass.old) → GoesOn result (under_way first start self.new (view_of pass.new)) }
         ensures answers { (first : Self) (start : View) → under_way first start self.old (view_of pass.old) → Answers result (answers first start self.new (view_of pass.new)) };

@@ -1,5 +1,5 @@
 //! Taking a lock by turns.
-ghost use Rattle.std.specs.Prelude.{◌≡◌, None, Some};
+ghost use Rattle.std.specs.Prelude.{◌≡◌, None, Some, ⊤};
 ghost use Rattle.word_map.specs.declared.name.Name.TheVariants.{Lock};
 ghost use Rattle.word_map.specs.Names.{IsName};
 ghost use Rattle.core_state.specs.View.{HoldsNot};
@@ -33,6 +33,12 @@ impl Operation for TakeOp {
     ghost takes = { Some };
 
     ghost reached = { λ operation. None };
+
+    ghost last_label = { None };
+
+    ghost refused = { λ answer. ⊥ };
+
+    ghost says = { λ first start next label. ⊤ };
 
     ghost entry = { λ operation. None };
 

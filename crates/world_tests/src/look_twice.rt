@@ -27,6 +27,12 @@ impl Operation for LookTwice {
 
     ghost reached = { λ operation. if operation.looks == 0 then None else Some operation.looks };
 
+    ghost last_label = { Some 2 };
+
+    ghost refused = { λ answer. ⊥ };
+
+    ghost says = { λ first start next label. IsPrefix start.known next.known };
+
     ghost entry = { λ operation. None };
 
     fn turn(&mut self, world: &World, pass: &mut Pass) -> Turn<()> {

@@ -1,4 +1,7 @@
-use Rattle.std.proofs.Common.{refl, ap, sym, ◌∙◌}
+use Rattle.batch_add.specs.Preparing.{stage_label}
+use Rattle.batch_add.proofs.PrepareLabel.{label-still}
+use Rattle.pass_table.specs.declared.turn.Turn.TheVariants.{Done, More, Again}
+use Rattle.std.proofs.Common.{refl, ap, sym, ◌∙◌, Ok, inr, arith}
 use Rattle.pass_table.specs.Passes.{view_of}
 use Rattle.batch_add.proofs.PrepareDraws.{draws-begun, draws-more, draws-again, draws-done}
 use Rattle.batch_add.proofs.prepare_op.PrepareOp.draw_tree.Goals as goal
@@ -24,3 +27,14 @@ pub returns-in-Again-clause-turn : goal.returns-in-Again-clause-turn
 returns-in-Again-clause-turn c =
     draws-again c.args.self.now c.in-Some.drawing c.turn.new.self (view_of c.args.pass.now) (view_of c.turn.new.pass) c.requires.stage (sym c.replace.ensures.value ∙ c.in-Some.is) c.turn.ensures.step
     c.turn.ensures.made c.in-Again.ensures.keeps c.in-Again.lock c.in-Again.word c.in-Again.ensures.turned
+
+pub returns-in-Done-clause-label : goal.returns-in-Done-clause-label
+returns-in-Done-clause-label c =
+    label-still (Done (Ok _)) c.args.self.now _ (view_of c.args.pass.now) (view_of c.turn.new.pass) (inr (omega arith)) (ap stage_label c.requires.stage) (ap stage_label c.requires.stage)
+
+pub returns-in-More-clause-label : goal.returns-in-More-clause-label
+returns-in-More-clause-label c = label-still More c.args.self.now _ (view_of c.args.pass.now) (view_of c.turn.new.pass) tt (ap stage_label c.requires.stage) (ap stage_label c.requires.stage)
+
+pub returns-in-Again-clause-label : goal.returns-in-Again-clause-label
+returns-in-Again-clause-label c =
+    label-still (Again c.in-Again.lock c.in-Again.word) c.args.self.now _ (view_of c.args.pass.now) (view_of c.turn.new.pass) tt (ap stage_label c.requires.stage) (ap stage_label c.requires.stage)

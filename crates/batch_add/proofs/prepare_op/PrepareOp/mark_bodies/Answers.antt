@@ -1,9 +1,10 @@
+use Rattle.batch_add.proofs.PrepareLabel.{label-none, label-reached}
 use Rattle.std.proofs.Common.{ap, sym, subst}
 use Rattle.core_state.specs.declared.view.View.{View}
 use Rattle.pass_table.specs.Passes.{view_of}
-use Rattle.pass_table.specs.declared.turn.Turn.TheVariants.{More}
+use Rattle.pass_table.specs.declared.turn.Turn.TheVariants.{More, Again}
 use Rattle.batch_add.specs.Marking.{HasMadeMarks}
-use Rattle.batch_add.specs.Preparing.{IsPrepareTurn}
+use Rattle.batch_add.specs.Preparing.{IsPrepareTurn, stage_label}
 use Rattle.batch_add.proofs.PrepareMarks.{marks-begun, marks-more, marks-again, all-rest, all-plans, all-to_draw, marks-done, undoing-begun, marks-refused}
 use Rattle.batch_add.proofs.prepare_op.PrepareOp.mark_bodies.Goals as goal
 
@@ -62,3 +63,20 @@ pub returns-in-Again-clause-turn : goal.returns-in-Again-clause-turn
 returns-in-Again-clause-turn c =
     marks-again c.args.self.now c.turn.new.self (view_of c.args.pass.now) (view_of c.turn.new.pass) c.requires.stage c.in-Again.ensures.keeps c.requires.under_way c.turn.ensures.step c.turn.ensures.made
     c.in-Again.lock c.in-Again.word c.in-Again.ensures.turned c.in-Again.ensures.loads
+
+pub returns-in-Done-Ok-clause-label : goal.returns-in-Done-Ok-clause-label
+returns-in-Done-Ok-clause-label c =
+    let next = view_of c.turn.new.pass in
+    label-reached c.args.self.now c.turn.new.self c.begin_tree.new.self (view_of c.args.pass.now) next c.requires.stage
+    (λ first start goes. subst (HasMadeMarks first start c.turn.new.self next) c.in-Done-Ok.field-0-is (c.in-Done-Ok.ensures.answers first start goes)) c.begin_tree.ensures.begins
+
+pub returns-in-Done-Err-clause-label : goal.returns-in-Done-Err-clause-label
+returns-in-Done-Err-clause-label c =
+    label-none More c.args.self.now c.begin_undoing.new.self (view_of c.args.pass.now) (view_of c.begin_undoing.new.pass) tt (ap stage_label c.begin_undoing.ensures.begins.stage)
+
+pub returns-in-More-clause-label : goal.returns-in-More-clause-label
+returns-in-More-clause-label c = label-none More c.args.self.now (record c.args.self.now { marking = c.turn.new.self }) (view_of c.args.pass.now) (view_of c.turn.new.pass) tt (ap stage_label c.requires.stage)
+
+pub returns-in-Again-clause-label : goal.returns-in-Again-clause-label
+returns-in-Again-clause-label c =
+    label-none (Again c.in-Again.lock c.in-Again.word) c.args.self.now (record c.args.self.now { marking = c.turn.new.self }) (view_of c.args.pass.now) (view_of c.turn.new.pass) tt (ap stage_label c.requires.stage)

@@ -1,9 +1,10 @@
-use Rattle.std.proofs.Common.{◌<◌, ap, sym, ◌∙◌, subst}
+use Rattle.batch_add.proofs.PrepareLabel.{label-none}
+use Rattle.std.proofs.Common.{◌<◌, ap, sym, ◌∙◌, subst, inl, Err}
 use Rattle.core_state.specs.declared.view.View.{View}
-use Rattle.pass_table.specs.declared.turn.Turn.TheVariants.{More}
+use Rattle.pass_table.specs.declared.turn.Turn.TheVariants.{More, Done, Again}
 use Rattle.pass_table.specs.Passes.{view_of}
 use Rattle.batch_add.specs.declared.prepare_op.PrepareOp.{PrepareOp}
-use Rattle.batch_add.specs.Preparing.{IsPrepareTurn}
+use Rattle.batch_add.specs.Preparing.{IsPrepareTurn, label_of, stage_label}
 use Rattle.batch_add.proofs.Searching.{reserved-newest}
 use Rattle.batch_add.proofs.TakenNodes.{newest-some}
 use Rattle.batch_add.proofs.PartsLeft.{need-some}
@@ -74,3 +75,17 @@ pub returns-in-Again-clause-turn : goal.returns-in-Again-clause-turn
 returns-in-Again-clause-turn c =
     let told = c.in-Again.ensures in
     search-again c.args.self.now (view_of c.args.pass.now) c.requires.stage c.turn.new.self (view_of c.turn.new.pass) told.step told.made told.keeps c.in-Again.lock c.in-Again.word told.turned
+
+pub returns-in-Done-Some-clause-label : goal.returns-in-Done-Some-clause-label
+returns-in-Done-Some-clause-label c =
+    label-none More c.args.self.now c.begin_nodes.new.self (view_of c.args.pass.now) (view_of c.begin_nodes.new.pass) tt (ap (λ (o : PrepareOp). label_of o) c.begin_nodes.ensures.begins.is)
+
+pub returns-in-Done-None-clause-label : goal.returns-in-Done-None-clause-label
+returns-in-Done-None-clause-label c = label-none (Done (Err _)) c.args.self.now _ (view_of c.args.pass.now) (view_of c.turn.new.pass) (inl tt) (ap stage_label c.requires.stage)
+
+pub returns-in-More-clause-label : goal.returns-in-More-clause-label
+returns-in-More-clause-label c = label-none More c.args.self.now (record c.args.self.now { search = c.turn.new.self }) (view_of c.args.pass.now) (view_of c.turn.new.pass) tt (ap stage_label c.requires.stage)
+
+pub returns-in-Again-clause-label : goal.returns-in-Again-clause-label
+returns-in-Again-clause-label c =
+    label-none (Again c.in-Again.lock c.in-Again.word) c.args.self.now (record c.args.self.now { search = c.turn.new.self }) (view_of c.args.pass.now) (view_of c.turn.new.pass) tt (ap stage_label c.requires.stage)

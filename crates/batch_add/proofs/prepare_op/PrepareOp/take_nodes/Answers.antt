@@ -1,10 +1,11 @@
+use Rattle.batch_add.proofs.PrepareLabel.{label-none}
 use Rattle.std.proofs.Common.{◌<◌, All, Ok, ap, sym, subst}
 use Rattle.word_map.specs.declared.config.Config.{Config}
 use Rattle.core_state.specs.declared.view.View.{View}
-use Rattle.pass_table.specs.declared.turn.Turn.TheVariants.{More}
+use Rattle.pass_table.specs.declared.turn.Turn.TheVariants.{More, Again}
 use Rattle.pass_table.specs.Passes.{view_of}
 use Rattle.batch_add.specs.declared.prepare_op.PrepareOp.{PrepareOp}
-use Rattle.batch_add.specs.Preparing.{ids_of, IsPrepareTurn}
+use Rattle.batch_add.specs.Preparing.{ids_of, IsPrepareTurn, label_of, stage_label}
 use Rattle.batch_add.proofs.NodeParts.{nodes-inside, nodes-count, nodes-room, nodes-answers, nodes-rest, nodes-below, nodes-newest, nodes-end, few-begun, nodes-few, nodes-more, nodes-again}
 use Rattle.batch_add.proofs.prepare_op.PrepareOp.take_nodes.Goals as goal
 
@@ -70,3 +71,18 @@ pub returns-in-Again-clause-turn : goal.returns-in-Again-clause-turn
 returns-in-Again-clause-turn c =
     let told = c.in-Again.ensures in
     nodes-again c.args.self.now (view_of c.args.pass.now) c.requires.stage c.turn.new.self (view_of c.turn.new.pass) told.step told.made told.keeps c.in-Again.lock c.in-Again.word told.turned told.loads
+
+pub returns-in-Done-Ok-clause-label : goal.returns-in-Done-Ok-clause-label
+returns-in-Done-Ok-clause-label c =
+    label-none More c.args.self.now c.begin_marks.new.self (view_of c.args.pass.now) (view_of c.begin_marks.new.pass) tt (ap (λ (o : PrepareOp). label_of o) c.begin_marks.ensures.begins.is)
+
+pub returns-in-Done-Err-clause-label : goal.returns-in-Done-Err-clause-label
+returns-in-Done-Err-clause-label c =
+    label-none More c.args.self.now c.begin_undoing.new.self (view_of c.args.pass.now) (view_of c.begin_undoing.new.pass) tt (ap stage_label c.begin_undoing.ensures.begins.stage)
+
+pub returns-in-More-clause-label : goal.returns-in-More-clause-label
+returns-in-More-clause-label c = label-none More c.args.self.now (record c.args.self.now { taking = c.turn.new.self }) (view_of c.args.pass.now) (view_of c.turn.new.pass) tt (ap stage_label c.requires.stage)
+
+pub returns-in-Again-clause-label : goal.returns-in-Again-clause-label
+returns-in-Again-clause-label c =
+    label-none (Again c.in-Again.lock c.in-Again.word) c.args.self.now (record c.args.self.now { taking = c.turn.new.self }) (view_of c.args.pass.now) (view_of c.turn.new.pass) tt (ap stage_label c.requires.stage)

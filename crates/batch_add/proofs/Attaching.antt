@@ -19,7 +19,7 @@ use Rattle.pass_table.specs.Work.{Tells}
 use Rattle.batch_add.specs.Parts.{stored_as}
 use Rattle.batch_add.specs.Shape.{tree_at}
 use Rattle.batch_add.proofs.Batches.{owns-batch_node, among-middle}
-use Rattle.std.proofs.Common.{◌≡◌, ℕ, ◌<◌, ◌++◌, ◌∷◌, List, [], Option, Some, None, IsSomeAnd, All, Contains, map, fold, get_or, refl, ap, sym, ◌∙◌, subst, arith}
+use Rattle.std.proofs.Common.{◌≡◌, ℕ, ◌<◌, ◌++◌, ◌∷◌, List, [], Option, Some, None, IsSomeAnd, Contains, map, fold, get_or, refl, ap, sym, ◌∙◌, subst, arith}
 use Rattle.std.proofs.lemmas.List.Elements.{Contains-get_or, filter_map-append}
 use Rattle.std.proofs.lemmas.List.Sums.{fold-append}
 use Rattle.fixed_box.specs.declared.fix_box.FixBox.{FixBox}
@@ -39,7 +39,7 @@ use Rattle.word_map.specs.declared.name.Name.TheVariants.{Slot, State}
 use Rattle.core_state.specs.declared.item.Item.{Item}
 use Rattle.core_state.specs.declared.view.Batch.{Batch}
 use Rattle.core_state.specs.declared.view.View.{View}
-use Rattle.core_state.specs.Log.{word, history, made_by}
+use Rattle.core_state.specs.Log.{history, made_by}
 use Rattle.core_state.specs.View.{IsPass, known_word}
 use Rattle.core_state.specs.Encoding.{slot_tree}
 use Rattle.core_state.specs.Guards.{scene_at}
@@ -54,7 +54,6 @@ use Rattle.pass_table.proofs.LockedBodies.{live-steady}
 use Rattle.pass_table.specs.Turning.{OneStep, MadeBy}
 use Rattle.pass_table.specs.Calls.{StoresWord}
 use Rattle.pass_table.proofs.Calling.{Adds-refl, adds-made, stepped-sizes, stepped-known, stores-word, stored-gained, stored-made, word-now, word-beside}
-use Rattle.tree_plan.specs.Plan.{Plan}
 use Rattle.batch_add.specs.declared.prepared.Prepared.{Prepared}
 use Rattle.batch_add.specs.Drawing.{node_at, IsDrawn}
 use Rattle.batch_add.specs.Prepared.{IsTheBatch, LeavesOthers, AllHeld, HaveBoxes, HasAttached}

@@ -1,6 +1,6 @@
 -- What a pass whose view is current knows of the nodes of its batches: their words are what it wrote, and each node is one
 -- batch's.
-use Rattle.std.proofs.Common.{◌≡◌, ◌≢◌, ℕ, ◌+◌, ◌-◌, ◌<◌, ◌≤◌, ◌++◌, Bool, true, cond, List, [], Option, Some, None, All, Contains, refl, ap, sym, ◌∙◌, subst, inl, inr, arith}
+use Rattle.std.proofs.Common.{◌≡◌, ◌≢◌, ℕ, ◌-◌, ◌<◌, ◌≤◌, ◌++◌, Bool, true, cond, List, Option, Some, None, All, Contains, refl, ap, sym, ◌∙◌, subst, inl, inr, arith}
 use mathlib.Core.Logic.{∥∥₁_elim}
 use Rattle.std.specs.Prelude.{flat_map, option_map, IfSome, IsSomeAnd}
 use Rattle.std.proofs.Props.{props}

@@ -14,7 +14,6 @@ use Rattle.fixed_box.specs.declared.fix_box.FixBox.{FixBox}
 use Rattle.body_ident.specs.Id.{Id}
 use Rattle.scene_model.specs.declared.entry.Entry.{Entry}
 use Rattle.scene_model.specs.declared.entry.Entry.TheVariants.{Mark}
-use Rattle.word_map.specs.declared.config.Config.{Config}
 use Rattle.word_map.specs.declared.name.Name.{Name}
 use Rattle.word_map.specs.declared.name.Name.TheVariants.{Phase, Layer, BoxWord}
 use Rattle.word_map.specs.Names.{stripe_of}
@@ -46,7 +45,7 @@ use Rattle.batch_add.specs.declared.mark_op.MarkStage.TheVariants.{Boxed, Leavin
 use Rattle.pass_table.specs.Work.{HasWorked}
 use Rattle.batch_add.specs.Parts.{marked_as}
 use Rattle.batch_add.specs.Marking.{Marks, current, AreFirst, IsBegunFor, marks_work, AtMark}
-use Rattle.batch_add.specs.MarkLater.{body-held, body-below}
+use Rattle.batch_add.specs.MarkLater.{body-held}
 use Rattle.pass_table.proofs.WorkLater.{worked-batches, worked-loose, worked-written}
 use Rattle.pass_table.proofs.Working.{worked-untold}
 

@@ -1,6 +1,6 @@
 -- A batch that is good stays so: what the pass wrote in its nodes is still written, and the batch is one of its still.
 use Rattle.std.specs.Prelude.{not, flat_map}
-use Rattle.std.proofs.Common.{◌≡◌, ℕ, ◌∷◌, ◌++◌, Bool, cond, List, [], Some, All, Contains, filter, refl, ap, sym, ◌∙◌, subst, append_assoc}
+use Rattle.std.proofs.Common.{◌≡◌, ℕ, ◌∷◌, ◌++◌, Bool, cond, List, [], Some, All, Contains, ap, sym, ◌∙◌, subst, append_assoc}
 use Rattle.std.proofs.lemmas.List.{append-nil}
 use Rattle.std.proofs.lemmas.List.Elements.{All-append, All-cons, All-contains, All-filter, All-nil, Contains-append_left, filter-append}
 use Rattle.std.proofs.lemmas.Grind.{flat_map-append}

@@ -1,20 +1,16 @@
 -- What others' steps between two turns leave of a tree that is being drawn: the nodes are the pass's own.
-use Rattle.std.proofs.Common.{◌≡◌, ℕ, ◌<◌, List, [], ◌∷◌, Contains, Some, refl, sym, ◌∙◌, subst, append_assoc, arith}
+use Rattle.std.proofs.Common.{◌≡◌, ℕ, ◌<◌, List, [], ◌∷◌, Contains, Some, sym, ◌∙◌, subst, append_assoc, arith}
 use Rattle.std.specs.Prelude.{flat_map}
 use Rattle.std.proofs.lemmas.List.Elements.{Contains-get_or, Contains-append_left, Contains-append_right}
 use Rattle.tree_plan.specs.Plan.{node_count}
 use Rattle.word_map.specs.declared.name.Name.{Name}
-use Rattle.word_map.specs.declared.name.Name.TheVariants.{Child as ChildWord, Bound as BoundWord, Parent as ParentWord}
 use Rattle.core_state.specs.declared.view.Batch.{Batch}
 use Rattle.core_state.specs.declared.view.View.{View}
-use Rattle.core_state.specs.View.{known_word}
 use Rattle.core_state.specs.Nodes.{node_in}
 use Rattle.core_state.specs.Guards.{Owns, by_node, private_nodes}
-use Rattle.core_state.specs.Quietly.{IsSteady, of_pass}
 use Rattle.core_state.specs.Batches.{batch_nodes_of}
 use Rattle.core_state.proofs.Beginning.{contains_first, contains_flat}
 use Rattle.pass_table.specs.Knowing.{KnowsMore}
-use Rattle.pass_table.proofs.Calling.{steady-more}
 use Rattle.batch_add.specs.declared.tree_drawing.TreeDrawing.{TreeDrawing}
 use Rattle.batch_add.specs.Drawing.{node_at}
 use Rattle.batch_add.specs.DrawStages.{Planned, Reached, HasDrawnUpTo, reached, IsDrawing}

@@ -1,4 +1,3 @@
-use Rattle.std.proofs.Common.{sym}
 use Rattle.pass_table.specs.Passes.{view_of}
 use Rattle.batch_add.proofs.Resting.{aborted-rest}
 use Rattle.batch_add.proofs.calls.abort.Goals as goal

@@ -1,7 +1,5 @@
-use Rattle.core_state.specs.declared.view.View.{View}
 use Rattle.pass_table.specs.Passes.{view_of}
 use Rattle.pass_table.proofs.Turning.{goes-on}
-use Rattle.batch_add.specs.declared.aborting.AbortOp.{AbortOp}
 use Rattle.batch_add.specs.Aborting.{IsAborting}
 use Rattle.batch_add.proofs.AbortBegun.{aborting-goes, aborting-answers}
 use Rattle.batch_add.proofs.aborting.AbortOpOperation.turn.Goals as goal

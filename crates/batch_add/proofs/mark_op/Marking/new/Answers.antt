@@ -1,4 +1,4 @@
-use Rattle.std.proofs.Common.{◌≡◌, ℕ, ◌<◌, All, ◌∙◌, refl, ap, sym, subst}
+use Rattle.std.proofs.Common.{ℕ, ◌<◌, All, ◌∙◌, refl, ap, sym, subst}
 use Rattle.std.proofs.lemmas.List.{get_or_read}
 use Rattle.body_ident.specs.Id.{Id}
 use Rattle.word_map.specs.declared.config.Config.{Config}

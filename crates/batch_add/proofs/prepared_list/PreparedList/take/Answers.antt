@@ -1,6 +1,5 @@
-use Rattle.std.proofs.Common.{List, suc, take, drop, map, ap, sym, ◌∙◌, ◌++◌}
+use Rattle.std.proofs.Common.{suc, take, drop, map, ap, sym, ◌∙◌, ◌++◌}
 use Rattle.std.proofs.lemmas.List.{map-append, take-map, drop-map}
-use Rattle.batch_add.specs.declared.prepared.Prepared.{Prepared}
 use Rattle.batch_add.specs.declared.prepared_list.KeptPrepared.{KeptPrepared}
 use Rattle.batch_add.proofs.prepared_list.PreparedList.take.Goals as goal
 

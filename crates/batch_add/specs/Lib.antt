@@ -16,3 +16,4 @@ pub mod PrepareLater
 pub mod Aborting
 pub mod AbortLater
 pub mod Unjoined
+pub mod PreparedLists

@@ -56,7 +56,7 @@ pub record IsGoodIn (prepared : Prepared) (has : Belongings) : Type 0 where
   pub bodies : List (ℕ × FixBox)
   pub is : IsTheBatch prepared has before batch after bodies
 
--- it is good for the pass with this view. No call but one for this batch changes that
+-- it is good for the pass with this view: that rests on what the pass has, and on nothing that others store
 abbrev pub IsGood : Prepared → View → Type 0
 IsGood prepared view = IsGoodIn prepared (belongings_of view)
 

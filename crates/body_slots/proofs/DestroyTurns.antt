@@ -1,13 +1,15 @@
--- What the turns of a destruction leave that load words of the body, and those that take locks.
-use Rattle.std.proofs.Common.{◌≡◌, ◌⊎◌, ℕ, ◌+◌, ◌<◌, [], Bool, true, false, Option, Some, None, Err, Result, eqb, cond, refl, ap, sym, ◌∙◌, subst, arith}
+-- What the turns of a destruction leave that look at the body, and those that take the lock of the list.
+use Rattle.std.proofs.Common.{◌≡◌, ◌⊎◌, ℕ, ◌+◌, ◌<◌, List, [], Bool, true, false, Option, Some, None, Err, Result, eqb, cond, refl, ap, sym, ◌∙◌, subst, arith}
 use Rattle.body_ident.specs.Id.{Id}
 use Rattle.scene_model.specs.declared.body_view.Phase.{Phase as BodyPhase}
 use Rattle.scene_model.specs.declared.body_view.Phase.TheVariants.{Held, In}
+use Rattle.scene_model.specs.declared.entry.Entry.{Entry}
 use Rattle.word_map.specs.declared.config.Config.{Config}
 use Rattle.word_map.specs.declared.name.Name.TheVariants.{State, Phase}
 use Rattle.word_map.specs.Names.{lock_count, index_lock, stripe_of}
 use Rattle.core_state.specs.declared.view.Mode.{Mode}
 use Rattle.core_state.specs.declared.view.Mode.TheVariants.{Write}
+use Rattle.core_state.specs.declared.view.Task.{Task}
 use Rattle.core_state.specs.declared.view.Task.TheVariants.{Nothing}
 use Rattle.core_state.specs.declared.view.View.{View}
 use Rattle.core_state.specs.View.{Holds, HoldsNot}
@@ -79,10 +81,10 @@ pub has-list : (id : Id) (start view : View) → IsAtRest start → IsCalling st
 has-list id start view rest calling = record { lock = both-list id start view Nothing [] rest calling; idle = calling.doing }
 
 -- for a body that is live and out
-pub has-out : (id : Id) (start view : View) → IsBegunFor id start → IsCalling start view (both_taken start.config id) Nothing [] → KnowsOut id view → IsLiveAndOut view id.index
-has-out id start view begun calling out = record {
+pub has-out : (id : Id) (start view : View) (task : Task) (entries : List Entry) → IsBegunFor id start → IsCalling start view (both_taken start.config id) task entries → KnowsOut id view → IsLiveAndOut view id.index
+has-out id start view task entries begun calling out = record {
   below = subst (λ (c : Config). id.index < c.bodies) (sym (worked-sizes start view _ calling)) begun.below;
-  stripe = both-stripe id start view Nothing [] begun.rest calling;
+  stripe = both-stripe id start view task entries begun.rest calling;
   live = let live = out.0 in omega arith;
   out = out.1;
 }

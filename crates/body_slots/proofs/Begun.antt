@@ -1,6 +1,11 @@
 -- A creation and a destruction that were begun.
-use Rattle.std.proofs.Common.{◌≡◌, ℕ, ◌<◌, ◌^◌, [], None, refl, sym, subst}
+use Rattle.std.proofs.Common.{◌≡◌, ℕ, ◌<◌, ◌^◌, [], None, refl, sym, subst, arith}
+use Rattle.std.proofs.Math.Nat.{mod-lt}
+use Rattle.body_ident.specs.Id.{Id}
 use Rattle.fixed_box.specs.declared.fix_box.FixBox.{FixBox}
+use Rattle.word_map.specs.declared.config.Config.{Config}
+use Rattle.word_map.specs.Limits.{IsConfig}
+use Rattle.word_map.proofs.Stripes.{stripes-range}
 use Rattle.word_map.specs.Names.{index_lock, stripe_of}
 use Rattle.core_state.specs.declared.view.Mode.TheVariants.{Write}
 use Rattle.core_state.specs.declared.view.Task.TheVariants.{Nothing}
@@ -11,11 +16,13 @@ use Rattle.pass_table.specs.Holding.{IsAtRest}
 use Rattle.pass_table.specs.TakeTurns.{taking_of, IsTaking}
 use Rattle.pass_table.proofs.Working.{worked-begun}
 use Rattle.pass_table.specs.Work.{IsCalling}
+use Rattle.body_look.specs.declared.look_op.LookDepth.TheVariants.{Phase as ItsPhase}
+use Rattle.body_look.specs.declared.look_op.LookOp.{LookOp}
+use Rattle.body_look.specs.Looking.{looking_of, IsLooking}
 use Rattle.body_slots.specs.declared.create_op.CreateOp.{CreateOp}
 use Rattle.body_slots.specs.declared.create_op.CreateStage.TheVariants.{Taking}
-use Rattle.body_ident.specs.Id.{Id}
 use Rattle.body_slots.specs.declared.destroy_op.DestroyOp.{DestroyOp}
-use Rattle.body_slots.specs.declared.destroy_op.DestroyStage.TheVariants.{TakingStripe}
+use Rattle.body_slots.specs.declared.destroy_op.DestroyStage.TheVariants.{Looking}
 use Rattle.body_slots.specs.Creating.{IsMaking}
 use Rattle.body_slots.specs.Destroying.{IsUnmaking}
 
@@ -33,17 +40,17 @@ module _ (layer : ℕ) (bounds : FixBox) (user : ℕ) (view next : View) (taking
     ),
   )
 
-module _ (id : Id) (view next : View) (taking : TakeOp) where
-  abbrev BegunFor : DestroyOp
-  BegunFor = record { id = id; stage = TakingStripe taking; made = None }
+-- each body has its stripe before the lock of the list
+stripe-first : (c : Config) (index : ℕ) → IsConfig c → stripe_of c index < index_lock c
+stripe-first c index limits = let range = stripes-range c.stripes limits.stripes in mod-lt index {m = c.stripes} (omega arith)
 
-  pub destroying-begun : (lock number : ℕ) → lock ≡ stripe_of view.config id.index → lock < index_lock view.config → IsPass view number → id.index < view.config.bodies → IsAtRest view → next ≡ view
-      → IsTaking (taking_of lock Write) view taking next → IsUnmaking BegunFor view BegunFor next
-  destroying-begun lock number same apart pass below rest still goes = (
+module _ (id : Id) (view next : View) (look : LookOp) where
+  abbrev BegunFor : DestroyOp
+  BegunFor = record { id = id; stage = Looking look; made = None }
+
+  pub destroying-begun : IsConfig view.config → id.index < view.config.bodies → IsAtRest view → look ≡ looking_of view.config id Write ItsPhase → IsLooking look view look next → IsUnmaking BegunFor view BegunFor next
+  destroying-begun limits below rest is looking = (
     refl,
-    record { below = below; striped = subst (λ (l : ℕ). l < index_lock view.config) same apart; rest = rest },
-    (
-      subst (λ (v : View). IsCalling view v [] Nothing []) (sym still) (worked-begun view number pass rest),
-      subst (λ (v : View). IsTaking (taking_of (stripe_of view.config id.index) Write) v taking next) (sym still) (subst (λ (l : ℕ). IsTaking (taking_of l Write) view taking next) same goes),
-    ),
+    record { below = below; striped = stripe-first view.config id.index limits; rest = rest },
+    subst (λ (first : LookOp). IsLooking first view look next) is looking,
   )

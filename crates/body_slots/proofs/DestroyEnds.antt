@@ -1,5 +1,5 @@
 -- What the turns of a destruction leave that change the list, destroy the body and let locks go.
-use Rattle.std.proofs.Common.{◌≡◌, ◌≢◌, ℕ, suc, ◌-◌, ◌<◌, ◌≤◌, List, [], ◌∷◌, ◌++◌, Bool, true, false, Option, Some, None, Ok, Result, eqb, cond, append_assoc, inl, refl, ap, sym, ◌∙◌, subst, arith}
+use Rattle.std.proofs.Common.{◌≡◌, ◌≢◌, ℕ, suc, ◌-◌, ◌<◌, List, [], ◌∷◌, ◌++◌, Bool, true, false, Option, Some, None, Ok, Result, eqb, cond, append_assoc, inl, refl, ap, sym, ◌∙◌, subst, arith}
 use Rattle.std.proofs.lemmas.Bool.{ne_eqb}
 use Rattle.body_ident.specs.Id.{Id}
 use Rattle.scene_model.specs.declared.body_view.Phase.TheVariants.{Out}
@@ -24,7 +24,7 @@ use Rattle.core_state.specs.Kind.{Step, item_of}
 use Rattle.core_state.specs.Guards.{scene_at}
 use Rattle.core_state.specs.Scope.{sight, scene_in}
 use Rattle.core_state.specs.BodiesAgree.{body_scope}
-use Rattle.core_state.specs.Lists.{IsLiveAndOut, HasList, MayStoreLink, store_link, MayStoreHead, store_head}
+use Rattle.core_state.specs.Lists.{MayStoreLink, store_link, MayStoreHead, store_head}
 use Rattle.core_state.specs.Lives.{MayDestroy, destroy}
 use Rattle.core_state.specs.Locking.{MayRelease, release}
 use Rattle.core_guard.proofs.LivesAgree.{destroy_out}
@@ -52,22 +52,11 @@ use Rattle.body_slots.specs.declared.destroy_op.DestroyOp.{DestroyOp}
 use Rattle.body_slots.specs.Destroying.{HasDestroyed, both_taken, KnowsOut, HasStripeAlone, AtDestroy, IsBegunFor, IsUnmaking, HasUnmade, stage_left, IsDestroyTurn}
 use Rattle.body_slots.specs.DestroyLater.{first-taken, both-stripe, both-list, out-more, destroyed-later, answer-later}
 use Rattle.body_slots.proofs.CreateTurns.{doing-left}
+use Rattle.body_slots.proofs.DestroyTurns.{has-list, has-out}
 
 -- ---- with both locks held
 
 module _ (id : Id) (start view : View) (task : Task) (entries : List Entry) (begun : IsBegunFor id start) (calling : IsCalling start view (both_taken start.config id) task entries) where
-  -- the body may be put on the list
-  pub out-body : KnowsOut id view → IsLiveAndOut view id.index
-  out-body out = record {
-    below = subst (λ (c : Config). id.index < c.bodies) (sym (worked-sizes start view _ calling)) begun.below;
-    stripe = both-stripe id start view task entries begun.rest calling;
-    live = subst (λ (n : ℕ). 256 ≤ n) (sym out.0) (omega arith);
-    out = out.1;
-  }
-
-  pub both-has_list : task ≡ Nothing → HasList view
-  both-has_list idle = record { lock = both-list id start view task entries begun.rest calling; idle = calling.doing ∙ idle }
-
   -- a store of another word leaves what is known of the body
   pub out-beside : (next : View) (name : Name) (value : ℕ) → StoresWord view next name value → next.config ≡ view.config → name ≢ State id.index → name ≢ Phase id.index → KnowsOut id view → KnowsOut id next
   out-beside next name value stores sizes no_state no_phase out =
@@ -96,7 +85,7 @@ link-stored id start view next head begun linked at = (
       (linked.rest ∙ (λ i. record view { known = next.known; joined = sym (ap (λ (v : View). v.joined) linked.rest) i; call = sym (ap (λ (v : View). v.call) linked.rest) i }))
       (ap (λ (v : View). v.call.task) linked.rest ∙ at.0.doing),
   out-beside id start view Nothing [] begun at.0 next (SlotNext id.index) head linked.stores (ap (λ (v : View). v.config) linked.rest) (λ same. absurd cc) (λ same. absurd cc) at.1,
-  is-linked view next id.index head (both-has_list id start view Nothing [] begun at.0 refl) (sym at.2) linked,
+  is-linked view next id.index head (has-list id start view begun.rest at.0) (sym at.2) linked,
 )
 
 module _ (view next : View) (index : ℕ) (put : PutInFront view next index) where
@@ -123,7 +112,7 @@ module _ (id : Id) (start view : View) (value : ℕ) (begun : IsBegunFor id star
     names = refl;
     lock = both-list id start view (Destroying id.index) [] begun.rest at.0;
     task = at.0.doing;
-    body = out-body id start view (Destroying id.index) [] begun at.0 at.1;
+    body = has-out id start view (Destroying id.index) [] begun at.0 at.1;
     state = state_less (known_word view (State id.index)) at.1.0;
   }
     where

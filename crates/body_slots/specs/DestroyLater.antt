@@ -4,7 +4,7 @@ use Rattle.std.proofs.lemmas.Bool.{eq-eqb}
 use Rattle.body_ident.specs.Id.{Id}
 use Rattle.scene_model.specs.declared.entry.Entry.{Entry}
 use Rattle.word_map.specs.declared.config.Config.{Config}
-use Rattle.word_map.specs.declared.name.Name.TheVariants.{SlotHead, SlotNext, Phase, Layer}
+use Rattle.word_map.specs.declared.name.Name.TheVariants.{SlotHead, SlotNext, Phase}
 use Rattle.word_map.specs.Names.{index_lock, stripe_of}
 use Rattle.core_state.specs.declared.view.Mode.{Mode}
 use Rattle.core_state.specs.declared.view.Mode.TheVariants.{Write}
@@ -20,13 +20,14 @@ use Rattle.pass_table.specs.TakeTurns.{taking-later}
 use Rattle.pass_table.specs.Calls.{Adds}
 use Rattle.pass_table.proofs.Calling.{adds-more, point-later, steady-more}
 use Rattle.pass_table.proofs.TakingTurns.{taking-anew}
-use Rattle.pass_table.proofs.LockedBodies.{live-steady, phase-steady, live-more}
+use Rattle.pass_table.proofs.LockedBodies.{phase-steady, live-more}
 use Rattle.pass_table.proofs.WorkLater.{worked-role, worked-sizes, worked-mode, worked-more}
 use Rattle.pass_table.specs.Work.{IsCalling}
+use Rattle.body_look.specs.LookLater.{looking-later}
 use Rattle.body_slots.specs.declared.answers.DestroyRefused.{DestroyRefused}
 use Rattle.body_slots.specs.declared.answers.DestroyRefused.TheVariants.{Gone, InUse}
 use Rattle.body_slots.specs.declared.destroy_op.DestroyStage.{DestroyStage}
-use Rattle.body_slots.specs.declared.destroy_op.DestroyStage.TheVariants.{TakingStripe, Held, Live, Joining, Placed, TakingList, Locked, Headed, Linked, InFront, Destroyed, Leaving}
+use Rattle.body_slots.specs.declared.destroy_op.DestroyStage.TheVariants.{Looking, TakingList, Locked, Headed, Linked, InFront, Destroyed, Leaving}
 use Rattle.body_slots.specs.declared.destroy_op.DestroyOp.{DestroyOp}
 use Rattle.body_slots.specs.Later.{makes-later, listed-steady}
 use Rattle.body_slots.specs.Destroying.{HasDestroyed, IsDestroyAnswer, stripe_taken, both_taken, KnowsOut, AtDestroy, IsUnmaking}
@@ -85,25 +86,7 @@ answer-later id start view next (Err (InUse phase)) later adds was = record { ad
 
 module _ (id : Id) (start view next : View) (rest : IsAtRest start) (more : KnowsMore view next) where
   stage-later : (stage : DestroyStage) → AtDestroy id start view stage → AtDestroy id start next stage
-  stage-later (TakingStripe taking) h = (worked-more start view next _ h.0 more, taking-anew _ view taking next (taking-later _ view taking view next more h.1))
-  stage-later Held h = worked-more start view next _ h more
-  stage-later Live h = (worked-more start view next _ h.0 more, live-more id Write view next more (stripe-held id start view _ _ rest h.0) h.1)
-  stage-later (Joining slot) h =
-      let holds = stripe-held id start view _ _ rest h.0 in (
-        worked-more start view next _ h.0 more,
-        live-more id Write view next more holds h.1,
-        steady-more view next (Phase id.index) more (phase-steady id.index Write view holds) ∙ h.2,
-        h.3,
-      )
-  stage-later (Placed slot layer) h =
-      let holds = stripe-held id start view _ _ rest h.0 in (
-        worked-more start view next _ h.0 more,
-        live-more id Write view next more holds h.1,
-        steady-more view next (Phase id.index) more (phase-steady id.index Write view holds) ∙ h.2,
-        h.3,
-        steady-more view next (Layer id.index) more (live-steady id Write view (Layer id.index) holds h.1 refl) ∙ h.4,
-        h.5,
-      )
+  stage-later (Looking look) h = looking-later _ start look view next more h
   stage-later (TakingList taking) h = (
     worked-more start view next _ h.0 more,
     out-more id view next more (stripe-held id start view _ _ rest h.0) h.1,

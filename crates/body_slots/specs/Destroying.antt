@@ -7,7 +7,7 @@ use Rattle.scene_model.specs.declared.entry.Entry.{Entry}
 use Rattle.scene_model.specs.declared.entry.Entry.TheVariants.{Destroy}
 use Rattle.scene_model.specs.Cause.{HasIdBody, IsCauseAt, in_use}
 use Rattle.word_map.specs.declared.config.Config.{Config}
-use Rattle.word_map.specs.declared.name.Name.TheVariants.{SlotHead, SlotNext, Phase, Layer}
+use Rattle.word_map.specs.declared.name.Name.TheVariants.{SlotHead, SlotNext, Phase}
 use Rattle.word_map.specs.Names.{index_lock, stripe_of}
 use Rattle.core_state.specs.declared.item.Item.{Item}
 use Rattle.core_state.specs.declared.view.Mode.TheVariants.{Write}
@@ -17,7 +17,7 @@ use Rattle.core_state.specs.declared.view.Task.TheVariants.{Nothing, Destroying}
 use Rattle.core_state.specs.declared.view.View.{View}
 use Rattle.core_state.specs.View.{known_word, mode_of}
 use Rattle.core_state.specs.Guards.{scene_at}
-use Rattle.core_state.specs.Encoding.{phase_out, phase_join}
+use Rattle.core_state.specs.Encoding.{phase_out}
 use Rattle.pass_table.specs.declared.take_op.TakeOp.{TakeOp}
 use Rattle.pass_table.specs.declared.turn.Turn.{Turn}
 use Rattle.pass_table.specs.TakeTurns.{taking_of, IsTaking, turns_left}
@@ -25,10 +25,12 @@ use Rattle.pass_table.specs.Holding.{IsAtRest}
 use Rattle.pass_table.specs.Calls.{Adds, AtPoint, MakesAt, IsTurn}
 use Rattle.pass_table.specs.Bodies.{KnowsLive, IsGoneAt}
 use Rattle.pass_table.specs.Work.{IsCalling}
+use Rattle.body_look.specs.declared.look_op.LookDepth.TheVariants.{Phase as ItsPhase}
+use Rattle.body_look.specs.Looking.{looking_of, IsLooking, look_left, look_takes}
 use Rattle.body_slots.specs.declared.answers.DestroyRefused.{DestroyRefused}
 use Rattle.body_slots.specs.declared.answers.DestroyRefused.TheVariants.{Gone, InUse}
 use Rattle.body_slots.specs.declared.destroy_op.DestroyStage.{DestroyStage}
-use Rattle.body_slots.specs.declared.destroy_op.DestroyStage.TheVariants.{TakingStripe, Held, Live, Joining, Placed, TakingList, Locked, Headed, Linked, InFront, Destroyed, Leaving}
+use Rattle.body_slots.specs.declared.destroy_op.DestroyStage.TheVariants.{Looking, TakingList, Locked, Headed, Linked, InFront, Destroyed, Leaving}
 use Rattle.body_slots.specs.declared.destroy_op.DestroyOp.{DestroyOp}
 use Rattle.body_slots.specs.Answers.{HasEnded}
 
@@ -82,14 +84,7 @@ pub record HasStripeAlone (c : Config) (id : Id) (steps : List LockStep) : Type 
 
 -- what holds at a stage, of a destruction of this id's body that was begun at this view
 abbrev pub AtDestroy : Id → View → View → DestroyStage → Type 0
-AtDestroy id start view (TakingStripe taking) = IsCalling start view [] Nothing [] × IsTaking (taking_of (stripe_of start.config id.index) Write) view taking view
-AtDestroy id start view Held = IsCalling start view (stripe_taken start.config id) Nothing []
-AtDestroy id start view Live = IsCalling start view (stripe_taken start.config id) Nothing [] × KnowsLive id view
-AtDestroy id start view (Joining slot) =
-    IsCalling start view (stripe_taken start.config id) Nothing [] × KnowsLive id view × (known_word view (Phase id.index) ≡ phase_join slot) × (slot < start.config.slots)
-AtDestroy id start view (Placed slot layer) =
-    IsCalling start view (stripe_taken start.config id) Nothing [] × KnowsLive id view × (known_word view (Phase id.index) ≡ phase_join slot) × (slot < start.config.slots)
-    × (known_word view (Layer id.index) ≡ layer) × (layer < start.config.layers)
+AtDestroy id start view (Looking look) = IsLooking (looking_of start.config id Write ItsPhase) start look view
 AtDestroy id start view (TakingList taking) =
     IsCalling start view (stripe_taken start.config id) Nothing [] × KnowsOut id view × IsTaking (taking_of (index_lock start.config) Write) view taking view
 AtDestroy id start view Locked = IsCalling start view (both_taken start.config id) Nothing [] × KnowsOut id view
@@ -117,11 +112,7 @@ HasUnmade first start next answer = HasEnded start next × IsDestroyAnswer first
 -- ---- turns
 
 abbrev pub stage_left : DestroyStage → ℕ
-stage_left (TakingStripe taking) = 12 + turns_left taking
-stage_left Held = 12
-stage_left Live = 11
-stage_left (Joining slot) = 3
-stage_left (Placed slot layer) = 2
+stage_left (Looking look) = 10 + look_left look
 stage_left (TakingList taking) = 7 + turns_left taking
 stage_left Locked = 7
 stage_left (Headed head) = 6
@@ -135,7 +126,7 @@ destroy_left operation = stage_left operation.stage
 
 -- the lock that it takes
 abbrev pub takes_at : DestroyStage → Option TakeOp
-takes_at (TakingStripe taking) = Some taking
+takes_at (Looking look) = look_takes look
 takes_at (TakingList taking) = Some taking
 takes_at _ = None
 

@@ -1,22 +1,15 @@
 //! What a destruction by turns keeps.
 use crate::answers::DestroyRefused;
 use body_ident::BodyId;
+use body_look::LookOp;
 use pass_table::TakeOp;
 use scene_model::Made;
 
 /// How far a destruction is.
 #[derive(Clone, Copy)]
 pub(crate) enum DestroyStage {
-    /// The stripe of the body is being taken.
-    TakingStripe { taking: TakeOp },
-    /// The stripe is held.
-    Held,
-    /// The body is live.
-    Live,
-    /// Its phase word names this slot.
-    Joining { slot: u32 },
-    /// It is that slot of this layer.
-    Placed { slot: u32, layer: u32 },
+    /// The body is being looked at, under its stripe.
+    Looking { look: LookOp },
     /// The body is out, and the lock of the list is being taken.
     TakingList { taking: TakeOp },
     /// Both locks are held.

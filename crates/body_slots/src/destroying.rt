@@ -4,17 +4,18 @@ ghost use Rattle.pass_table.specs.declared.turn.Turn.TheVariants.{More};
 ghost use Rattle.pass_table.specs.Passes.{view_of, IsOf, IsIdle};
 ghost use Rattle.pass_table.specs.Turning.{IsUnderWay};
 ghost use Rattle.body_slots.specs.declared.answers.DestroyRefused.TheVariants.{InUse};
-ghost use Rattle.body_slots.specs.declared.destroy_op.DestroyStage.TheVariants.{TakingStripe, Held, Live, Joining, Placed, TakingList, Locked, Headed, Linked, InFront, Destroyed, Leaving};
+ghost use Rattle.body_slots.specs.declared.destroy_op.DestroyStage.TheVariants.{Looking, TakingList, Locked, Headed, Linked, InFront, Destroyed, Leaving};
 ghost use Rattle.body_slots.specs.Destroying.{IsUnmaking, IsDestroyTurn};
 
 use crate::answers::DestroyRefused;
 use crate::destroy_op::{DestroyOp, DestroyStage};
 use body_ident::BodyId;
+use body_look::{BodyFound, LookDepth, LookOp};
 use core_state::Mode;
 use free_list::{load_head, put_in_front, store_link};
-use pass_table::{Label, Operation, Pass, TakeOp, Turn, World, release, step_14, step_15, step_17};
+use pass_table::{Label, Operation, Pass, TakeOp, Turn, World, release, step_14};
 use scene_model::{Entry, Made, Phase};
-use word_map::{Name, SlotWord, StateWord};
+use word_map::Name;
 
 impl Operation for DestroyOp {
     ghost use Rattle.body_slots.specs.Destroying.{IsUnmaking, HasUnmade, destroy_left, destroy_takes};
@@ -64,11 +65,10 @@ impl DestroyOp {
         ensures begun { result.id ≡ id }
         ensures under_way { IsUnmaking result (view_of pass.old) result (view_of pass.new) }
     {
-        let stripe = world.stripe_of(id.index());
-        let taking = TakeOp::new(world, pass, stripe, Mode::Write);
+        let look = LookOp::new(world, pass, id, Mode::Write, LookDepth::Phase);
         DestroyOp {
             id,
-            stage: DestroyStage::TakingStripe { taking },
+            stage: DestroyStage::Looking { look },
             made: None,
         }
     }
@@ -81,11 +81,7 @@ impl DestroyOp {
         ensures turn { IsDestroyTurn result self.old self.new (view_of pass.old) (view_of pass.new) }
     {
         match self.stage {
-            DestroyStage::TakingStripe { taking } => self.take_stripe(world, pass, taking),
-            DestroyStage::Held => self.load_state(world, pass),
-            DestroyStage::Live => self.load_phase(world, pass),
-            DestroyStage::Joining { slot } => self.load_layer(world, pass, slot),
-            DestroyStage::Placed { slot, layer } => self.load_slot(world, pass, slot, layer),
+            DestroyStage::Looking { look } => self.look(world, pass, look),
             DestroyStage::TakingList { taking } => self.take_list(world, pass, taking),
             DestroyStage::Locked => self.load_head(world, pass),
             DestroyStage::Headed { head } => self.store_link(world, pass, head),
@@ -116,111 +112,39 @@ impl DestroyOp {
         })
     }
 
-    /// A turn of taking the stripe.
-    fn take_stripe(
+    /// A turn of looking at the body. Where it is out, the lock of the list is taken next, and else the stripe let go.
+    fn look(
         &mut self,
         world: &World,
         pass: &mut Pass,
-        taking: TakeOp,
+        look: LookOp,
     ) -> Turn<Result<(), DestroyRefused>>
         requires of { IsOf world.now pass.old }
         requires under_way { IsUnderWay IsUnmaking self.old (view_of pass.old) }
-        requires stage { self.old.stage ≡ TakingStripe taking }
+        requires stage { self.old.stage ≡ Looking look }
         ensures of { IsOf world.now pass.new }
         ensures turn { IsDestroyTurn result self.old self.new (view_of pass.old) (view_of pass.new) }
     {
-        let mut taking = taking;
-        match taking.turn(world, pass) {
-            Turn::Done(()) => self.go_on(DestroyStage::Held),
-            Turn::More => self.go_on(DestroyStage::TakingStripe { taking }),
+        let mut look = look;
+        match look.turn(world, pass) {
+            Turn::Done(BodyFound::Gone { state }) => self.go_on(DestroyStage::Leaving {
+                answer: Err(DestroyRefused::Gone { state }),
+            }),
+            Turn::Done(BodyFound::Live) => unreachable!(),
+            Turn::Done(BodyFound::Out) => {
+                let lock = world.index_lock();
+                let taking = TakeOp::new(world, pass, lock, Mode::Write);
+                self.go_on(DestroyStage::TakingList { taking })
+            }
+            Turn::Done(BodyFound::In) => self.refuse(Phase::In),
+            Turn::Done(BodyFound::Held { .. }) => self.refuse(Phase::Held),
+            Turn::Done(BodyFound::Joined { .. }) => self.refuse(Phase::In),
+            Turn::More => self.go_on(DestroyStage::Looking { look }),
             Turn::Again { lock, word } => {
-                self.go_on(DestroyStage::TakingStripe { taking });
+                self.go_on(DestroyStage::Looking { look });
                 Turn::Again { lock, word }
             }
         }
-    }
-
-    /// The turn that loads the state word: it tells whether the id's body is live.
-    fn load_state(&mut self, world: &World, pass: &mut Pass) -> Turn<Result<(), DestroyRefused>>
-        requires of { IsOf world.now pass.old }
-        requires under_way { IsUnderWay IsUnmaking self.old (view_of pass.old) }
-        requires stage { self.old.stage ≡ Held }
-        ensures of { IsOf world.now pass.new }
-        ensures turn { IsDestroyTurn result self.old self.new (view_of pass.old) (view_of pass.new) }
-    {
-        let state = step_15(world, pass, Name::State(self.id.index()));
-        let live = StateWord::Live {
-            sequence: self.id.seq(),
-        };
-        if state == live.to_word() {
-            return self.go_on(DestroyStage::Live);
-        }
-        self.go_on(DestroyStage::Leaving {
-            answer: Err(DestroyRefused::Gone { state }),
-        })
-    }
-
-    /// The turn that loads the phase word.
-    fn load_phase(&mut self, world: &World, pass: &mut Pass) -> Turn<Result<(), DestroyRefused>>
-        requires of { IsOf world.now pass.old }
-        requires under_way { IsUnderWay IsUnmaking self.old (view_of pass.old) }
-        requires stage { self.old.stage ≡ Live }
-        ensures of { IsOf world.now pass.new }
-        ensures turn { IsDestroyTurn result self.old self.new (view_of pass.old) (view_of pass.new) }
-    {
-        let phase = step_15(world, pass, Name::Phase(self.id.index()));
-        if phase == 0 {
-            let lock = world.index_lock();
-            let taking = TakeOp::new(world, pass, lock, Mode::Write);
-            return self.go_on(DestroyStage::TakingList { taking });
-        }
-        if phase == 1 {
-            return self.refuse(Phase::In);
-        }
-        self.go_on(DestroyStage::Joining {
-            slot: (phase - 2) as u32,
-        })
-    }
-
-    /// The turn that loads the layer.
-    fn load_layer(
-        &mut self,
-        world: &World,
-        pass: &mut Pass,
-        slot: u32,
-    ) -> Turn<Result<(), DestroyRefused>>
-        requires of { IsOf world.now pass.old }
-        requires under_way { IsUnderWay IsUnmaking self.old (view_of pass.old) }
-        requires stage { self.old.stage ≡ Joining slot }
-        ensures of { IsOf world.now pass.new }
-        ensures turn { IsDestroyTurn result self.old self.new (view_of pass.old) (view_of pass.new) }
-    {
-        let layer = step_15(world, pass, Name::Layer(self.id.index()));
-        self.go_on(DestroyStage::Placed {
-            slot,
-            layer: layer as u32,
-        })
-    }
-
-    /// The turn that loads the slot word: a slot that holds no tree yet is one for whose batch the body is held.
-    fn load_slot(
-        &mut self,
-        world: &World,
-        pass: &mut Pass,
-        slot: u32,
-        layer: u32,
-    ) -> Turn<Result<(), DestroyRefused>>
-        requires of { IsOf world.now pass.old }
-        requires under_way { IsUnderWay IsUnmaking self.old (view_of pass.old) }
-        requires stage { self.old.stage ≡ Placed slot layer }
-        ensures of { IsOf world.now pass.new }
-        ensures turn { IsDestroyTurn result self.old self.new (view_of pass.old) (view_of pass.new) }
-    {
-        let word = step_17(world, pass, Name::Slot(layer, slot));
-        if SlotWord::names_tree(word) {
-            return self.refuse(Phase::In);
-        }
-        self.refuse(Phase::Held)
     }
 
     /// A turn of taking the lock of the list.

@@ -4,8 +4,9 @@
 //! made turn by turn, each turn one atomic step, or in one go. While others act too, what a call answers is right at a
 //! point of it, and its one change of the scene is one step.
 //!
-//! It stands on the list of free indexes and on the typed steps. The calls above go through ids: they use that an id
-//! that was answered names the body that was created, and no other one until 256 more were created at its index.
+//! It stands on the look at a body, on the list of free indexes and on the typed steps. The calls above go through ids:
+//! they use that an id that was answered names the body that was created, and no other one until 256 more were created
+//! at its index.
 #![tactic(auto)]
 
 mod answers;

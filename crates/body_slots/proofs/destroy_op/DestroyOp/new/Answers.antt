@@ -1,15 +1,15 @@
 use Rattle.std.proofs.Common.{◌<◌, ◌∙◌, ap, sym, subst}
 use Rattle.word_map.specs.declared.config.Config.{Config}
-use Rattle.word_map.specs.Names.{stripe_of}
+use Rattle.word_map.specs.Limits.{IsConfig}
+use Rattle.core_state.specs.declared.view.Mode.TheVariants.{Write}
 use Rattle.pass_table.specs.Passes.{view_of}
+use Rattle.body_look.specs.declared.look_op.LookDepth.TheVariants.{Phase as ItsPhase}
+use Rattle.body_look.specs.Looking.{looking_of}
 use Rattle.body_slots.proofs.Begun.{destroying-begun}
 use Rattle.body_slots.proofs.destroy_op.DestroyOp.new.Goals as goal
 
 pub returns-clause-under_way : goal.returns-clause-under_way
 returns-clause-under_way c =
-    let id = c.args.id in
-    let sizes = c.requires.idle.of.sizes in
-    let shape = sym sizes in
-    destroying-begun id (view_of c.args.pass.now) (view_of c.new-taking.new.pass) c.new-taking.result c.stripe_of-stripe.result c.args.pass.now.number
-    (c.stripe_of-stripe.ensures.value ∙ (λ i. stripe_of (shape i) (c.index.ensures.value i))) (subst (λ (s : Config). c.stripe_of-stripe.result < s.stripes) shape c.stripe_of-stripe.ensures.in_range) c.args.pass.now.numbered
-    (subst (λ (s : Config). id.index < s.bodies) (sym sizes) c.requires.below) c.requires.idle.rest (ap view_of c.new-taking.ensures.pass) c.new-taking.ensures.under_way
+    let sizes = sym c.requires.idle.of.sizes in
+    destroying-begun c.args.id (view_of c.args.pass.now) (view_of c.new-look.new.pass) c.new-look.result (subst IsConfig sizes c.args.world.now.in_limits) (subst (λ (s : Config). c.args.id.index < s.bodies) sizes c.requires.below)
+    c.requires.idle.rest (c.new-look.ensures.begun ∙ ap (λ (s : Config). looking_of s c.args.id Write ItsPhase) sizes) c.new-look.ensures.under_way

@@ -36,7 +36,7 @@ store_link-requires-clause-body c =
     let id = way.first.id in
     let at = subst (AtDestroy id way.start view) c.requires.stage way.goes.2 in
     let same : c.index.result ≡ id.index = c.index.ensures.value ∙ ap (λ (i : Id). i.index) way.goes.0 in
-    subst (λ (n : ℕ). IsLiveAndOut view n) (sym same) (has-out id way.start view way.goes.1 at.0 at.1)
+    subst (λ (n : ℕ). IsLiveAndOut view n) (sym same) (has-out id way.start view _ _ way.goes.1 at.0 at.1)
 
 pub store_link-requires-clause-head : goal.store_link-requires-clause-head
 store_link-requires-clause-head c =

@@ -41,7 +41,7 @@ use Rattle.body_lock.specs.declared.lock_op.LockOp.{LockOp}
 use Rattle.body_lock.specs.declared.lock_op.LockStage.{LockStage}
 use Rattle.body_lock.specs.declared.lock_op.LockStage.TheVariants.{Taking, Held, Leaving}
 use Rattle.body_lock.specs.Locking.{turns_from, lock_left, HasStripe, TakesStripe, FoundGone, IsAtStage, IsLocking, IsLockingSo, HasLocked, HasReadLock, HasWriteLock, WasGone, ReadAnswers, WriteAnswers, IsLockTurn, lock_takes, takes_at}
-use Rattle.body_lock.proofs.Letting.{let-go-step, let-go-made, let-go-calling, calling-rests}
+use Rattle.body_lock.proofs.Letting.{let-go-step, let-go-made}
 
 -- ---- one lock
 

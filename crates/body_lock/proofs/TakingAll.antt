@@ -21,7 +21,7 @@ use Rattle.pass_table.specs.Trying.{Leaves, with_taken}
 use Rattle.pass_table.specs.Turning.{IsUnderWay, Turned, LostLock, IsHeldUp, AtMostOneStep, MadeBy, LoadsNow}
 use Rattle.pass_table.specs.declared.turn.Turn.TheVariants.{More, Again}
 use Rattle.pass_table.proofs.TakingTurns.{taking-anew, loads-none}
-use Rattle.pass_table.proofs.Calling.{some-left, calling-made, calling-on}
+use Rattle.pass_table.proofs.Calling.{some-left}
 use Rattle.pass_table.specs.Work.{IsCalling}
 use Rattle.pass_table.proofs.Between.{more-refl}
 use Rattle.pass_table.proofs.Working.{worked-taken, worked-waited}

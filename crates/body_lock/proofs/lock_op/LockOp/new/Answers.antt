@@ -1,4 +1,4 @@
-use Rattle.std.proofs.Common.{◌<◌, ◌%◌, ◌∙◌, ap, sym, subst}
+use Rattle.std.proofs.Common.{◌<◌, ◌∙◌, ap, sym, subst}
 use Rattle.word_map.specs.declared.config.Config.{Config}
 use Rattle.word_map.specs.Names.{stripe_of}
 use Rattle.pass_table.specs.Passes.{view_of}

@@ -170,7 +170,7 @@ module _ (operation : LockOp) (look : LookOp) (view next : View) (at : operation
 abbrev no_mode : Option Mode
 no_mode = None
 
--- it was
+-- the body that was gone is answered as gone, and the pass is at rest
 pub gone-leaves : (id : Id) (mode : Mode) (start view next : View) (state found : ℕ) → IsAtRest start → FoundGone id mode start state view → LetGo view (stripe_of start.config id.index) found next
     → WasGone id start next state
 gone-leaves id mode start view next state found rest gone go =
@@ -184,7 +184,7 @@ gone-leaves id mode start view next state found rest gone go =
     none true = refl
     none false = refl
 
--- it may be, and is
+-- the stripe may be let go, and this is the last turn
 module _ (operation : LockOp) (view : View) (c : Config) (sizes : view.config ≡ c) (state : ℕ) (stage : operation.stage ≡ Leaving state) where
   leaves-from : (first : LockOp) (start : View) → IsLocking first start operation view → FoundGone first.id first.mode start state view
   leaves-from first start locking = subst (λ (s : LockStage). IsAtStage first.id first.mode start s view) stage locking.stage

@@ -12,7 +12,7 @@ use Rattle.core_state.specs.Event.{releases, of_locks}
 use Rattle.body_ident.specs.Id.{Id}
 use Rattle.word_map.specs.declared.config.Config.{Config}
 use Rattle.word_map.specs.Names.{stripe_of}
-use Rattle.body_lock.specs.Guarding.{IsAlone}
+use Rattle.pass_table.specs.Bodies.{IsAlone}
 use Rattle.pass_table.specs.Holding.{LetGo}
 use Rattle.pass_table.specs.Turning.{AtMostOneStep, MadeBy}
 use Rattle.pass_table.specs.Calls.{Adds}

@@ -6,14 +6,9 @@ use Rattle.core_state.specs.declared.view.Mode.{Mode}
 use Rattle.core_state.specs.declared.view.Mode.TheVariants.{Read, Write}
 use Rattle.core_state.specs.declared.view.View.{View}
 use Rattle.core_state.specs.View.{HoldsNot}
-use Rattle.pass_table.specs.Bodies.{IsGuarding}
+use Rattle.pass_table.specs.Bodies.{IsAlone}
 use Rattle.body_lock.specs.declared.body_read.BodyRead.{BodyRead}
 use Rattle.body_lock.specs.declared.body_write.BodyWrite.{BodyWrite}
-
--- The pass with this number guards the body so, and holds no other lock
-pub record IsAlone (number : ℕ) (id : Id) (mode : Mode) (view : View) : Type 0 where
-  pub guarding : IsGuarding number id mode view
-  pub only : (lock : ℕ) → lock ≢ stripe_of view.config id.index → HoldsNot view lock
 
 -- the guards are good for this view
 abbrev pub IsReading : BodyRead → View → Type 0

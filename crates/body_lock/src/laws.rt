@@ -7,7 +7,7 @@ ghost use Rattle.scene_model.specs.Cause.{IsCauseAt, gone};
 ghost use Rattle.core_state.specs.declared.view.Mode.{Mode};
 ghost use Rattle.core_state.specs.declared.view.View.{View};
 ghost use Rattle.pass_table.specs.Knowing.{KnowsMore, Looked, MeetsWith};
-ghost use Rattle.body_lock.specs.Guarding.{IsAlone};
+ghost use Rattle.pass_table.specs.Bodies.{IsAlone};
 ghost use Rattle.pass_table.specs.Bodies.{IsGuarding, IsCurrent};
 ghost use Rattle.body_lock.specs.Staying.{BodyStays};
 ghost use Rattle.body_lock.specs.Settled.{NamesCreation};

@@ -14,7 +14,7 @@ use Rattle.core_state.specs.declared.view.Mode.{Mode}
 use Rattle.core_state.specs.declared.view.Task.TheVariants.{Nothing}
 use Rattle.core_state.specs.declared.view.View.{View}
 use Rattle.core_state.specs.Log.{word, history}
-use Rattle.core_state.specs.View.{IsPass, Holds, known_word}
+use Rattle.core_state.specs.View.{IsPass, Holds, HoldsNot, known_word}
 use Rattle.core_state.specs.Core.{Core, IsViewAt}
 use Rattle.core_state.specs.Bodies.{phase_by}
 use Rattle.core_state.specs.Guards.{scene_at}
@@ -69,6 +69,11 @@ pub record IsGuarding (number : ℕ) (id : Id) (mode : Mode) (view : View) : Typ
 -- so some pass in some mode
 abbrev pub IsGuarded : Id → View → Type 0
 IsGuarded id view = (number : ℕ) × (mode : Mode) × IsGuarding number id mode view
+
+-- the pass with this number guards the body so, and holds no other lock
+pub record IsAlone (number : ℕ) (id : Id) (mode : Mode) (view : View) : Type 0 where
+  pub guarding : IsGuarding number id mode view
+  pub only : (lock : ℕ) → lock ≢ stripe_of view.config id.index → HoldsNot view lock
 
 -- after all that the pass knows the body that the id names is live, and this holds of it
 abbrev pub HasKnownBody : Id → View → (Record → Type 0) → Type 0

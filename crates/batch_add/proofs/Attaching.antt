@@ -49,7 +49,7 @@ use Rattle.core_state.specs.Kind.{Step, item_of}
 use Rattle.core_state.specs.Batches.{without_batch, batch_for, joined_by, MayAttach, attach}
 use Rattle.pass_table.specs.Stepping.{step_by, Stored}
 use Rattle.pass_table.specs.Belongings.{belongings_of}
-use Rattle.pass_table.specs.Bodies.{IsCurrent, IsGuarding}
+use Rattle.pass_table.specs.Bodies.{IsCurrent, IsGuarding, IsAlone}
 use Rattle.pass_table.proofs.LockedBodies.{live-steady}
 use Rattle.pass_table.specs.Turning.{OneStep, MadeBy}
 use Rattle.pass_table.specs.Calls.{StoresWord}
@@ -235,6 +235,13 @@ module _ (prepared : Prepared) (view next : View) (number : ℕ) (pass : IsPass 
           word-beside view next slot_name value word_stored sizes (State id.index) (λ e. absurd cc) (live-steady id mode view (State id.index) guarding.stripe guarding.state refl)
           ∙ guarding.state;
       done = ap (λ (v : View). v.call.task) left_now ∙ guarding.done;
+    }
+
+    -- and it holds no other lock where it held none
+    pub alone_left : (other : ℕ) (id : Id) (mode : Mode) → IsAlone other id mode view → IsAlone other id mode next
+    alone_left other id mode alone = record {
+      guarding = guards_left other id mode alone.guarding;
+      only = λ lock apart. ap (λ (v : View). mode_of v.locks lock) left_now ∙ alone.only lock (λ same. apart (same ∙ ap (λ (c : Config). stripe_of c id.index) (sym sizes)));
     }
 
     -- ---- the boxes

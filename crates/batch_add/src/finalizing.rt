@@ -5,7 +5,7 @@ ghost use Rattle.core_state.specs.declared.view.Mode.{Mode};
 ghost use Rattle.core_state.specs.Encoding.{slot_tree};
 ghost use Rattle.word_map.specs.declared.name.Name.TheVariants.{Slot};
 ghost use Rattle.pass_table.specs.Passes.{view_of, IsOf, IsIdle};
-ghost use Rattle.pass_table.specs.Bodies.{IsGuarding};
+ghost use Rattle.pass_table.specs.Bodies.{IsGuarding, IsAlone};
 ghost use Rattle.pass_table.specs.Calls.{StoresWord};
 ghost use Rattle.pass_table.specs.Turning.{OneStep};
 ghost use Rattle.batch_add.specs.declared.prepared.Prepared.{Prepared};
@@ -30,6 +30,7 @@ pub fn finalize(world: &World, pass: &mut Pass, batch: Prepared)
     ensures stores { StoresWord (view_of pass.old) (view_of pass.new) (Slot batch.layer batch.slot) (slot_tree (node_at batch.nodes.items 0)) }
     ensures locks { (view_of pass.new).locks ≡ (view_of pass.old).locks }
     ensures guards { (number : ℕ) (id : Id) (mode : Mode) → IsGuarding number id mode (view_of pass.old) → IsGuarding number id mode (view_of pass.new) }
+    ensures alone { (number : ℕ) (id : Id) (mode : Mode) → IsAlone number id mode (view_of pass.old) → IsAlone number id mode (view_of pass.new) }
     ensures others { (other : Prepared) → IsGood other (view_of pass.old) → IsApart other batch → IsGood other (view_of pass.new) }
 {
     let Prepared {

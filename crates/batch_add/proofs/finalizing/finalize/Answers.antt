@@ -8,7 +8,7 @@ use Rattle.pass_table.specs.Belongings.{belongings_of}
 use Rattle.pass_table.specs.Passes.{view_of}
 use Rattle.batch_add.specs.Drawing.{node_at}
 use Rattle.batch_add.proofs.Drawn.{root-made}
-use Rattle.batch_add.proofs.Attaching.{may-attach, attached, guards_left}
+use Rattle.batch_add.proofs.Attaching.{may-attach, attached, guards_left, alone_left}
 use Rattle.batch_add.proofs.Resting.{attached-rest}
 use Rattle.batch_add.proofs.finalizing.finalize.Goals as goal
 
@@ -54,6 +54,12 @@ pub returns-clause-guards : goal.returns-clause-guards
 returns-clause-guards c =
     let good = c.requires.good in
     guards_left c.args.batch (view_of c.args.pass.now) (view_of c.step_24.new.pass) c.args.batch.number good.pass good.before good.batch good.after good.bodies good.is c.args.pass.now.current c.to_word.result
+    (c.to_word.ensures ∙ ap (λ (n : ℕ). 1024 + n) (c.first_node-root.ensures ∙ ap (λ (l : List ℕ). node_at l 0) c.as_slice.ensures.value)) c.step_24.ensures.step
+
+pub returns-clause-alone : goal.returns-clause-alone
+returns-clause-alone c =
+    let good = c.requires.good in
+    alone_left c.args.batch (view_of c.args.pass.now) (view_of c.step_24.new.pass) c.args.batch.number good.pass good.before good.batch good.after good.bodies good.is c.args.pass.now.current c.to_word.result
     (c.to_word.ensures ∙ ap (λ (n : ℕ). 1024 + n) (c.first_node-root.ensures ∙ ap (λ (l : List ℕ). node_at l 0) c.as_slice.ensures.value)) c.step_24.ensures.step
 
 pub returns-clause-others : goal.returns-clause-others

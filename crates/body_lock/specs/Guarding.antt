@@ -1,11 +1,6 @@
 -- What a pass has that holds the lock of a body.
-use Rattle.std.specs.Prelude.{◌≢◌, ℕ}
-use Rattle.body_ident.specs.Id.{Id}
-use Rattle.word_map.specs.Names.{stripe_of}
-use Rattle.core_state.specs.declared.view.Mode.{Mode}
 use Rattle.core_state.specs.declared.view.Mode.TheVariants.{Read, Write}
 use Rattle.core_state.specs.declared.view.View.{View}
-use Rattle.core_state.specs.View.{HoldsNot}
 use Rattle.pass_table.specs.Bodies.{IsAlone}
 use Rattle.body_lock.specs.declared.body_read.BodyRead.{BodyRead}
 use Rattle.body_lock.specs.declared.body_write.BodyWrite.{BodyWrite}

@@ -45,7 +45,10 @@ fn run<R: Threads + Wait + Sync>(rt: &R, alloc: Global) -> Option<Tally> {
 fn main(rt: HostRuntime) -> io::Result<ExitCode> {
     match run(&rt, rt.alloc()) {
         Some(tally) => {
-            println!(rt; "created {}, read {}, destroyed {}", tally.created, tally.read, tally.destroyed)?;
+            println!(rt;
+                "created {}, read {}, destroyed {}",
+                tally.created, tally.read, tally.destroyed
+            )?;
             println!(rt; "attached {}, given up {}", tally.attached, tally.given_up)?;
             Ok(ExitCode::SUCCESS)
         }

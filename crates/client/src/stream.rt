@@ -2,9 +2,10 @@
 ghost use Rattle.std.specs.Prelude.{◌≡◌, ◌<◌, ◌≤◌, All, IfSome, length};
 ghost use Rattle.pass_table.specs.Belongings.{belongings_of};
 ghost use Rattle.pass_table.specs.Passes.{view_of, IsIdle};
+ghost use Rattle.batch_add.specs.declared.prepared.Prepared.{Prepared};
 ghost use Rattle.batch_add.specs.Prepared.{IsGood, IsApart};
 
-use crate::lives::{live, point, user_of};
+use crate::lives::{live, point};
 use crate::tally::Tally;
 use batch_add::{Prepared, abort, finalize, prepare};
 use body_ident::BodyId;
@@ -28,7 +29,35 @@ fn body<R: Wait>(rt: &R, world: &World, pass: &mut Pass, layer: u32) -> Option<B
     create(rt, world, pass, layer, point()?, 7).ok()
 }
 
-/// Attaches the younger of two batches while a body of the older one is read, then lives, and gives the older one up.
+/// Attaches a batch while a body is locked to read, and looks at that body then. Answers how many were seen.
+fn attach_under_lock<R: Wait>(
+    rt: &R,
+    world: &World,
+    pass: &mut Pass,
+    id: BodyId,
+    batch: Prepared,
+) -> u32
+    requires idle { IsIdle world.now pass.old }
+    requires below { id.index < world.now.map.bodies }
+    requires good { IsGood batch (view_of pass.old) }
+    ensures idle { IsIdle world.now pass.new }
+    ensures others { (other : Prepared) → IsGood other (view_of pass.old) → IsApart other batch → IsGood other (view_of pass.new) }
+{
+    match lock_read(rt, world, pass, id) {
+        Ok(guard) => {
+            finalize(world, pass, batch);
+            let seen = guard.view(world, pass);
+            guard.unlock(world, pass);
+            u32::from(seen.user == 7)
+        }
+        Err(_) => {
+            finalize(world, pass, batch);
+            0
+        }
+    }
+}
+
+/// Attaches the younger of two batches while a body of the older one is locked, makes a life, and gives the older one up.
 fn end<R: Wait>(
     rt: &R,
     world: &World,
@@ -46,15 +75,7 @@ fn end<R: Wait>(
     requires apart { IsApart older younger }
     ensures idle { IsIdle world.now pass.new }
 {
-    let mut read = 0;
-    match lock_read(rt, world, pass, id) {
-        Ok(guard) => {
-            finalize(world, pass, younger);
-            read = u32::from(guard.view(world, pass).user == 7);
-            guard.unlock(world, pass);
-        }
-        Err(_) => finalize(world, pass, younger),
-    }
+    let read = attach_under_lock(rt, world, pass, id, younger);
     let lived = live(rt, world, pass, layer, 1).unwrap_or(Tally::NOTHING);
     abort(rt, world, pass, older);
     Tally {
@@ -90,7 +111,10 @@ fn stream_once<R: Wait>(
             return None;
         }
     };
-    let gone = [destroy(rt, world, pass, one).is_ok(), destroy(rt, world, pass, two).is_ok()];
+    let gone = [
+        destroy(rt, world, pass, one).is_ok(),
+        destroy(rt, world, pass, two).is_ok(),
+    ];
     let destroyed = u32::from(gone[0]) + u32::from(gone[1]);
     let made = Tally {
         created: 3,
@@ -101,13 +125,7 @@ fn stream_once<R: Wait>(
 }
 
 /// What one thread does: it streams in a layer of its own.
-pub(crate) fn stream<R: Wait>(
-    rt: &R,
-    alloc: Global,
-    world: &World,
-    pass: Pass,
-    layer: u32,
-) -> Tally
+pub(crate) fn stream<R: Wait>(rt: &R, alloc: Global, world: &World, pass: Pass, layer: u32) -> Tally
     requires idle { IsIdle world.now pass }
     requires in_layers { layer < world.now.map.layers }
 {

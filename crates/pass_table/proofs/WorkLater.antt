@@ -1,4 +1,4 @@
--- What others' steps leave of a call on batches: all that it did, and all that the pass has.
+-- What others' steps leave of a call: all that it did, and all that the pass has.
 use Rattle.std.proofs.Common.{◌≡◌, ℕ, List, [], ◌∷◌, ◌++◌, Bool, true, false, Option, Some, None, cond, eqb, inl, inr, fold, append_assoc, refl, ap, sym, ◌∙◌, subst}
 use Rattle.std.specs.List.{cons_option}
 use Rattle.std.proofs.lemmas.Bool.{cases_eq, ne_eqb}

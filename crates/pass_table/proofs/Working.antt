@@ -1,4 +1,4 @@
--- How a call on batches goes on, and how its parts follow each other.
+-- How a call goes on, and how its parts follow each other.
 use Rattle.std.specs.Prelude.{option_map, option_to_list}
 use Rattle.std.proofs.Common.{◌≡◌, ℕ, List, [], ◌∷◌, ◌++◌, Bool, true, false, Option, Some, None, cond, eqb, filter_map, append_assoc, refl, ap, sym, ◌∙◌, subst}
 use Rattle.std.specs.List.{cons_option}

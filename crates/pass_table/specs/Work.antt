@@ -1,4 +1,4 @@
--- What a call on batches has done since it was begun.
+-- What a call has done since it was begun.
 use Rattle.std.specs.Prelude.{◌≡◌, ℕ, ◌==◌, Bool, true, false, List, [], ◌∷◌, ◌++◌, filter_map, Option, Some, None}
 use mathlib.Core.Bool.{cond}
 use Rattle.scene_model.specs.declared.entry.Entry.{Entry}

@@ -1,8 +1,7 @@
 -- What the turns of a preparation owe to its label.
-use Rattle.std.proofs.Common.{◌≡◌, ℕ, List, ◌∷◌, ◌++◌, [], map, length, Option, Some, None, Ok, Result, ap, sym, ◌∙◌, subst}
+use Rattle.std.proofs.Common.{◌≡◌, ℕ, List, ◌∷◌, ◌++◌, [], map, Option, Some, None, Ok, Result, ap, sym, ◌∙◌, subst}
 use Rattle.body_ident.specs.Id.{Id}
 use Rattle.fixed_box.specs.declared.fix_box.FixBox.{FixBox}
-use Rattle.scene_model.specs.declared.entry.Entry.{Entry}
 use Rattle.scene_model.specs.declared.entry.Entry.TheVariants.{Mark}
 use Rattle.word_map.specs.declared.name.Name.TheVariants.{Slot, PoolFree}
 use Rattle.core_state.specs.declared.view.View.{View}
@@ -17,11 +16,11 @@ use Rattle.batch_add.specs.declared.answers.PrepareRefused.{PrepareRefused}
 use Rattle.batch_add.specs.declared.prepared.Prepared.{Prepared}
 use Rattle.batch_add.specs.declared.mark_op.Marking.{Marking}
 use Rattle.batch_add.specs.declared.prepare_op.PrepareStage.{PrepareStage}
-use Rattle.batch_add.specs.declared.prepare_op.PrepareStage.TheVariants.{Marking as MarkingStage, Drawing}
+use Rattle.batch_add.specs.declared.prepare_op.PrepareStage.TheVariants.{Marking as MarkingStage}
 use Rattle.batch_add.specs.declared.prepare_op.PrepareOp.{PrepareOp}
 use Rattle.batch_add.specs.Marking.{IsMarking, HasMadeMarks}
 use Rattle.batch_add.specs.Parts.{stored_as, HasMarked, reserved_outcome, nodes_outcome, marks_outcome}
-use Rattle.batch_add.specs.Preparing.{ids_of, HasSlotAndNodes, with_slot_nodes, with_marks, IsPreparing, BeginsTree, stage_label, label_of, marked_outcome, HasAllMarked, label_says, KeepsLabel}
+use Rattle.batch_add.specs.Preparing.{ids_of, HasSlotAndNodes, with_slot_nodes, with_marks, BeginsTree, stage_label, label_of, marked_outcome, HasAllMarked, label_says, KeepsLabel}
 use Rattle.batch_add.proofs.PrepareMarks.{map_twice, all_marked}
 
 -- a turn after which the label is not reached

@@ -1,5 +1,5 @@
 //! The four threads.
-ghost use Rattle.std.specs.Prelude.{◌≡◌, ◌<◌};
+ghost use Rattle.std.specs.Prelude.{◌<◌, ◌≤◌};
 ghost use Rattle.pass_table.specs.Passes.{IsIdle};
 
 use crate::lives::lives;
@@ -22,6 +22,7 @@ fn pair<R: Threads + Wait + Sync>(
     requires living { IsIdle world.now living }
     requires streaming { IsIdle world.now streaming }
     requires in_layers { layer < world.now.map.layers }
+    requires room { 2 ≤ world.now.map.bodies }
 {
     let (one, other) = join(
         rt,
@@ -45,12 +46,23 @@ pub(crate) fn share<R: Threads + Wait + Sync>(
     requires second { IsIdle world.now second }
     requires third { IsIdle world.now third }
     requires fourth { IsIdle world.now fourth }
-    requires layers { world.now.map.layers ≡ 2 }
+    requires layers { 1 < world.now.map.layers }
+    requires room { 2 ≤ world.now.map.bodies }
 {
     let (one, other) = join(
         rt,
-        || pair(rt, alloc, world, first, second, 0),
-        || pair(rt, alloc, world, third, fourth, 1),
+        ||
+            requires living { IsIdle world.now first }
+            requires streaming { IsIdle world.now second }
+            requires layers { 1 < world.now.map.layers }
+            requires room { 2 ≤ world.now.map.bodies }
+        { pair(rt, alloc, world, first, second, 0) },
+        ||
+            requires living { IsIdle world.now third }
+            requires streaming { IsIdle world.now fourth }
+            requires layers { 1 < world.now.map.layers }
+            requires room { 2 ≤ world.now.map.bodies }
+        { pair(rt, alloc, world, third, fourth, 1) },
     );
     one.and(other)
 }

@@ -1,4 +1,5 @@
-use Rattle.std.proofs.Common.{ℕ, zero, suc, ◌≤◌, Option, Some, None, cond, eqb, inr, arith}
+use Rattle.std.proofs.Common.{ℕ, ◌≤◌, Bool, Some, None, cond, eqb, inr, sym, subst, arith}
+use Rattle.std.proofs.lemmas.Bool.{ne_eqb}
 use Rattle.pass_table.specs.Passes.{view_of}
 use Rattle.core_state.specs.Log.{IsPrefix}
 use Rattle.core_state.proofs.Prefixes.{IsPrefix-trans}
@@ -15,8 +16,7 @@ returns-clause-step c = looked-step (view_of c.args.pass.now) (view_of c.look.ne
 
 -- with two looks the second label is reached
 reached_two : (looks : ℕ) → 2 ≤ looks → HasReached (cond (eqb looks 0) None (Some looks)) 2
-reached_two zero two = absurd (omega arith)
-reached_two (suc looks) two = two
+reached_two looks two = subst (λ (t : Bool). HasReached (cond t None (Some looks)) 2) (sym (ne_eqb looks 0 (λ same. omega arith))) two
 
 pub returns-then-self-ge2-clause-ends : goal.returns-then-self-ge2-clause-ends
 returns-then-self-ge2-clause-ends c = inr (reached_two c.args.self.now.looks c.if-self-ge2.true)

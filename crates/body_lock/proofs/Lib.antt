@@ -1,4 +1,5 @@
 pub mod Standing
+pub mod Boxes
 pub mod Seeing
 pub mod Letting
 pub mod Locking

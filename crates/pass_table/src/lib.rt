@@ -14,6 +14,7 @@ mod calls;
 mod driving;
 mod kinds;
 mod kinds_batches;
+mod kinds_walks;
 mod label;
 pub mod laws;
 mod lock_set;
@@ -36,6 +37,7 @@ mod typed;
 mod typed_batches;
 mod typed_bodies;
 mod typed_lists;
+mod typed_walks;
 mod world;
 
 pub use driving::drive;
@@ -55,6 +57,7 @@ pub use typed_batches::{
 };
 pub use typed_bodies::{step_12, step_13, step_14, step_15, step_16};
 pub use typed_lists::{step_9, step_10, step_11};
+pub use typed_walks::{step_28, step_29, step_30, step_31, step_32, step_33};
 pub use world::World;
 
 /// A world may be shared between threads.

@@ -7,7 +7,7 @@ ghost use Rattle.core_state.specs.declared.view.Mode.{Mode};
 ghost use Rattle.core_state.specs.declared.view.Mode.TheVariants.{Read};
 ghost use Rattle.pass_table.specs.Holding.{MayLetGo, LetGo};
 ghost use Rattle.word_map.specs.Names.{IsName};
-ghost use Rattle.core_state.specs.Operation.{load, store, exchange, compare_exchange, fetch_min, fetch_max};
+ghost use Rattle.core_state.specs.Operation.{load, store, exchange, compare_exchange, fetch_add, fetch_min, fetch_max};
 ghost use Rattle.pass_table.specs.Stepping.{Stepped, Stored};
 ghost use Rattle.pass_table.specs.Passes.{view_of, IsOf};
 
@@ -24,6 +24,17 @@ pub(crate) trait StillKind: Kind {
     ghost use Rattle.pass_table.specs.Holding.{IsStill};
 
     ghost still: { IsStill Self.kind };
+}
+
+/// A kind of step that leaves the locks of the pass as they are, and with which the pass begins or ends to walk.
+pub(crate) trait TurningKind: Kind {
+    ghost use Rattle.std.specs.Prelude.{Bool};
+    ghost use Rattle.pass_table.specs.Holding.{TurnsWalk};
+
+    /// Whether the pass walks afterwards.
+    ghost walks: { Bool };
+
+    ghost turns: { TurnsWalk Self.kind walks };
 }
 
 impl Pass {
@@ -126,6 +137,28 @@ impl Pass {
     {
         let place = world.map.place(name);
         step::fetch_max::<K>(&world.table.shared, &mut self.seat, place, value)
+    }
+
+    /// A fetch-add of 1 to a reader word, with which the pass begins or ends to walk. It answers the word found.
+    #[inline(always)]
+    pub(crate) fn count_reader<K: TurningKind>(
+        &mut self,
+        world: &World,
+        name: Name,
+        walks: bool,
+    ) -> u64
+        requires of { IsOf world.now self.old }
+        requires named { IsName world.now.map name }
+        requires adds { K.kind.operation ≡ fetch_add }
+        requires walks { walks ≡ K.walks }
+        requires asks { K.asks (view_of self.old) name 1 0 }
+        ensures of { IsOf world.now self.new }
+        ensures step { Stepped K.asks K.kind (view_of self.old) name 1 0 result (view_of self.new) }
+    {
+        let place = world.map.place(name);
+        let found = step::fetch_add::<K>(&world.table.shared, &mut self.seat, place, 1);
+        self.walks = walks;
+        found
     }
 
     /// A compare and exchange of a lock's word, which takes the lock where it finds the word expected.

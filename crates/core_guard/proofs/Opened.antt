@@ -298,7 +298,7 @@ module _ (s : Sight) (p : ℕ) where
       leads = each-more _ _ h.leads
           (λ number v leads on query follows.
           let t = leads on query follows in
-          record { ahead = t.ahead; widens = t.widens; order = t.order })
+          record { ahead = t.ahead; widens = t.widens; order = t.order; once = t.once; bodies = t.bodies })
           (λ number on. absurd (false≢true on));
       begun = each-more _ _ h.begun (λ number v x. x) (λ number. omega arith);
     }

@@ -211,6 +211,8 @@ module _ (kind : Kind) (core : Core) (step : Step) (a : Acts core step) (later :
             (h.ahead index generation (due-back Old new (Touch query.shape) query.mask index generation walk m.more due));
         widens = widens-forth at.spot refl h.widens;
         order = h.order;
+        once = h.once;
+        bodies = h.bodies;
       }
 
       pub walk-left : (query : Query) → WalkLeads Old walk query at → WalkLeads Now walk query at

@@ -14,11 +14,11 @@ use Rattle.word_map.specs.declared.name.Name.TheVariants.{Child, Bound, Main, Sl
 use Rattle.core_state.specs.declared.item.Load.{Load}
 use Rattle.core_state.specs.Encoding.{Sides, layer_of}
 use Rattle.core_state.specs.Nodes.{node_in}
+use Rattle.core_state.specs.WalkRecord.{WalksOnce}
 use Rattle.core_state.specs.Walking.{Query, words_of_layer, asked_words}
 use Rattle.core_state.proofs.Beginning.{cases_cons}
 use Rattle.core_state.proofs.Opening.{none_in, only}
 use Rattle.core_query.specs.WholeRecord.{ReadChild, side_load, child_loads, node_loads, nodes_to_walk, nodes_named, IsWholeRecord, nothing_left, of_word, of_node}
-use Rattle.core_query.specs.Found.{WalksOnce}
 use Rattle.core_query.specs.Clear.{asked_layers}
 use Rattle.core_query.proofs.Asked.{behind, map-back, flat-back, range-below, filter-back, layer-word}
 use Rattle.core_query.proofs.Finding.{child_load, loads-none, loads-some, node-back, of-same, AreOfLayers, fewer, first-read, each-load, tail-once, node_rest, not-again}

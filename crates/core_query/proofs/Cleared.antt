@@ -17,7 +17,7 @@ use Rattle.core_state.specs.ReadersCounted.{reader_scope, layer_after, layer_at_
 use Rattle.core_state.specs.Invariants.{Invariants}
 use Rattle.core_query.specs.Ends.{IsWalking, walked_to, IsAtEnd}
 use Rattle.core_query.specs.WholeRecord.{ReadChild, six_words, node_loads, nodes_named, IsWholeRecord, nothing_left, of_word, of_node}
-use Rattle.core_query.specs.Found.{IsFound, WalksOnce}
+use Rattle.core_query.specs.Found.{IsFound}
 use Rattle.core_query.specs.Clear.{IsClear, IsClearOf, asked_layers, loads_in}
 use Rattle.core_query.proofs.Asked.{behind, asked-word, asked-count}
 use Rattle.core_query.proofs.Recording.{whole-record}
@@ -25,7 +25,7 @@ use Rattle.core_query.proofs.Pruned.{word-layer, same-layer, LiesFrom, lies-late
 use Rattle.core_query.proofs.Finding.{each-load, asked-layers}
 use Rattle.core_query.proofs.Walked.{candidate-found}
 use Rattle.core_query.proofs.Layers.{few-of_layer, none-touched}
-use Rattle.core_query.proofs.Ended.{reads}
+use Rattle.core_query.proofs.Ended.{leads, reads}
 
 -- two lists that are the same have the same first element, and the same behind it
 first-same : {X : Type 0} (x y : X) (xs ys : List X) → x ∷ xs ≡ y ∷ ys → x ≡ y
@@ -106,10 +106,10 @@ module _ (core : Core) (h : Invariants core) (query : Query) (seat number : ℕ)
   pub clear-not_found : (index : ℕ) → ¬ IsFound query view.walk.loads index
   clear-not_found = none-found (sight reader_scope core) query names view.walk.loads whole clear-names lies
 
-  pub clear-no_candidate : WalksOnce view.walk.loads → (index : ℕ) → ¬ IsCandidate query.shape view.walk.loads index
-  clear-no_candidate once index candidate =
+  pub clear-no_candidate : (index : ℕ) → ¬ IsCandidate query.shape view.walk.loads index
+  clear-no_candidate index candidate =
       clear-not_found index (candidate-found query names view.walk.loads whole
-      (asked-layers core.config query.mask) once index candidate)
+      (asked-layers core.config query.mask) (leads core h query seat number view w).once index candidate)
 
 module _ (core : Core) (h : Invariants core) (query : Query) (seat number : ℕ) (view : View) (w : IsWalking core query seat number view) (end : IsAtEnd (walked_to core query view))
     (layer : ℕ) (clear : IsClearOf (sight reader_scope core) query.shape layer) where

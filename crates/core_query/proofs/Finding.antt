@@ -12,11 +12,11 @@ use Rattle.word_map.specs.declared.name.Name.TheVariants.{Child, Bound, Parent}
 use Rattle.core_state.specs.declared.item.Load.{Load}
 use Rattle.core_state.specs.Encoding.{layer_of}
 use Rattle.core_state.specs.Nodes.{node_in}
+use Rattle.core_state.specs.WalkRecord.{WalksOnce}
 use Rattle.core_state.specs.Walking.{Query, asked_words}
 use Rattle.core_state.proofs.Beginning.{cases_cons}
 use Rattle.core_state.proofs.Opening.{none_in}
 use Rattle.core_query.specs.WholeRecord.{ReadChild, side_load, child_loads, node_loads, nodes_to_walk, nodes_named, IsWholeRecord, nothing_left, of_word, of_node}
-use Rattle.core_query.specs.Found.{WalksOnce}
 use Rattle.core_query.proofs.Asked.{behind, map-back, flat-back, range-below, asked-word}
 
 abbrev pub child_load : ℕ → ℕ → ℕ → Load

@@ -12,14 +12,14 @@ use Rattle.core_state.specs.declared.view.View.{View}
 use Rattle.core_state.specs.Core.{Core, word_of}
 use Rattle.core_state.specs.Encoding.{body_child, layer_of}
 use Rattle.core_state.specs.Scope.{word_in}
+use Rattle.core_state.specs.WalkRecord.{WalksOnce, ReadsBodies}
 use Rattle.core_state.specs.Walking.{Query, Spot, resting, at_child, at_bound, Position, next_word}
 use Rattle.core_state.specs.ReadersCounted.{reader_scope, ReachesBySpot, the_node, by_spot, IsBegun, IsWalkedAt}
 use Rattle.core_state.specs.Invariants.{Invariants}
 use Rattle.core_query.specs.Ends.{IsWalking, walked_to}
-use Rattle.core_query.specs.Found.{WalksOnce, ReadsBodies}
 use Rattle.core_query.proofs.Asked.{IsAskedWord}
 use Rattle.core_query.proofs.Positions.{position-orderly}
-use Rattle.core_query.proofs.Ended.{stays}
+use Rattle.core_query.proofs.Ended.{leads, stays}
 use Rattle.core_query.proofs.Stacks.{child-of_world}
 
 module _ (core : Core) (h : Invariants core) (query : Query) (seat number : ℕ) (view : View) (w : IsWalking core query seat number view) where
@@ -48,20 +48,20 @@ module _ (core : Core) (h : Invariants core) (query : Query) (seat number : ℕ)
       absurd (omega arith)
 
   -- so after the next load too no node was walked twice
-  pub once-more : WalksOnce view.walk.loads → (name : Name) → next_word at.rest at.spot ≡ Some name → (value : ℕ) → WalksOnce (view.walk.loads ++ record { name = name; value = value } ∷ [])
-  once-more once name next value =
-      all_pairs_push (λ (a b : Load). (n : ℕ) → a.name ≡ Child n 0 → b.name ≢ Child n 0) view.walk.loads (record { name = name; value = value }) once
+  pub once-more : (name : Name) → next_word at.rest at.spot ≡ Some name → (value : ℕ) → WalksOnce (view.walk.loads ++ record { name = name; value = value } ∷ [])
+  once-more name next value =
+      all_pairs_push (λ (a b : Load). (n : ℕ) → a.name ≡ Child n 0 → b.name ≢ Child n 0) view.walk.loads (record { name = name; value = value }) (leads core h query seat number view w).once
       (λ k d below n was is.
       let t = next-child name n 0 next is in
       let l = get_or view.walk.loads k d in
       not-walked n t.0 t.1 (l.value, subst (λ (x : Load). Contains view.walk.loads x) (λ i. record { name = was i; value = l.value }) (Contains-get_or view.walk.loads k d below)))
 
   -- and each body that was read as a child is one of the world
-  pub bodies-more : ReadsBodies core.config view.walk.loads → (name : Name) → next_word at.rest at.spot ≡ Some name
+  pub bodies-more : (name : Name) → next_word at.rest at.spot ≡ Some name
       → ReadsBodies core.config (view.walk.loads ++ record { name = name; value = word_of core name } ∷ [])
-  bodies-more had name next n k index among =
+  bodies-more name next n k index among =
       elim (Contains-push_cases view.walk.loads (record { name = name; value = word_of core name }) (record { name = Child n k; value = body_child index }) among) [
-        | inl before ↦ had n k index before
+        | inl before ↦ (leads core h query seat number view w).bodies n k index before
         | inr last ↦
             let is : name ≡ Child n k = ap (λ (l : Load). l.name) last in
             let t = next-child name n k next is in

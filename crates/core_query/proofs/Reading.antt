@@ -10,11 +10,12 @@ use Rattle.word_map.specs.declared.name.Name.TheVariants.{Child, Bound, Main, Sl
 use Rattle.core_state.specs.declared.item.Load.{Load}
 use Rattle.core_state.specs.Encoding.{Sides, layer_of, NamesRoot}
 use Rattle.core_state.specs.Nodes.{node_in}
+use Rattle.core_state.specs.WalkRecord.{WalksOnce}
 use Rattle.core_state.specs.Walking.{Query}
 use Rattle.core_state.proofs.Beginning.{cases_cons, contains_first}
 use Rattle.core_state.proofs.Opening.{none_in, only}
 use Rattle.core_query.specs.WholeRecord.{ReadChild, side_load, node_loads, nodes_to_walk, nodes_named, IsWholeRecord, nothing_left, of_word, of_node}
-use Rattle.core_query.specs.Found.{HasRead, WalksOnce}
+use Rattle.core_query.specs.Found.{HasRead}
 use Rattle.core_query.proofs.Finding.{child_load, IsOfNode, is_child, is_side, node-back, of-none, other-node, AreOfLayers, past-word, fewer, first-read, tail-once, node_rest, not-again}
 
 -- ---- nodes that were read

@@ -36,6 +36,7 @@ use Rattle.core_guard.proofs.Still.{IsStill, still-leaves, still-boxes, still-co
 use Rattle.core_guard.proofs.Light.{IsLight, Invariants-light, law-kept, unread}
 use Rattle.core_guard.proofs.Holders.{IsGuarded}
 use Rattle.core_guard.proofs.Touched.{IsKept, kept}
+use Rattle.core_query.specs.Ends.{IsWalking}
 use Rattle.core_query.proofs.InOrder.{order-main_last}
 use Rattle.core_query.proofs.Replay.{IsReplayed, Moves, moves, follows-more, position-more, position-replayed}
 use Rattle.core_query.proofs.Touching.{due-touches}
@@ -43,6 +44,7 @@ use Rattle.core_query.proofs.HalfRead.{SameSides, KeepsBegun, longer_walk}
 use Rattle.core_query.proofs.Leading.{ahead-more}
 use Rattle.core_query.proofs.Staying.{ReadsOn, stays-more}
 use Rattle.core_query.proofs.Spots.{widens-more, space-more}
+use Rattle.core_query.proofs.NextLoad.{once-more, bodies-more}
 
 -- all four kinds do this: a load more is noted, and how the bound stood that the walk reads
 abbrev reads : (View → Name → List ℕ) → Kind
@@ -127,6 +129,9 @@ module _ (notes : View → Name → List ℕ) (core : Core) (step : Step) (a : A
         → (Reaches Was.word At x ⊎ IsWalkedAt step.view.walk.loads x) ⊎ (nodes.home x ≡ under step.name)
     known-on x = at_later (λ at. Reaches Was.word at x ⊎ IsWalkedAt Later.loads x → (Reaches Was.word At x ⊎ IsWalkedAt step.view.walk.loads x) ⊎ (nodes.home x ≡ under step.name)) (reads_on.known x)
 
+    walking : IsWalking core query step.seat step.number step.view
+    walking = record { at = a.at; pass = a.pass; on = walks; follows = before.0 }
+
     leads-on : WalkLeads Old Later query Then
     leads-on = at_later (WalkLeads Old Later query) (record {
       ahead = λ index generation due.
@@ -134,6 +139,8 @@ module _ (notes : View → Name → List ℕ) (core : Core) (step : Step) (a : A
           led.widens (led.ahead index generation due);
       widens = widens-more nodes core a.laws.trees query step.view.walk new refl (notes (learned core step) step.name) begun At (advance query At new) moved stayed led.widens;
       order = order-main_last (advance query At new).rest (subst (λ at. IsReplayed Later.loads at) (position-more core.config query step.view.walk.loads new) (position-replayed core.config query Later.loads follows)).order;
+      once = once-more core a.laws query step.seat step.number step.view walking step.name before.1 (found_by core step);
+      bodies = bodies-more core a.laws query step.seat step.number step.view walking step.name before.1;
     })
 
   -- ---- the step

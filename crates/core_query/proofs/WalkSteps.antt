@@ -4,12 +4,13 @@ use Rattle.std.proofs.Common.{◌≡◌, ◌≢◌, ◌⊎◌, ◌↔◌, ℕ, �
 use Rattle.std.proofs.lemmas.Bool.{cases_lt, false≢true}
 use Rattle.std.proofs.lemmas.Option.{same_Some}
 use Rattle.word_map.specs.declared.name.Name.{Name}
-use Rattle.word_map.specs.declared.name.Name.TheVariants.{Reader}
+use Rattle.word_map.specs.declared.name.Name.TheVariants.{Reader, Child}
 use Rattle.core_state.specs.declared.item.Load.{Load}
 use Rattle.core_state.specs.Log.{history}
 use Rattle.core_state.specs.Core.{Core, word_of}
 use Rattle.core_state.specs.View.{IsPass}
 use Rattle.core_state.specs.Kind.{Kind, Step, learned, found_by, left_by}
+use Rattle.core_state.specs.Encoding.{body_child}
 use Rattle.core_state.specs.Scope.{Sight, sight, word_in}
 use Rattle.core_state.specs.Walking.{Query, start, position_of}
 use Rattle.core_state.specs.Guards.{KeepsGuards}
@@ -19,6 +20,7 @@ use Rattle.core_state.specs.WalksLead.{WalksLead}
 use Rattle.core_state.specs.ReadersCounted.{ReadersCounted, reader_scope, Reaches, IsWalkedAt, WalkStays, ReadsInSpace}
 use Rattle.core_state.specs.Invariants.{Invariants}
 use Rattle.core_state.proofs.Beginning.{due_ahead}
+use Rattle.core_state.proofs.Opening.{none_in}
 use Rattle.core_state.proofs.Starting.{start-stays, start-space, known-none, main_last}
 use Rattle.core_state.proofs.Steps.{word-step, word-step-other}
 use Rattle.core_guard.proofs.Leaving.{Acts, After, Last}
@@ -131,6 +133,8 @@ module _ (core : Core) (step : Step) (a : Acts core step) (asked : MayBegin step
         ahead = λ index generation due. due_ahead core a.formed a.laws query new (omega arith) index generation due;
         widens = tt;
         order = main_last core.config query;
+        once = λ i j d less below. absurd (omega arith);
+        bodies = λ n k index among. absurd (none_in (record { name = Child n k; value = body_child index }) among);
       }))
       (longer begin_walk core step a a.laws.nodes (λ n. ⊥) left (length (history core.log)) (omega arith))
 

@@ -12,12 +12,12 @@ use Rattle.word_map.specs.declared.name.Name.TheVariants.{Child}
 use Rattle.core_state.specs.declared.item.Load.{Load}
 use Rattle.core_state.specs.Encoding.{Sides, body_child, node_child}
 use Rattle.core_state.specs.Nodes.{node_in}
-use Rattle.core_state.specs.WalkRecord.{IsLoaded, HasTouchingBound, IsWalked, as_root, as_child, IsCandidate}
+use Rattle.core_state.specs.WalkRecord.{WalksOnce, IsLoaded, HasTouchingBound, IsWalked, as_root, as_child, IsCandidate}
 use Rattle.core_state.specs.Walking.{Query}
 use Rattle.core_state.proofs.Beginning.{contains_first, contains_flat}
 use Rattle.core_state.proofs.Opening.{none_in, only, range_contains}
 use Rattle.core_query.specs.WholeRecord.{ReadChild, six_words, side_load, child_loads, node_loads, node_to_walk, nodes_to_walk, nodes_named, IsWholeRecord, nothing_left, of_word, of_node}
-use Rattle.core_query.specs.Found.{IsFound, WalksOnce}
+use Rattle.core_query.specs.Found.{IsFound}
 use Rattle.core_query.proofs.Asked.{behind, flat-back}
 use Rattle.core_query.proofs.Finding.{child_load, loads-some, node-back, of-same, AreOfLayers, past-word, fewer}
 use Rattle.core_query.proofs.Reading.{IsReadNode, AreRead, all-read, root-read, named-root, root-named}

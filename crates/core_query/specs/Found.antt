@@ -1,10 +1,7 @@
 -- The bodies that a walk found: each is a child of a node whose four children it read one after the other.
-use Rattle.std.specs.Prelude.{◌≡◌, ◌≢◌, ℕ, ◌<◌, IsTrue, AllPairs, List, ◌++◌}
-use Rattle.word_map.specs.declared.config.Config.{Config}
-use Rattle.word_map.specs.declared.name.Name.TheVariants.{Child}
+use Rattle.std.specs.Prelude.{◌≡◌, ℕ, ◌<◌, IsTrue, List, ◌++◌}
 use Rattle.core_state.specs.declared.item.Load.{Load}
 use Rattle.core_state.specs.Encoding.{body_child}
-use Rattle.core_state.specs.WalkRecord.{IsLoaded}
 use Rattle.core_state.specs.Walking.{Query}
 use Rattle.core_query.specs.WholeRecord.{ReadChild, six_words, node_loads}
 
@@ -21,11 +18,3 @@ pub record IsFound (query : Query) (loads : List Load) (index : ℕ) : Type 0 wh
   pub low : k < 4
   pub body : (children k).word ≡ body_child index
   pub touches : IsTrue (query.test (six_words (children k).bound))
-
--- no node was walked twice: no two loads are of the first child of one node
-abbrev pub WalksOnce : List Load → Type 0
-WalksOnce loads = AllPairs (λ a b. (n : ℕ) → a.name ≡ Child n 0 → b.name ≢ Child n 0) loads
-
--- each body that was read as a child is one of the world
-abbrev pub ReadsBodies : Config → List Load → Type 0
-ReadsBodies c loads = (n k index : ℕ) → IsLoaded loads (Child n k) (body_child index) → index < c.bodies

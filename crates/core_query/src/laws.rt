@@ -18,12 +18,12 @@ ghost use Rattle.core_state.specs.Walks.{MayBegin, begin_walk, MayEnd, end_walk,
 ghost use Rattle.core_state.specs.Formed.{IsFormed};
 ghost use Rattle.core_state.specs.Guards.{GuardsHold};
 ghost use Rattle.core_state.specs.Invariants.{Invariants};
-ghost use Rattle.core_state.specs.WalkRecord.{IsLoaded, IsWalked, IsCandidate};
+ghost use Rattle.core_state.specs.WalkRecord.{IsLoaded, IsWalked, IsCandidate, WalksOnce, ReadsBodies};
 ghost use Rattle.core_state.specs.Walking.{Query, next_word, Follows, asked_words, position_of};
 ghost use Rattle.core_state.specs.ReadersCounted.{reader_scope, layer_at_hand, waiting_at};
 ghost use Rattle.core_query.specs.Ends.{IsWalking, walked_to, IsAtEnd, since};
 ghost use Rattle.core_query.specs.WholeRecord.{ReadChild, six_words, node_loads, IsWholeRecord};
-ghost use Rattle.core_query.specs.Found.{HasRead, IsFound, WalksOnce, ReadsBodies};
+ghost use Rattle.core_query.specs.Found.{HasRead, IsFound};
 ghost use Rattle.core_query.specs.Clear.{IsClear, IsClearOf, IsHullOf, asked_layers, loads_in};
 
 /// The beginning and the end of a walk keep all invariants: when it begins, each body that it has to find is ahead of it.
@@ -59,15 +59,16 @@ pub fn walks_find_all_due()
         → IsDue (Touch query.shape) query.mask core.config.bodies (since core view.walk) index generation → IsCandidate query.shape view.walk.loads index }
 {}
 
-/// A walk reads words of the world. Where each body that it has read as a child is one of the world, that is so with the next
-/// load too, and each candidate is one.
+/// A walk reads words of the world. Each body that it has read as a child is one of the world, with the next load too, and
+/// so is each candidate.
 pub fn walks_stay_in_the_world()
     ensures words { (core : Core) (query : Query) (seat number : ℕ) (view : View) → Invariants core → IsWalking core query seat number view
         → (name : Name) → next_word (walked_to core query view).rest (walked_to core query view).spot ≡ Some name → IsName core.config name }
-    ensures bodies { (core : Core) (query : Query) (seat number : ℕ) (view : View) → Invariants core → IsWalking core query seat number view → ReadsBodies core.config view.walk.loads
+    ensures bodies { (core : Core) (query : Query) (seat number : ℕ) (view : View) → Invariants core → IsWalking core query seat number view
         → (name : Name) → next_word (walked_to core query view).rest (walked_to core query view).spot ≡ Some name
         → ReadsBodies core.config (view.walk.loads ++ record { name = name; value = word_of core name } ∷ []) }
-    ensures candidates { (c : Config) (query : Query) (loads : List Load) → ReadsBodies c loads → (index : ℕ) → IsCandidate query.shape loads index → index < c.bodies }
+    ensures candidates { (core : Core) (query : Query) (seat number : ℕ) (view : View) → Invariants core → IsWalking core query seat number view
+        → (index : ℕ) → IsCandidate query.shape view.walk.loads index → index < core.config.bodies }
 {}
 
 /// The nodes that wait on the stack of a walk, and the one at hand, are of at most ten levels, and together never more than
@@ -91,33 +92,34 @@ pub fn records_of_walks_are_whole()
     ensures read { (c : Config) (query : Query) (loads : List Load) → IsWholeRecord query [] (asked_words c query.mask) loads
         → Follows c query loads × IsAtEnd (position_of c query loads) }
     ensures words { (c : Config) (mask : ℕ) → AllPairs (λ a b. a ≢ b) (asked_words c mask) }
-    ensures once { (c : Config) (query : Query) (loads : List Load) → Follows c query loads → IsAtEnd (position_of c query loads) → WalksOnce loads
-        → AllPairs (λ a b. a.name ≢ b.name) loads }
+    ensures once { (core : Core) (query : Query) (seat number : ℕ) (view : View) → Invariants core → IsWalking core query seat number view
+        → IsAtEnd (walked_to core query view) → AllPairs (λ a b. a.name ≢ b.name) view.walk.loads }
 {}
 
 /// The nodes that were read when nothing is left are just those that a walk has to walk, each root and each child with a
-/// bound that touches, and the bodies that it found are just its candidates. That a node's four children were read one after
-/// the other, and a bound with the child that has it, is so where no node was walked twice.
+/// bound that touches, and the bodies that it found are just its candidates. A node's four children were read one after the
+/// other, and a bound with the child that has it, since no node is walked twice.
 pub fn walked_nodes_are_read()
-    ensures read { (c : Config) (query : Query) (loads : List Load) → Follows c query loads → IsAtEnd (position_of c query loads) → WalksOnce loads
-        → (n : ℕ) → IsWalked query.shape loads n → (children : ℕ → ReadChild) × HasRead loads n children }
+    ensures read { (core : Core) (query : Query) (seat number : ℕ) (view : View) → Invariants core → IsWalking core query seat number view
+        → IsAtEnd (walked_to core query view) → (n : ℕ) → IsWalked query.shape view.walk.loads n → (children : ℕ → ReadChild) × HasRead view.walk.loads n children }
     ensures only { (c : Config) (query : Query) (loads : List Load) → Follows c query loads → IsAtEnd (position_of c query loads)
         → (n k value : ℕ) → IsLoaded loads (Child n k) value → IsWalked query.shape loads n }
-    ensures found { (c : Config) (query : Query) (loads : List Load) → Follows c query loads → IsAtEnd (position_of c query loads) → WalksOnce loads
-        → (index : ℕ) → IsCandidate query.shape loads index → IsFound query loads index }
+    ensures found { (core : Core) (query : Query) (seat number : ℕ) (view : View) → Invariants core → IsWalking core query seat number view
+        → IsAtEnd (walked_to core query view) → (index : ℕ) → IsCandidate query.shape view.walk.loads index → IsFound query view.walk.loads index }
     ensures candidates { (query : Query) (loads : List Load) (index : ℕ) → IsFound query loads index → IsCandidate query.shape loads index }
 {}
 
-/// No node is walked twice: where that is so of what a walk has read, it is so with the next load too.
+/// No node is walked twice: that is so of what a walk has read, and with the next load too.
 pub fn nodes_are_walked_once()
-    ensures { (core : Core) (query : Query) (seat number : ℕ) (view : View) → Invariants core → IsWalking core query seat number view → WalksOnce view.walk.loads
+    ensures so_far { (core : Core) (query : Query) (seat number : ℕ) (view : View) → Invariants core → IsWalking core query seat number view → WalksOnce view.walk.loads }
+    ensures next { (core : Core) (query : Query) (seat number : ℕ) (view : View) → Invariants core → IsWalking core query seat number view
         → (name : Name) → next_word (walked_to core query view).rest (walked_to core query view).spot ≡ Some name → (value : ℕ)
         → WalksOnce (view.walk.loads ++ record { name = name; value = value } ∷ []) }
 {}
 
 /// Where the shape touches no box in the space of any asked layer, as it stands when nothing is left to read, a walk has made
-/// at most 29 loads for each slot and main word, since it has read of each tree the root alone. It found no body, and where
-/// no node was walked twice it has no candidate.
+/// at most 29 loads for each slot and main word, since it has read of each tree the root alone. It found no body and has no
+/// candidate.
 pub fn clear_walks_read_roots_alone()
     ensures loads { (core : Core) (query : Query) (seat number : ℕ) (view : View) → Invariants core → IsWalking core query seat number view
         → IsAtEnd (walked_to core query view) → IsClear core query
@@ -125,7 +127,7 @@ pub fn clear_walks_read_roots_alone()
     ensures found { (core : Core) (query : Query) (seat number : ℕ) (view : View) → Invariants core → IsWalking core query seat number view
         → IsAtEnd (walked_to core query view) → IsClear core query → (index : ℕ) → ¬ IsFound query view.walk.loads index }
     ensures candidates { (core : Core) (query : Query) (seat number : ℕ) (view : View) → Invariants core → IsWalking core query seat number view
-        → IsAtEnd (walked_to core query view) → IsClear core query → WalksOnce view.walk.loads → (index : ℕ) → ¬ IsCandidate query.shape view.walk.loads index }
+        → IsAtEnd (walked_to core query view) → IsClear core query → (index : ℕ) → ¬ IsCandidate query.shape view.walk.loads index }
 {}
 
 /// Of each layer by itself: where the shape touches no box in its space, a walk has made at most 29 loads for each slot and

@@ -1,9 +1,10 @@
 -- What a walk has read: the nodes that it walked and the bodies that are candidates.
-use Rattle.std.specs.Prelude.{ℕ, ◌<◌, List, Contains, slice_index}
+use Rattle.std.specs.Prelude.{◌≡◌, ◌≢◌, ℕ, ◌<◌, List, Contains, AllPairs, slice_index}
 use Rattle.fixed_box.specs.FixBox.{words_of}
 use Rattle.fixed_box.specs.Touch.{Touch}
 use Rattle.fixed_box.specs.declared.fix_box.FixBox.{FixBox}
 use Rattle.fixed_box.specs.declared.shape.Shape.{Shape}
+use Rattle.word_map.specs.declared.config.Config.{Config}
 use Rattle.word_map.specs.declared.name.Name.{Name}
 use Rattle.word_map.specs.declared.name.Name.TheVariants.{Child, Bound}
 use Rattle.core_state.specs.declared.item.Load.{Load}
@@ -25,3 +26,11 @@ pub data IsWalked (shape : Shape) (loads : List Load) (n : ℕ) : Type 0 where
 -- a body is a candidate where it is a child that was read with such a bound
 abbrev pub IsCandidate : Shape → List Load → ℕ → Type 0
 IsCandidate shape loads index = (m : ℕ) × (k : ℕ) × IsLoaded loads (Child m k) (body_child index) × HasTouchingBound shape loads m k
+
+-- no node was walked twice: no two loads are of the first child of one node
+abbrev pub WalksOnce : List Load → Type 0
+WalksOnce loads = AllPairs (λ a b. (n : ℕ) → a.name ≡ Child n 0 → b.name ≢ Child n 0) loads
+
+-- each body that was read as a child is one of the world
+abbrev pub ReadsBodies : Config → List Load → Type 0
+ReadsBodies c loads = (n k index : ℕ) → IsLoaded loads (Child n k) (body_child index) → index < c.bodies

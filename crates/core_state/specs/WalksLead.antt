@@ -10,7 +10,7 @@ use Rattle.core_state.specs.Core.{Core}
 use Rattle.core_state.specs.Scope.{Scope, Sight, sight, EachPass}
 use Rattle.core_state.specs.Encoding.{body_child, node_child, NamesRoot, Sides, sides_of, IsBox, Covers, bound_in}
 use Rattle.core_state.specs.Space.{HadSince}
-use Rattle.core_state.specs.WalkRecord.{IsCandidate}
+use Rattle.core_state.specs.WalkRecord.{IsCandidate, WalksOnce, ReadsBodies}
 use Rattle.core_state.specs.Walking.{Query, Spot, resting, at_child, at_bound, Position, Follows, position_of}
 
 abbrev pub is_walk_word : Name → Bool
@@ -112,6 +112,9 @@ pub record WalkLeads (s : Sight) (walk : Walk) (query : Query) (at : Position) :
       → IsAhead s.word (HadSince s walk.from index) index query walk at
   pub widens : OnlyWidens s.word walk at.spot
   pub order : ReadsMainLast at
+  -- no node was walked twice, and each body that was read is one of the world
+  pub once : WalksOnce walk.loads
+  pub bodies : ReadsBodies s.config walk.loads
 
 -- of each walk that is under way, for every query that reads what it has read
 pub record WalksLeadIn (s : Sight) : Type 0 where

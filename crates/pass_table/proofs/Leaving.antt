@@ -25,7 +25,7 @@ use Rattle.pass_table.specs.declared.pass.Pass.{Pass}
 use Rattle.pass_table.specs.declared.world.World.{World}
 use Rattle.pass_table.specs.Passes.{view_of, IsOf}
 use Rattle.pass_table.specs.LockSets.{bit_in, IsChanged}
-use Rattle.pass_table.specs.Holding.{mode_by, AreHeld, IsStill}
+use Rattle.pass_table.specs.Holding.{mode_by, AreHeld, IsStill, TurnsWalk}
 use Rattle.core_guard.proofs.LockWords.{mode-push}
 
 -- what a step at the place of a name asks
@@ -100,6 +100,12 @@ module _ (asks : Asking) (kind : Kind) (view : View) (name : Name) (first second
 
   pub sizes-left : next.config ≡ view.config
   sizes-left = ap (λ (v : View). v.config) stepped.leaves
+
+  pub turned-held : {walks : Bool} → TurnsWalk kind walks → (held written : LockSet) → AreHeld held written view.locks → AreHeld held written next.locks
+  turned-held turns held written are = subst (AreHeld held written) (sym (ap (λ (v : View). v.locks) stepped.leaves ∙ (turns _ name _ first second).0)) are
+
+  pub turned-walk : (walks : Bool) → TurnsWalk kind walks → next.walk.is_on ≡ walks
+  turned-walk walks turns = ap (λ (v : View). v.walk.is_on) stepped.leaves ∙ (turns _ name _ first second).1
 
   pub still-held : IsStill kind → (held written : LockSet) → AreHeld held written view.locks → AreHeld held written next.locks
   still-held still held written are = subst (AreHeld held written) (sym (ap (λ (v : View). v.locks) stepped.leaves ∙ (still _ name _ first second).0)) are

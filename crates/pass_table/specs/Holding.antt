@@ -1,5 +1,5 @@
 -- How a pass keeps what its view says of locks: as two sets of locks.
-use Rattle.std.specs.Prelude.{◌≡◌, ℕ, ◌==◌, if◌then◌else◌, List, Option, Some, None}
+use Rattle.std.specs.Prelude.{◌≡◌, ℕ, ◌==◌, if◌then◌else◌, Bool, List, Option, Some, None}
 use Rattle.core_state.specs.declared.view.Mode.{Mode}
 use Rattle.core_state.specs.declared.view.Mode.TheVariants.{Read, Write}
 use Rattle.core_state.specs.declared.view.LockStep.{LockStep}
@@ -26,6 +26,11 @@ AreHeld held written steps = (lock : ℕ) → mode_by (bit_in held lock) (bit_in
 abbrev pub IsStill : Kind → Type 0
 IsStill kind = (view : View) (name : Name) (found first second : ℕ) →
     ((kind.leaves view name found first second).locks ≡ view.locks) × ((kind.leaves view name found first second).walk.is_on ≡ view.walk.is_on)
+
+-- steps of this kind leave the locks of the pass as they were, and after them it walks, or does not
+abbrev pub TurnsWalk : Kind → Bool → Type 0
+TurnsWalk kind walks = (view : View) (name : Name) (found first second : ℕ) →
+    ((kind.leaves view name found first second).locks ≡ view.locks) × ((kind.leaves view name found first second).walk.is_on ≡ walks)
 
 -- what letting a lock go asks of its caller: the pass holds the lock, and nothing under it is half done
 pub record MayLetGo (view : View) (lock : ℕ) : Type 0 where

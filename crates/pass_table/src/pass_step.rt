@@ -1,11 +1,11 @@
 //! Steps that a pass makes on a word by its name.
 ghost use Rattle.std.specs.Prelude.{◌≡◌, ◌≢◌, MatchResult};
 ghost use Rattle.word_map.specs.Names.{IsName};
-ghost use Rattle.core_state.specs.Operation.{load, store, exchange, compare_exchange, fetch_min, fetch_max};
+ghost use Rattle.core_state.specs.Operation.{load, store, exchange, compare_exchange, fetch_add, fetch_min, fetch_max};
 ghost use Rattle.pass_table.specs.Stepping.{Stepped, Stored};
 ghost use Rattle.pass_table.specs.Passes.{view_of, IsOf};
 
-use crate::kind::StillKind;
+use crate::kind::{StillKind, TurningKind};
 use crate::pass::Pass;
 use crate::table_step;
 use crate::world::World;
@@ -111,5 +111,27 @@ impl Pass {
     {
         let place = world.map.place(name);
         table_step::fetch_max::<K>(&world.table.shared, &mut self.seat, place, value)
+    }
+
+    /// A fetch-add of 1 to a reader word, with which the pass begins or ends to walk. It answers the word found.
+    #[inline(always)]
+    pub(crate) fn count_reader<K: TurningKind>(
+        &mut self,
+        world: &World,
+        name: Name,
+        walks: bool,
+    ) -> u64
+        requires of { IsOf world.now self.old }
+        requires named { IsName world.now.map name }
+        requires adds { K.kind.operation ≡ fetch_add }
+        requires walks { walks ≡ K.walks }
+        requires asks { K.asks (view_of self.old) name 1 0 }
+        ensures of { IsOf world.now self.new }
+        ensures step { Stepped K.asks K.kind (view_of self.old) name 1 0 result (view_of self.new) }
+    {
+        let place = world.map.place(name);
+        let found = table_step::fetch_add::<K>(&world.table.shared, &mut self.seat, place, 1);
+        self.walks = walks;
+        found
     }
 }

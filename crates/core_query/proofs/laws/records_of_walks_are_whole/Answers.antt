@@ -3,6 +3,7 @@ use Rattle.core_state.specs.Walking.{asked_words}
 use Rattle.core_query.proofs.Finding.{asked-layers}
 use Rattle.core_query.proofs.Recording.{whole-record}
 use Rattle.core_query.proofs.Followed.{whole-followed}
+use Rattle.core_query.proofs.Ended.{leads}
 use Rattle.core_query.proofs.Apart.{asked-apart, loads-apart}
 use Rattle.core_query.proofs.laws.records_of_walks_are_whole.Goals as goal
 
@@ -13,8 +14,9 @@ pub returns-clause-words : goal.returns-clause-words
 returns-clause-words c = asked-apart
 
 pub returns-clause-once : goal.returns-clause-once
-returns-clause-once c = λ config query loads follows end.
-    loads-apart query [] (asked_words config query.mask) loads (whole-record config query loads follows end) (asked-layers config query.mask) (asked-apart config query.mask)
+returns-clause-once c = λ core query seat number view all walking end.
+    loads-apart query [] (asked_words core.config query.mask) view.walk.loads (whole-record core.config query view.walk.loads walking.follows end) (asked-layers core.config query.mask)
+    (asked-apart core.config query.mask) (leads core all query seat number view walking).once
 
 pub returns-clause-read : goal.returns-clause-read
 returns-clause-read c = whole-followed

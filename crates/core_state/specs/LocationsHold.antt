@@ -151,10 +151,15 @@ abbrev pub GivesBox : Task → ℕ → Sides → Type 0
 GivesBox (Moving index target) i box = (index ≡ i) × (box ≡ sides_of target)
 GivesBox _ i box = ⊥
 
--- once a box word is stored, the new box is enclosed at every location of the body
+-- all six sides of it are known
+abbrev pub HasSixSides : Task → Type 0
+HasSixSides (Moving index target) = length target ≡ 6
+HasSixSides _ = ⊤
+
+-- once a box word is stored, the new box is whole, and enclosed at every location of the body
 abbrev pub IsWidened : Sight → View → Type 0
 IsWidened s view = (i n k : ℕ) (box : Sides) → GivesBox view.call.task i box → has_box_word view.call.stores ≡ true → IsLocation s i n k
-    → Encloses s n k box
+    → HasSixSides view.call.task × Encloses s n k box
 
 -- a bound that it widened is still as wide
 abbrev pub IsStillWide : Sight → View → Type 0

@@ -258,7 +258,7 @@ module _ (kind : Kind) (core : Core) (step : Step) (a : Acts core step) (later :
     pub second-forth : IsSecond Was i → IsSecond Is i
     second-forth h = (
       h.0,
-      update-forth h.0 (IsSecondFor Was i) (IsSecondFor Is i) (λ r t. let noted = t.2 in (t.0, t.1, (noted.0, noted.1, noted.2, (b.loc_b ∙ noted.3.0, same-forth noted.0 noted.2 noted.3.1)))) h.1,
+      update-forth h.0 (IsSecondFor Was i) (IsSecondFor Is i) (λ r t. let noted = t.3 in (t.0, t.1, t.2, (noted.0, noted.1, noted.2, (b.loc_b ∙ noted.3.0, same-forth noted.0 noted.2 noted.3.1)))) h.1,
     )
 
     nowhere-forth : (Was.word (LocA i) ≡ 0) × (Was.word (LocB i) ≡ 0) → (Is.word (LocA i) ≡ 0) × (Is.word (LocB i) ≡ 0)

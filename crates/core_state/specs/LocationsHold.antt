@@ -118,10 +118,10 @@ pub data IsWhere (nodes : Nodes) (s : Sight) (i layer n : ℕ) : Type 0 where
   in_merged : (number t root : ℕ) → s.word (Phase i) ≡ phase_in → s.word (LocB i) ≢ 0 → nodes.home n ≡ under (Slot layer t)
       → HasPass s number (λ view. HasUpdate view (λ r. IsStillMerged r layer t root)) → IsWhere nodes s i layer n
 
--- a second location is the place that the update planned for the body, which it has placed and not promoted; and the body
--- that was noted is the one that is live
+-- a second location is the place that the update, whose trees are planned, planned for the body, which it has placed and not
+-- promoted; and the body that was noted is the one that is live
 abbrev pub IsSecondFor : Sight → ℕ → Rebuild → Type 0
-IsSecondFor s i r = Contains r.placed i × ¬ Contains r.promoted i × IsNoted r i (λ n. (s.word (LocB i) ≡ n.place) × IsSameBody s n)
+IsSecondFor s i r = (r.is_planned ≡ true) × Contains r.placed i × ¬ Contains r.promoted i × IsNoted r i (λ n. (s.word (LocB i) ≡ n.place) × IsSameBody s n)
 
 abbrev pub IsSecond : Sight → ℕ → Type 0
 IsSecond s i = (number : ℕ) × HasPass s number (λ view. HasUpdate view (IsSecondFor s i))

@@ -1,3 +1,4 @@
 pub mod Standing
+pub mod MoveSteps
 pub mod ParentLoads
 pub mod Keeping

@@ -1,4 +1,5 @@
 pub mod Standing
 pub mod MoveSteps
+pub mod MoveBodies
 pub mod ParentLoads
 pub mod Keeping

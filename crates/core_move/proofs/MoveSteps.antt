@@ -206,7 +206,7 @@ module _ (kind : Kind) (core : Core) (step : Step) (a : Acts core step) (index :
     locations = location-words kind core step unread.location
 
     -- and all words of other bodies, but that a box word of this one may change
-    other-named : (name : Name) → ((n k q : ℕ) → name ≢ Bound n k q) → ((k : ℕ) → name ≢ BoxWord index k) → word_of (After kind core step) name ≡ word_of core name
+    pub other-named : (name : Name) → ((n k q : ℕ) → name ≢ Bound n k q) → ((k : ℕ) → name ≢ BoxWord index k) → word_of (After kind core step) name ≡ word_of core name
     other-named name side box = word-step-other kind core step name (λ e. go step.name o.word o.body e)
       where
         go : (stored : Name) → is_move_word stored ≡ true → ((i : ℕ) → body_of stored ≡ Some i → i ≡ index) → name ≢ stored

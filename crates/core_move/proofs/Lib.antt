@@ -1,5 +1,7 @@
 pub mod Standing
 pub mod MoveSteps
 pub mod MoveBodies
+pub mod Widening
+pub mod WidenSteps
 pub mod ParentLoads
 pub mod Keeping

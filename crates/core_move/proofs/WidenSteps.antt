@@ -21,40 +21,41 @@ use Rattle.core_state.specs.declared.view.View.{View}
 use Rattle.core_state.specs.View.{IsPass}
 use Rattle.core_state.specs.Log.{history}
 use Rattle.core_state.specs.Core.{Core, word_of, scene_of, IsViewAt}
-use Rattle.core_state.specs.Operation.{Operation}
+use Rattle.core_state.specs.Operation.{Operation, fetch_min, fetch_max}
 use Rattle.core_state.specs.Kind.{Kind, Step, found_by, left_by, after_step}
 use Rattle.core_state.specs.Encoding.{place, Sides, sides_of}
 use Rattle.core_state.specs.Guards.{KeepsGuards}
 use Rattle.core_state.specs.Bodies.{is_box_word, has_box_word, MovesBody, IsBetweenBoxes}
-use Rattle.core_state.specs.Moving.{IsKnownLocation, side_in, MayWiden}
+use Rattle.core_state.specs.Moving.{IsKnownLocation, side_in, MayWiden, MayWidenLow, MayWidenHigh, widen_low, widen_high}
 use Rattle.core_state.specs.Nodes.{Nodes, Home, made, under, superseded, IsLive, Stands, IsOfLayer, Above}
-use Rattle.core_state.specs.Parts.{update_on_readers}
+use Rattle.core_state.specs.Parts.{task_at_place, update_on_readers}
 use Rattle.core_state.specs.Scope.{Sight, sight, scene_in, HasPass}
-use Rattle.core_state.specs.Space.{IsTarget, IsInLayer}
+use Rattle.core_state.specs.Space.{IsTarget, IsComing, IsInLayer}
 use Rattle.core_state.specs.Updates.{IsNoted, IsSameBody}
 use Rattle.core_state.specs.TreesSound.{tree_scope}
 use Rattle.core_state.specs.LocationsHold.{LocationsHold, location_scope, IsLocation, Encloses}
-use Rattle.core_state.specs.BodiesAgree.{HasWordsOf}
+use Rattle.core_state.specs.BodiesAgree.{BodiesAgree}
 use Rattle.core_state.specs.BodiesCovered.{BodiesCoveredIn, cover_scope}
-use Rattle.core_state.specs.ReadersCounted.{ReadersCounted, reader_scope}
+use Rattle.core_state.specs.ReadersCounted.{ReadersCounted, ClimbsInTrees, reader_scope}
 use Rattle.core_state.specs.Invariants.{Invariants}
 use Rattle.core_state.proofs.Beginning.{body_record, record_body}
 use Rattle.core_state.proofs.Frames.{frame, step-same}
 use Rattle.core_state.proofs.Steps.{word-step, word-step-other, view-step}
-use Rattle.core_guard.proofs.Holders.{keeps}
-use Rattle.core_guard.proofs.Leaving.{Acts, After, Last, Stays, as_before-same, Leaves, LeadsWithin, sound-leads, scene-plain}
+use Rattle.core_guard.proofs.Holders.{keeps, IsGuarded, guarded}
+use Rattle.core_guard.proofs.Touched.{IsKept, kept}
+use Rattle.core_guard.proofs.Leaving.{Acts, After, Last, Stays, as_before-same, Leaves, LeadsWithin, sound-leads, scene-plain, above-forth, held-once}
 use Rattle.core_guard.proofs.PlacesLeft.{SeenUpdate, body_stays}
 use Rattle.core_guard.proofs.PlacesStay.{PassIsPlaced, acting, encloses-forth}
 use Rattle.core_guard.proofs.ReadersLeft.{Counts, TightSide, KeepsTargets, climb-forth, layers-kept, gives-kept, ReadersCounted-leaves}
 use Rattle.core_guard.proofs.Seats.{each-seats, seat-has}
 use Rattle.core_guard.proofs.Settled.{StandsStill, settled-still}
-use Rattle.core_guard.proofs.BodiesStep.{words-kept}
+use Rattle.core_guard.proofs.BodiesStep.{words-kept, unstored}
 use Rattle.core_guard.proofs.Unowned.{view-once, stands-unowned}
 use Rattle.core_guard.proofs.WidenedBound.{WidensBound, as_it_was, is_widened, side-after, widened-leaves, TreesSound-widens, WalksLead-widens}
 use Rattle.core_move.proofs.Standing.{IsInLayerAt, in_tree, in_new_tree, IsPlannedBy, in-layer}
 use Rattle.core_move.proofs.MoveSteps.{move-removes, move-places, last-after, IsUnderWay, has_begun, begins_now, IsMoveTask, IsOfMove, above-home, come-up, under_way-placed, is_move_word, same-call, locations, reader-word, location-back, LocationsHold-moves, stores-placed, LocksAgree-moves, NodesInOnePlace-moves, cover-part, cover-name, other-stays}
 use Rattle.core_move.proofs.MoveBodies.{word-kept, BodiesAgree-moves}
-use Rattle.core_move.proofs.Widening.{IsWider, widening, new_store, Goes, goes, box-more}
+use Rattle.core_move.proofs.Widening.{IsWider, min-wider, max-wider, widening, new_store, Goes, goes, box-more}
 use Rattle.core_guard.proofs.BodyTouch.{body_of}
 
 -- a tree is of one layer
@@ -232,3 +233,167 @@ module _ (operation : Operation) (index : ℕ) (core : Core) (step : Step) (a : 
       child_of : Name → ℕ
       child_of (Bound x y z) = y
       child_of _ = 0
+
+  -- ---- readers
+
+  abbrev Now : Sight
+  Now = sight reader_scope (After k0 core step)
+
+  targets : KeepsTargets k0 core step a nodes none m
+  targets = record {
+    targets = λ i q value target.
+        let t = under-target index step.view.call g.target g.loads g.stored g.under i q value target in
+        let old = g.grown.old q t.1 in
+        subst (λ (c : Call). IsTarget c.task i q value) (sym (same-call k0 core step a index Two o)) (t.0, old.0, old.1 ∙ t.2);
+    bodies = λ seat number view at pass i handled generation l is. subst (λ (x : Option Record). IsSomeAnd x (λ r. (r.generation ≡ generation) × (r.layer ≡ l))) (sym (same i)) is;
+  }
+
+  -- the side is one of the box that the body is to get
+  coming : IsComing Now index side step.first
+  coming = (
+    step.number,
+    seat-has reader_scope (λ k v. refl) (After k0 core step) step.number (λ v. IsTarget v.call.task index side step.first) (record {
+      seat = step.seat;
+      view = Last k0 core step;
+      at = view-step k0 core step a.at;
+      pass = a.pass;
+      holds = subst (λ (c : Call). IsTarget (task_at_place c.task) index side step.first) (sym (same-call k0 core step a index Two o)) (refl, g.grown.has.0, g.grown.has.1);
+    }),
+  )
+
+  where_up : IsInLayerAt core nodes index body.0.layer up.0 up.1
+  where_up = in-layer core nodes a.laws.locations index body.0 body.1 body.2 up.0 up.1 up.2
+
+  -- so it counts for the layer of a tree that others may reach
+  counts-live : (n l : ℕ) → n ≡ node → IsLive (nodes.home n) → IsOfLayer l (nodes.home n) → IsInLayer Now l side step.first
+  counts-live n l one live layer =
+      let there : nodes.home n ≡ nodes.home up.0 = ap nodes.home one ∙ home in
+      let of : body.0.layer ≡ l = elim where_up [
+        | in_tree still is ↦ layer-once body.0.layer l (nodes.home up.0) still is (subst (IsOfLayer l) there layer)
+        | in_new_tree p ↦ absurd (subst IsLive (there ∙ p.home) live)
+      ] in
+      inr (index, coming, record_body (record_at (scene_of (After k0 core step)) index) (λ r. r.layer ≡ l) body.0 (same index ∙ body.1) of)
+
+  -- and in a new tree for the body that is planned below
+  counts-made : (seat number : ℕ) (view : View) → IsViewAt core seat view → IsPass view number → (r : Rebuild) → view.rebuild ≡ Some r → (n k q l : ℕ) → nodes.home n ≡ made number l → n ≡ node → k ≡ child → q ≡ side
+      → TightSide Now (update_on_readers r) n k q step.first
+  counts-made seat number view at pass r is n k q l made_for one two three =
+      let there : nodes.home up.0 ≡ made number l = sym home ∙ (ap nodes.home (sym one) ∙ made_for) in
+      elim where_up [
+        | in_tree still layer ↦ absurd (subst IsLive there still)
+        | in_new_tree p ↦
+            let number_is : p.number ≡ number = (made-once p.number number body.0.layer l (sym p.home ∙ there)).0 in
+            let view_is : p.view ≡ view = view-once core a.formed p.seat seat number p.view view p.at at (p.pass ∙ ap Some number_is) pass in
+            let t = subst (λ (x : Option Rebuild). IsSomeAnd x (λ r. IsNoted r index (λ noted. (noted.place ≡ place up.0 up.1) × IsSameBody Was noted))) (ap (λ (v : View). v.rebuild) view_is ∙ is) p.noted in
+            let above = above-forth k0 core step a nodes nodes none m Was.word Now.word leads m.parent up.0 up.1 node child (stands up.0 up.1 up.2) up.3 in
+            let above_n : Above Now.word up.0 up.1 n k = subst (λ (x : ℕ). Above Now.word up.0 up.1 x k) (sym one) (subst (λ (x : ℕ). Above Now.word up.0 up.1 node x) (sym two) above) in (
+              t.0,
+              t.1,
+              (up.0, up.1, up.2.0, t.3.0, above_n),
+              inr (
+                subst (λ (x : Option Record). IsSomeAnd x (λ r. (r.generation ≡ t.0.generation) × (r.layer ≡ t.0.layer))) (sym (same t.0.index)) t.3.1,
+                subst (λ (x : ℕ). IsComing Now x q step.first) (sym t.2) (subst (λ (x : ℕ). IsComing Now index x step.first) (sym three) coming),
+              ),
+            )
+      ]
+
+  counts : Counts k0 core step a nodes none m
+  counts = record {
+    places = λ seat number view apart at pass i handled. locations k0 core step a index Two o i;
+    climbs = subst (λ (c : Call). ClimbsInTrees nodes Now c.task) (sym (same-call k0 core step a index Two o))
+        (climb-forth k0 core step a nodes none m index (locations k0 core step a index Two o index).0 (locations k0 core step a index Two o index).1
+        (λ n k x y place above. let t = stands n k place in subst Stands (sym (above-home nodes (sight reader_scope core).word (record { up = leads.up; down = leads.down }) n k x y t above)) t));
+    layers = layers-kept k0 core step a nodes none m targets;
+    gives = gives-kept k0 core step a nodes none m targets;
+    live = λ n k q l live layer.
+        elim (side-after k0 core step a node child side w n k q) [
+          | as_it_was e ↦ inl e
+          | is_widened one two three old new ↦ elim (wider.one) [
+            | inl found ↦ inl (new ∙ (found ∙ sym old))
+            | inr first ↦ inr (subst (λ (x : ℕ). IsInLayer Now l q x) (sym (new ∙ first)) (subst (λ (x : ℕ). IsInLayer Now l x step.first) (sym three) (counts-live n l one live layer)))
+          ]
+        ];
+    fresh = each-seats reader_scope (λ k v. refl) core (λ number v. IfSome v.rebuild (Fresh number)) (λ seat number view at pass. fresh-at seat number view at pass view.rebuild refl);
+    new = λ n k l never. absurd never;
+    unmade = λ n number l never. absurd never;
+  }
+    where
+      Fresh : ℕ → Rebuild → Type 0
+      Fresh number r = (n k q l : ℕ) → nodes.home n ≡ made number l → (word_of (After k0 core step) (Bound n k q) ≡ word_of core (Bound n k q)) ⊎ TightSide Now r n k q (word_of (After k0 core step) (Bound n k q))
+
+      fresh-at : (seat number : ℕ) (view : View) → IsViewAt core seat view → IsPass view number → (x : Option Rebuild) → view.rebuild ≡ x → IfSome (option_map update_on_readers x) (Fresh number)
+      fresh-at seat number view at pass None is = tt
+      fresh-at seat number view at pass (Some r) is = λ n k q l made_for.
+          elim (side-after k0 core step a node child side w n k q) [
+            | as_it_was e ↦ inl e
+            | is_widened one two three old new ↦ elim (wider.one) [
+              | inl found ↦ inl (new ∙ (found ∙ sym old))
+              | inr first ↦ inr (subst (λ (x : ℕ). TightSide Now (update_on_readers r) n k q x) (sym (new ∙ first)) (counts-made seat number view at pass r is n k q l made_for one two three))
+            ]
+          ]
+
+  ReadersCounted-widens : ReadersCounted nodes (After k0 core step)
+  ReadersCounted-widens =
+      ReadersCounted-leaves k0 core step a nodes none m counts (record { reader = reader-word k0 core step a index Two o; walk = ap (λ (v : View). v.walk) g.view })
+
+  -- ---- bodies
+
+  BodiesAgree-widens : BodiesAgree (After k0 core step)
+  BodiesAgree-widens =
+      let kept = word-kept k0 core step a index Two o (λ value. refl) in
+      BodiesAgree-moves k0 core step a index Two o (λ value. refl) (held-once (record_at (scene_of core) index) unheld)
+      (λ r is was. words-kept k0 core step a.at a.pass (history core.log) index r between (kept (Layer index) (λ n k q e. absurd cc) (λ k e. absurd cc)) (kept (User index) (λ n k q e. absurd cc) (λ k e. absurd cc))
+      (λ k. unstored k0 core step a.at a.pass (BoxWord index k) (λ e. other node child side (e ∙ names)))
+      (kept (Phase index) (λ n k q e. absurd cc) (λ k e. absurd cc)) (λ l t. kept (Slot l t) (λ n k q e. absurd cc) (λ k e. absurd cc)) was)
+    where
+      other : {k : ℕ} (n j q : ℕ) → BoxWord index k ≢ Bound n j q
+      other n j q e = absurd cc
+
+      between : IsBetweenBoxes step.view index → IsBetweenBoxes (Last k0 core step) index
+      between b =
+          subst (λ (c : Call). MovesBody c.task index × (has_box_word c.stores ≡ true)) (sym (same-call k0 core step a index Two o))
+          (refl, no_box ∙ under-boxes index step.view.call g.target g.loads g.stored g.under b.0 b.1)
+
+  -- ---- all of them
+
+  pub Invariants-widens : Invariants (after_step k0 core step)
+  Invariants-widens = record {
+    nodes = nodes;
+    locks = LocksAgree-moves k0 core step a index Two o;
+    bodies = BodiesAgree-widens;
+    places = NodesInOnePlace-moves k0 core step a index Two o;
+    trees = TreesSound-widens k0 core step a node child side w (ap (λ (v : View). v.written) g.view);
+    locations = LocationsHold-widens;
+    cover = frame cover_scope (BodiesCoveredIn nodes) core (after_step k0 core step)
+        (step-same cover_scope k0 core step a.at a.pass (record { name = λ stored. cover-name k0 core step a index Two o; entry = λ reads value. refl; part = cover-part k0 core step a index Two o })) a.laws.cover;
+    walks = WalksLead-widens k0 core step a node child side w (ap (λ (v : View). v.walk) g.view);
+    readers = ReadersCounted-widens;
+  }
+
+  -- no other pass has the node for itself
+  pub guarded-widens : KeepsGuards k0 core step
+  guarded-widens =
+      keeps k0 core step (Bound node child side) names
+      (λ stored seat number view apart found is. (stands-unowned core a.formed nodes a.laws.places a.laws.trees seat number view found is node w.stands, tt))
+
+-- ---- kinds 34 and 35
+
+pub Invariants-widen_low : (index : ℕ) → IsKept (MayWidenLow index) (widen_low index)
+Invariants-widen_low index =
+    kept (MayWidenLow index) (widen_low index)
+    (λ core step a asked. Invariants-widens fetch_min index core step a asked.node asked.child asked.side asked.names asked.may (min-wider asked.side (found_by core step) step.first step.second asked.is_low))
+
+pub Invariants-widen_high : (index : ℕ) → IsKept (MayWidenHigh index) (widen_high index)
+Invariants-widen_high index =
+    kept (MayWidenHigh index) (widen_high index)
+    (λ core step a asked. Invariants-widens fetch_max index core step a asked.node asked.child asked.side asked.names asked.may (max-wider asked.side (found_by core step) step.first step.second asked.is_high))
+
+pub GuardsHold-widen_low : (index : ℕ) → IsGuarded (MayWidenLow index) (widen_low index)
+GuardsHold-widen_low index =
+    guarded (MayWidenLow index) (widen_low index)
+    (λ core step a asked. guarded-widens fetch_min index core step a asked.node asked.child asked.side asked.names asked.may (min-wider asked.side (found_by core step) step.first step.second asked.is_low))
+
+pub GuardsHold-widen_high : (index : ℕ) → IsGuarded (MayWidenHigh index) (widen_high index)
+GuardsHold-widen_high index =
+    guarded (MayWidenHigh index) (widen_high index)
+    (λ core step a asked. guarded-widens fetch_max index core step a asked.node asked.child asked.side asked.names asked.may (max-wider asked.side (found_by core step) step.first step.second asked.is_high))

@@ -39,7 +39,7 @@ use Rattle.core_state.specs.BodiesCovered.{BodiesCoveredIn, cover_scope}
 use Rattle.core_state.specs.ReadersCounted.{ReadersCounted, ClimbsInTrees, reader_scope}
 use Rattle.core_state.specs.Invariants.{Invariants}
 use Rattle.core_state.proofs.Beginning.{body_record, record_body}
-use Rattle.core_state.proofs.Frames.{frame, step-same}
+use Rattle.core_state.proofs.Frames.{frame, step-same, step-history}
 use Rattle.core_state.proofs.Steps.{word-step, word-step-other, view-step}
 use Rattle.core_guard.proofs.Holders.{keeps, IsGuarded, guarded}
 use Rattle.core_guard.proofs.Touched.{IsKept, kept}
@@ -54,7 +54,7 @@ use Rattle.core_guard.proofs.Unowned.{view-once, stands-unowned}
 use Rattle.core_guard.proofs.WidenedBound.{WidensBound, as_it_was, is_widened, side-after, widened-leaves, TreesSound-widens, WalksLead-widens}
 use Rattle.core_move.proofs.Standing.{IsInLayerAt, in_tree, in_new_tree, IsPlannedBy, in-layer}
 use Rattle.core_move.proofs.MoveSteps.{move-removes, move-places, last-after, IsUnderWay, has_begun, begins_now, IsMoveTask, IsOfMove, above-home, come-up, under_way-placed, is_move_word, same-call, locations, reader-word, location-back, LocationsHold-moves, stores-placed, LocksAgree-moves, NodesInOnePlace-moves, cover-part, cover-name, other-stays}
-use Rattle.core_move.proofs.MoveBodies.{word-kept, BodiesAgree-moves}
+use Rattle.core_move.proofs.MoveBodies.{only-same, word-kept, BodiesAgree-moves}
 use Rattle.core_move.proofs.Widening.{IsWider, min-wider, max-wider, widening, new_store, Goes, goes, box-more}
 use Rattle.core_guard.proofs.BodyTouch.{body_of}
 
@@ -340,11 +340,11 @@ module _ (operation : Operation) (index : ℕ) (core : Core) (step : Step) (a : 
 
   BodiesAgree-widens : BodiesAgree (After k0 core step)
   BodiesAgree-widens =
-      let kept = word-kept k0 core step a index Two o (λ value. refl) in
-      BodiesAgree-moves k0 core step a index Two o (λ value. refl) (held-once (record_at (scene_of core) index) unheld)
-      (λ r is was. words-kept k0 core step a.at a.pass (history core.log) index r between (kept (Layer index) (λ n k q e. absurd cc) (λ k e. absurd cc)) (kept (User index) (λ n k q e. absurd cc) (λ k e. absurd cc))
+      let kept = word-kept k0 core step a index Two o (history core.log) in
+      BodiesAgree-moves k0 core step a index Two o (history core.log) (step-history k0 core step (λ value. refl)) (only-same core index a.laws.bodies (held-once (record_at (scene_of core) index) unheld))
+      (λ r is. words-kept k0 core step a.at a.pass (history core.log) index r between (kept (Layer index) (λ n k q e. absurd cc) (λ k e. absurd cc)) (kept (User index) (λ n k q e. absurd cc) (λ k e. absurd cc))
       (λ k. unstored k0 core step a.at a.pass (BoxWord index k) (λ e. other node child side (e ∙ names)))
-      (kept (Phase index) (λ n k q e. absurd cc) (λ k e. absurd cc)) (λ l t. kept (Slot l t) (λ n k q e. absurd cc) (λ k e. absurd cc)) was)
+      (kept (Phase index) (λ n k q e. absurd cc) (λ k e. absurd cc)) (λ l t. kept (Slot l t) (λ n k q e. absurd cc) (λ k e. absurd cc)) (a.laws.bodies.live index r is))
     where
       other : {k : ℕ} (n j q : ℕ) → BoxWord index k ≢ Bound n j q
       other n j q e = absurd cc

@@ -4,5 +4,6 @@ pub mod MoveBodies
 pub mod Widening
 pub mod WidenSteps
 pub mod Climbing
+pub mod Reboxed
 pub mod ParentLoads
 pub mod Keeping

@@ -5,5 +5,6 @@ pub mod Widening
 pub mod WidenSteps
 pub mod Climbing
 pub mod Reboxed
+pub mod SideStores
 pub mod ParentLoads
 pub mod Keeping

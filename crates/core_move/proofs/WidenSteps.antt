@@ -76,12 +76,12 @@ made-once p q k l e = (ap pass_in e, ap layer_in e)
     layer_in (made x y) = y
     layer_in _ = 0
 
-under-task : (index : ℕ) (c : Call) (target : List ℕ) (loads : List Load) (stored : List Store) → IsUnderWay index c target loads stored → IsMoveTask index c.task
+pub under-task : (index : ℕ) (c : Call) (target : List ℕ) (loads : List Load) (stored : List Store) → IsUnderWay index c target loads stored → IsMoveTask index c.task
 under-task index c target loads stored (has_begun t e) = subst (IsMoveTask index) (sym e) refl
 under-task index c target loads stored (begins_now e) = subst (IsMoveTask index) (sym e) tt
 
 -- what the task was about to give, the move under way is
-under-target : (index : ℕ) (c : Call) (target : List ℕ) (loads : List Load) (stored : List Store) → IsUnderWay index c target loads stored → (i q side : ℕ) → IsTarget c.task i q side → IsTarget (Moving index target) i q side
+pub under-target : (index : ℕ) (c : Call) (target : List ℕ) (loads : List Load) (stored : List Store) → IsUnderWay index c target loads stored → (i q side : ℕ) → IsTarget c.task i q side → IsTarget (Moving index target) i q side
 under-target index c target loads stored (has_begun t e) i q side h = subst (λ (task : Task). IsTarget task i q side) e h
 under-target index c target loads stored (begins_now e) i q side h = absurd (subst (λ (task : Task). IsTarget task i q side) e h)
 

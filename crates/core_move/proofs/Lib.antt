@@ -6,5 +6,6 @@ pub mod WidenSteps
 pub mod Climbing
 pub mod Reboxed
 pub mod SideStores
+pub mod CoverMoved
 pub mod ParentLoads
 pub mod Keeping

@@ -32,6 +32,10 @@ layer-back : (o p : Option Record) (l : ℕ) → IsAlike o p → IsSomeAnd p (λ
 layer-back o p l no_body h = h
 layer-back o p l (a_body r q g layer phase) h = sym layer ∙ h
 
+pub layer-forth : (o p : Option Record) (l : ℕ) → IsAlike o p → IsSomeAnd o (λ r. r.layer ≡ l) → IsSomeAnd p (λ r. r.layer ≡ l)
+layer-forth o p l no_body h = h
+layer-forth o p l (a_body r q g layer phase) h = layer ∙ h
+
 pub creation-forth : (o p : Option Record) (g l : ℕ) → IsAlike o p → IsSomeAnd o (λ r. (r.generation ≡ g) × (r.layer ≡ l)) → IsSomeAnd p (λ r. (r.generation ≡ g) × (r.layer ≡ l))
 creation-forth o p g l no_body h = h
 creation-forth o p g l (a_body r q generation layer phase) h = (generation ∙ h.0, layer ∙ h.1)

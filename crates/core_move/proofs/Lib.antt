@@ -7,5 +7,6 @@ pub mod Climbing
 pub mod Reboxed
 pub mod SideStores
 pub mod CoverMoved
+pub mod LastStores
 pub mod ParentLoads
 pub mod Keeping

@@ -70,6 +70,12 @@ abbrev IsNothing : Task → Type 0
 IsNothing Nothing = Unit {0}
 IsNothing _ = ⊥
 
+-- what a move has climbed, it has climbed as the one that is under way
+pub under-climbed : (index : ℕ) (c : Call) (target : List ℕ) (loads : List Load) (stored : List Store) → IsUnderWay index c target loads stored → (n k : ℕ) → c.task ≡ Moving index target → HasClimbed c (sides_of target) n k
+    → HasClimbed (record { task = Moving index target; loads = loads; stores = stored }) (sides_of target) n k
+under-climbed index c target loads stored (has_begun t e) n k task h = subst (λ (d : Call). HasClimbed d (sides_of t) n k) (λ i. record { task = e i; loads = c.loads; stores = c.stores }) h
+under-climbed index c target loads stored (begins_now e) n k task h = absurd (subst IsNothing (sym e ∙ task) tt)
+
 -- ---- a body that a pass has settled, and that is in the broad phase or out
 
 pub record IsKnownAs (core : Core) (step : Step) (index : ℕ) (target : List ℕ) : Type 0 where
@@ -94,7 +100,7 @@ module _ (core : Core) (step : Step) (a : Acts core step) (index : ℕ) (settled
   pub location-known : (n k : ℕ) → IsLocation (sight location_scope core) index n k → IsKnownLocation step.view index n k
   location-known n k h = (h.0, elim (h.1) [ inl e ↦ inl (sym known.loc_a ∙ e) | inr e ↦ inr (sym known.loc_b ∙ e) ])
 
-in_or_out : {core : Core} {step : Step} {index : ℕ} {target : List ℕ} (k : IsKnownAs core step index target) → (k.r.phase ≡ In) ⊎ (k.r.phase ≡ Out)
+pub in_or_out : {core : Core} {step : Step} {index : ℕ} {target : List ℕ} (k : IsKnownAs core step index target) → (k.r.phase ≡ In) ⊎ (k.r.phase ≡ Out)
 in_or_out k = elim (k.phase) [ inl t ↦ inl t.0 | inr out ↦ inr out ]
 
 -- ---- the step goes on with a move, or begins one
@@ -223,12 +229,6 @@ module _ (core : Core) (step : Step) (a : Acts core step) (index side : ℕ) (na
         )
         | inr out ↦ absurd (nowhere out n k location)
       ]
-    where
-      under-climbed : (index : ℕ) (c : Call) (target : List ℕ) (loads : List Load) (stored : List Store) → IsUnderWay index c target loads stored → (n k : ℕ) → c.task ≡ Moving index target → HasClimbed c (sides_of target) n k
-          → HasClimbed (record { task = Moving index target; loads = loads; stores = stored }) (sides_of target) n k
-      under-climbed index c target loads stored (has_begun t e) n k task h = subst (λ (d : Call). HasClimbed d (sides_of t) n k) (λ i. record { task = e i; loads = c.loads; stores = c.stores }) h
-      under-climbed index c target loads stored (begins_now e) n k task h = absurd (subst IsNothing (sym e ∙ task) tt)
-
   -- ---- locations
 
   -- a box word is as it was, or the new one

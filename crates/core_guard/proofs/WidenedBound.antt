@@ -1,7 +1,6 @@
 -- A step that widens a side of a bound of a node that stands: trees are left, and the trees are sound and the walks lead on.
 use Rattle.std.proofs.Common.{◌≡◌, ◌≢◌, ◌⊎◌, ℕ, ◌+◌, ◌<◌, ◌≤◌, List, Some, refl, ap, sym, ◌∙◌, subst, inl, inr, arith}
 use Rattle.std.specs.Prelude.{Contains}
-use Rattle.std.proofs.lemmas.Bool.{cases_eq}
 use Rattle.std.proofs.lemmas.Option.{same_Some}
 use Rattle.word_map.specs.declared.name.Name.{Name}
 use Rattle.word_map.specs.declared.name.Name.TheVariants.{Child, Bound, Parent}
@@ -13,10 +12,28 @@ use Rattle.core_state.specs.Encoding.{NamesRoot, layer_of}
 use Rattle.core_state.specs.Nodes.{Stands, owned, node_in}
 use Rattle.core_state.specs.TreesSound.{TreesSound}
 use Rattle.core_state.specs.WalksLead.{WalksLead}
+use Rattle.core_state.proofs.SameNames.{cases_name}
 use Rattle.core_state.proofs.Steps.{word-step, word-step-other}
 use Rattle.core_guard.proofs.Leaving.{Acts, After, Last, Leaves, step-goes_on, roots-other}
 use Rattle.core_guard.proofs.TreesLeft.{KeepsBoxes, come-none, stored-left, TreesSound-leaves}
 use Rattle.core_guard.proofs.WalksLeft.{WalksLead-leaves}
+
+abbrev side_of : Name → ℕ
+side_of (Bound n k q) = q
+side_of _ = 0
+
+-- bounds only widen by a step that makes a low side no greater, or a high one no less
+pub side-widens : (kind : Kind) (core : Core) (step : Step) (node child side : ℕ) → step.name ≡ Bound node child side → (side < 3 → left_by kind core step ≤ found_by core step) × (3 ≤ side → found_by core step ≤ left_by kind core step) → (n k q : ℕ)
+    → (q < 3 → word_of (After kind core step) (Bound n k q) ≤ word_of core (Bound n k q)) × (3 ≤ q → word_of core (Bound n k q) ≤ word_of (After kind core step) (Bound n k q))
+side-widens kind core step node child side names wide n k q =
+    elim (cases_name (Bound n k q) step.name) [
+      | inl same ↦
+          let one : q ≡ side = ap side_of (same ∙ names) in
+          let old = ap (word_of core) same in
+          let new = ap (word_of (After kind core step)) same ∙ word-step kind core step in
+          (λ low. let less = wide.0 (omega arith) in omega arith, λ high. let more = wide.1 (omega arith) in omega arith)
+      | inr other ↦ let same = word-step-other kind core step (Bound n k q) other in (λ low. omega arith, λ high. omega arith)
+    ]
 
 module _ (kind : Kind) (core : Core) (step : Step) (a : Acts core step) where
   -- the side is then what it was or the operand, which is a coordinate; a low one is no greater, a high one no less
@@ -40,17 +57,11 @@ module _ (kind : Kind) (core : Core) (step : Step) (a : Acts core step) where
 
     pub side-after : (n k q : ℕ) → SideAfter n k q
     side-after n k q =
-        elim (cases_eq n node) [
-          | inr apart ↦ as_it_was (unnamed (Bound n k q) (λ e. apart (ap node_of e)))
-          | inl one ↦ elim (cases_eq k child) [
-            | inr apart ↦ as_it_was (unnamed (Bound n k q) (λ e. apart (ap child_of e)))
-            | inl two ↦ elim (cases_eq q side) [
-              | inr apart ↦ as_it_was (unnamed (Bound n k q) (λ e. apart (ap side_of e)))
-              | inl three ↦
-                  let same : Bound n k q ≡ step.name = (λ i. Bound (one i) (two i) (three i)) ∙ sym w.names in
-                  is_widened one two three (ap (word_of core) same) (ap (word_of (After kind core step)) same ∙ word-step kind core step)
-            ]
-          ]
+        elim (cases_name (Bound n k q) step.name) [
+          | inl same ↦
+              let e = same ∙ w.names in
+              is_widened (ap node_of e) (ap child_of e) (ap side_of e) (ap (word_of core) same) (ap (word_of (After kind core step)) same ∙ word-step kind core step)
+          | inr other ↦ as_it_was (word-step-other kind core step (Bound n k q) other)
         ]
       where
         node_of : Name → ℕ
@@ -61,17 +72,8 @@ module _ (kind : Kind) (core : Core) (step : Step) (a : Acts core step) where
         child_of (Bound x y z) = y
         child_of _ = 0
 
-        side_of : Name → ℕ
-        side_of (Bound x y z) = z
-        side_of _ = 0
-
-    -- bounds only widen
-    pub only-widens : (n k q : ℕ) → (q < 3 → word_of (After kind core step) (Bound n k q) ≤ word_of core (Bound n k q)) × (3 ≤ q → word_of core (Bound n k q) ≤ word_of (After kind core step) (Bound n k q))
-    only-widens n k q =
-        elim (side-after n k q) [
-          | as_it_was same ↦ (λ low. omega arith, λ high. omega arith)
-          | is_widened one two three old new ↦ (λ low. let wide = w.wide.0 (omega arith) in omega arith, λ high. let wide = w.wide.1 (omega arith) in omega arith)
-        ]
+    only-widens : (n k q : ℕ) → (q < 3 → word_of (After kind core step) (Bound n k q) ≤ word_of core (Bound n k q)) × (3 ≤ q → word_of core (Bound n k q) ≤ word_of (After kind core step) (Bound n k q))
+    only-widens = side-widens kind core step node child side w.names w.wide
 
     -- and a side of a box stays a coordinate
     coordinate : (n k q : ℕ) → 1 ≤ word_of core (Bound n k q) → word_of core (Bound n k q) ≤ 16777216 → (1 ≤ word_of (After kind core step) (Bound n k q)) × (word_of (After kind core step) (Bound n k q) ≤ 16777216)

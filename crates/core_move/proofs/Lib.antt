@@ -8,5 +8,6 @@ pub mod Reboxed
 pub mod SideStores
 pub mod CoverMoved
 pub mod LastStores
+pub mod Closing
 pub mod ParentLoads
 pub mod Keeping

@@ -22,7 +22,7 @@ use Rattle.core_state.specs.View.{IsPass}
 use Rattle.core_state.specs.Log.{history}
 use Rattle.core_state.specs.Core.{Core, word_of, scene_of, IsViewAt}
 use Rattle.core_state.specs.Operation.{Operation, fetch_min, fetch_max}
-use Rattle.core_state.specs.Kind.{Kind, Step, found_by, left_by, after_step}
+use Rattle.core_state.specs.Kind.{Kind, Step, Steps, found_by, left_by, after_step}
 use Rattle.core_state.specs.Encoding.{place, Sides, sides_of}
 use Rattle.core_state.specs.Guards.{KeepsGuards}
 use Rattle.core_state.specs.Bodies.{is_box_word, has_box_word, MovesBody, IsBetweenBoxes}
@@ -32,7 +32,7 @@ use Rattle.core_state.specs.Parts.{task_at_place, update_on_readers}
 use Rattle.core_state.specs.Scope.{Sight, sight, scene_in, HasPass}
 use Rattle.core_state.specs.Space.{IsTarget, IsComing, IsInLayer}
 use Rattle.core_state.specs.Updates.{IsNoted, IsSameBody}
-use Rattle.core_state.specs.TreesSound.{tree_scope}
+use Rattle.core_state.specs.TreesSound.{BoundsOnlyWiden, tree_scope}
 use Rattle.core_state.specs.LocationsHold.{LocationsHold, location_scope, IsLocation, Encloses}
 use Rattle.core_state.specs.BodiesAgree.{BodiesAgree}
 use Rattle.core_state.specs.BodiesCovered.{BodiesCoveredIn, cover_scope}
@@ -51,7 +51,7 @@ use Rattle.core_guard.proofs.Seats.{each-seats, seat-has}
 use Rattle.core_guard.proofs.Settled.{StandsStill, settled-still}
 use Rattle.core_guard.proofs.BodiesStep.{words-kept, unstored}
 use Rattle.core_guard.proofs.Unowned.{view-once, stands-unowned}
-use Rattle.core_guard.proofs.WidenedBound.{WidensBound, as_it_was, is_widened, side-after, widened-leaves, TreesSound-widens, WalksLead-widens}
+use Rattle.core_guard.proofs.WidenedBound.{WidensBound, as_it_was, is_widened, side-after, side-widens, widened-leaves, TreesSound-widens, WalksLead-widens}
 use Rattle.core_move.proofs.Standing.{IsInLayerAt, in_tree, in_new_tree, IsPlannedBy, in-layer}
 use Rattle.core_move.proofs.MoveSteps.{move-removes, move-places, last-after, IsUnderWay, has_begun, begins_now, IsMoveTask, IsOfMove, above-home, come-up, under_way-placed, is_move_word, same-call, locations, reader-word, location-back, LocationsHold-moves, stores-placed, LocksAgree-moves, NodesInOnePlace-moves, cover-part, cover-name, other-stays}
 use Rattle.core_move.proofs.MoveBodies.{only-same, word-kept, BodiesAgree-moves}
@@ -397,3 +397,19 @@ pub GuardsHold-widen_high : (index : ℕ) → IsGuarded (MayWidenHigh index) (wi
 GuardsHold-widen_high index =
     guarded (MayWidenHigh index) (widen_high index)
     (λ core step a asked. guarded-widens fetch_max index core step a asked.node asked.child asked.side asked.names asked.may (max-wider asked.side (found_by core step) step.first step.second asked.is_high))
+
+-- ---- bounds only widen
+
+pub widen_low-widens : (index : ℕ) (nodes : Nodes) (before after : Core) → Steps (MayWidenLow index) (widen_low index) before after → BoundsOnlyWiden nodes before after
+widen_low-widens index nodes before after steps =
+    let step = steps.step in
+    let asked = steps.allowed.asked in
+    subst (BoundsOnlyWiden nodes before) (sym steps.result)
+    (λ n k q stands. side-widens (widen_low index) before step asked.node asked.child asked.side asked.names (min-wider asked.side (found_by before step) step.first step.second asked.is_low).word n k q)
+
+pub widen_high-widens : (index : ℕ) (nodes : Nodes) (before after : Core) → Steps (MayWidenHigh index) (widen_high index) before after → BoundsOnlyWiden nodes before after
+widen_high-widens index nodes before after steps =
+    let step = steps.step in
+    let asked = steps.allowed.asked in
+    subst (BoundsOnlyWiden nodes before) (sym steps.result)
+    (λ n k q stands. side-widens (widen_high index) before step asked.node asked.child asked.side asked.names (max-wider asked.side (found_by before step) step.first step.second asked.is_high).word n k q)

@@ -1,6 +1,5 @@
 -- A move that has climbed from a location to the root has widened every bound on the way: so all of them contain the box.
-use Rattle.std.proofs.Common.{◌≡◌, ℕ, ◌+◌, ◌<◌, ◌≤◌, Option, refl, sym, ◌∙◌, subst, arith}
-use Rattle.word_map.specs.declared.name.Name.TheVariants.{Bound, Parent}
+use Rattle.std.proofs.Common.{◌≡◌, ℕ, ◌+◌, Option, subst, arith}
 use Rattle.core_state.specs.declared.view.Call.{Call}
 use Rattle.core_state.specs.declared.view.Rebuild.{Rebuild}
 use Rattle.core_state.specs.Encoding.{Sides, Covers, bound_in, place}

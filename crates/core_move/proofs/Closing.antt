@@ -1,9 +1,8 @@
 -- What the pass of a move knows of the way up closes: where it has climbed from a location to the root, every bound there
 -- contains its target; and at the end of a move the box that the body then has.
-use Rattle.std.proofs.Common.{◌≡◌, ℕ, List, refl, ap, sym, ◌∙◌, subst}
+use Rattle.std.proofs.Common.{◌≡◌, ℕ, List, refl, ap, sym, subst}
 use Rattle.std.specs.Prelude.{option_map}
 use Rattle.fixed_box.specs.FixBox.{words_of}
-use Rattle.word_map.specs.declared.name.Name.TheVariants.{BoxWord}
 use Rattle.core_state.specs.declared.view.Task.{Task}
 use Rattle.core_state.specs.declared.view.Task.TheVariants.{Moving}
 use Rattle.core_state.specs.declared.view.Call.{Call}

@@ -1,19 +1,17 @@
 -- The law of cover reads of bodies their creation, layer and phase: so it holds with a longer history in which these are the
 -- same.
 use Rattle.std.proofs.Common.{◌≡◌, ℕ, ◌≤◌, List, Option, Some, None, length, refl, ap, sym, ◌∙◌, subst, arith}
-use Rattle.std.specs.Prelude.{IsSomeAnd, Contains}
+use Rattle.std.specs.Prelude.{IsSomeAnd}
 use Rattle.std.proofs.lemmas.Option.{same_Some, none-some}
-use Rattle.scene_model.specs.declared.body_view.Phase.TheVariants.{In}
 use Rattle.scene_model.specs.declared.entry.Made.{Made}
 use Rattle.scene_model.specs.Scene.{Record, record_at}
 use Rattle.scene_model.specs.History.{scene_after}
 use Rattle.core_state.specs.declared.view.Noted.{Noted}
-use Rattle.core_state.specs.declared.view.Rebuild.{Rebuild}
 use Rattle.core_state.specs.Encoding.{Sides, sides_of}
 use Rattle.core_state.specs.Nodes.{Nodes, IsOfLayer}
 use Rattle.core_state.specs.Scope.{Sight, scene_in}
 use Rattle.core_state.specs.Space.{HadAs}
-use Rattle.core_state.specs.BodiesCovered.{BodiesCoveredIn, IsCovered, LooksAsNoted, IsAsNoted}
+use Rattle.core_state.specs.BodiesCovered.{BodiesCoveredIn, IsAsNoted}
 use Rattle.core_guard.proofs.Leaving.{if_some_map}
 
 -- a body that is of the same creation, layer and phase

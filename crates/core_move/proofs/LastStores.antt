@@ -1,13 +1,12 @@
 -- Storing the last box word ends a move: the body has the box that its words say, and all bounds from its locations up contain
 -- it. The side that the move was about to give counts for the layer from then on as one that the body had.
-use Rattle.std.proofs.Common.{◌≡◌, ◌≢◌, ◌⊎◌, ℕ, ◌+◌, ◌<◌, ◌≤◌, List, [], ◌∷◌, ◌++◌, Bool, true, false, length, option_map, Option, Some, None, Contains, IsNone, refl, ap, sym, ◌∙◌, subst, inl, inr, arith, eq-eqb}
-use Rattle.std.specs.Prelude.{slice_index, IsSomeAnd, IfSome}
+use Rattle.std.proofs.Common.{◌≡◌, ◌≢◌, ◌⊎◌, ℕ, ◌+◌, ◌<◌, ◌≤◌, List, [], ◌∷◌, ◌++◌, false, length, option_map, Option, Some, None, Contains, refl, ap, sym, ◌∙◌, subst, inl, inr, arith, eq-eqb}
+use Rattle.std.specs.Prelude.{slice_index, IfSome}
 use Rattle.std.proofs.lemmas.Bool.{false≢true, cases_eq, ne_eqb}
 use Rattle.std.proofs.lemmas.Option.{same_Some}
 use Rattle.fixed_box.specs.FixBox.{words_of}
 use Rattle.fixed_box.specs.declared.fix_box.FixBox.{FixBox}
 use Rattle.scene_model.specs.declared.body_view.Phase.TheVariants.{Out, Held, In}
-use Rattle.scene_model.specs.declared.entry.Entry.{Entry}
 use Rattle.scene_model.specs.declared.entry.Entry.TheVariants.{Move}
 use Rattle.scene_model.specs.declared.entry.Made.{Made}
 use Rattle.scene_model.specs.Scene.{Scene, Place, Record, place_at, record_at}
@@ -20,7 +19,6 @@ use Rattle.core_state.specs.declared.item.Load.{Load}
 use Rattle.core_state.specs.declared.item.Store.{Store}
 use Rattle.core_state.specs.declared.view.Noted.{Noted}
 use Rattle.core_state.specs.declared.view.Rebuild.{Rebuild}
-use Rattle.core_state.specs.declared.view.Task.{Task}
 use Rattle.core_state.specs.declared.view.Task.TheVariants.{Nothing, Moving}
 use Rattle.core_state.specs.declared.view.Call.{Call}
 use Rattle.core_state.specs.declared.view.View.{View}
@@ -28,19 +26,18 @@ use Rattle.core_state.specs.View.{known_word}
 use Rattle.core_state.specs.Log.{history}
 use Rattle.core_state.specs.Core.{Core, word_of, scene_of, IsViewAt}
 use Rattle.core_state.specs.Kind.{Kind, Step, log_after, after_step}
-use Rattle.core_state.specs.Encoding.{Sides, sides_of, IsBox, layer_of}
+use Rattle.core_state.specs.Encoding.{sides_of, IsBox, layer_of}
 use Rattle.core_state.specs.Bodies.{state_word, free_indexes}
 use Rattle.core_state.specs.Moving.{IsSettled, StoresBox, as_target, as_body_out, box_with_last, move_of, MayStoreLastSide, store_last_side}
 use Rattle.core_state.specs.Nodes.{Nodes, Stands, node_in}
-use Rattle.core_state.specs.Parts.{call_on_places, update_on_cover, update_on_readers}
-use Rattle.core_state.specs.Scope.{Scope, Sight, sight, bare_view}
-use Rattle.core_state.specs.Space.{IsTarget, IsComing, IsInLayer, HadInLayer, HadAs}
-use Rattle.core_state.specs.TreesSound.{TreesSound, TreesSoundIn, tree_scope}
-use Rattle.core_state.specs.LocationsHold.{LocationsHold, location_scope, IsLocation, IsAt, Encloses, box_in}
-use Rattle.core_state.specs.BodiesAgree.{BodiesAgree, body_scope, HasWordsOf}
+use Rattle.core_state.specs.Parts.{update_on_cover, update_on_readers}
+use Rattle.core_state.specs.Scope.{Scope, Sight, sight}
+use Rattle.core_state.specs.Space.{IsTarget, IsComing, IsInLayer, HadAs}
+use Rattle.core_state.specs.TreesSound.{TreesSoundIn, tree_scope}
+use Rattle.core_state.specs.LocationsHold.{LocationsHold, location_scope, IsLocation, IsAt, Encloses}
+use Rattle.core_state.specs.BodiesAgree.{BodiesAgree, HasWordsOf}
 use Rattle.core_state.specs.BodiesCovered.{BodiesCovered, BodiesCoveredIn, NotesHold, cover_scope}
-use Rattle.core_state.specs.WalksLead.{WalksLead}
-use Rattle.core_state.specs.ReadersCounted.{ReadersCounted, IsSideOf, reader_scope}
+use Rattle.core_state.specs.ReadersCounted.{IsSideOf, reader_scope}
 use Rattle.core_state.specs.Invariants.{Invariants}
 use Rattle.core_state.proofs.Beginning.{body_record, record_body, last_point}
 use Rattle.core_state.proofs.Boxes.{box_of-words}
@@ -54,7 +51,7 @@ use Rattle.core_guard.proofs.CoverLeft.{had_as-grown}
 use Rattle.core_guard.proofs.FreeIndexes.{free-change}
 use Rattle.core_guard.proofs.Growing.{length-grown}
 use Rattle.core_guard.proofs.Holders.{IsGuarded, guarded}
-use Rattle.core_guard.proofs.Leaving.{Acts, After, Last, Leaves, leaves-same, stands-in_tree}
+use Rattle.core_guard.proofs.Leaving.{Acts, After, Leaves, leaves-same, stands-in_tree}
 use Rattle.core_guard.proofs.OneBody.{history-made, scene-made, lawful-made}
 use Rattle.core_guard.proofs.PlacesLeft.{SeenUpdate, body_anew}
 use Rattle.core_guard.proofs.PlacesStay.{PassIsPlaced, encloses-forth}
@@ -66,7 +63,7 @@ use Rattle.core_guard.proofs.WalksLeft.{WalksLead-leaves}
 use Rattle.core_move.proofs.Climbing.{climbed-encloses}
 use Rattle.core_move.proofs.CoverMoved.{IsAlike, a_body, alike-same, layer-forth, creation-forth, cover-moved}
 use Rattle.core_move.proofs.MoveSteps.{IsUnderWay, has_begun, begins_now, is_move_word, IsOfMove, under_way-placed, locations, reader-word, location-back, LocationsHold-moves, LocksAgree-moves, NodesInOnePlace-moves, cover-part, cover-name}
-use Rattle.core_move.proofs.MoveBodies.{OnlyChanges, New, word-kept, BodiesAgree-moves}
+use Rattle.core_move.proofs.MoveBodies.{New, word-kept, BodiesAgree-moves}
 use Rattle.core_move.proofs.Reboxed.{out-nowhere, located-stands, in_or_out-unheld, reboxed}
 use Rattle.core_move.proofs.SideStores.{IsKnownAs, known, known_in, known_out, location-known, in_or_out, under-climbed, box-guarded}
 use Rattle.core_move.proofs.WidenSteps.{under-task, under-target}

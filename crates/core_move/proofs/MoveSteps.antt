@@ -1,11 +1,10 @@
 -- What the steps of a move leave: locks, the places of nodes, all other bodies, and what the move itself has done so far.
-use Rattle.std.proofs.Common.{◌≡◌, ◌≢◌, ◌⊎◌, ℕ, ◌<◌, ◌≤◌, List, [], ◌∷◌, ◌++◌, Bool, true, false, length, Option, Some, None, option_map, refl, ap, sym, ◌∙◌, subst, inl, inr, arith}
-use Rattle.std.specs.Prelude.{⊤, Contains, slice_index}
+use Rattle.std.proofs.Common.{◌≡◌, ◌≢◌, ℕ, ◌<◌, ◌≤◌, List, [], ◌∷◌, ◌++◌, Bool, true, false, Option, Some, None, option_map, refl, ap, sym, ◌∙◌, subst, inl, inr, arith}
+use Rattle.std.specs.Prelude.{⊤}
 use Rattle.std.proofs.lemmas.Bool.{cases_eq, false≢true}
 use Rattle.std.proofs.lemmas.List.Elements.{Contains-append_cases}
-use Rattle.std.proofs.lemmas.Option.{none-some, same_Some}
 use Rattle.scene_model.specs.declared.body_view.Phase.TheVariants.{Held}
-use Rattle.scene_model.specs.Scene.{Record, record_at}
+use Rattle.scene_model.specs.Scene.{record_at}
 use Rattle.scene_model.specs.Step.{HasBody}
 use Rattle.word_map.specs.declared.config.Config.{Config}
 use Rattle.word_map.specs.declared.name.Name.{Name}
@@ -21,9 +20,9 @@ use Rattle.core_state.specs.declared.view.Rebuild.{Rebuild}
 use Rattle.core_state.specs.declared.view.View.{View}
 use Rattle.core_state.specs.View.{IsPass, Holds}
 use Rattle.core_state.specs.Core.{Core, word_of, scene_of, IsViewAt}
-use Rattle.core_state.specs.Kind.{Kind, Step, log_after, view_after, after_step}
-use Rattle.core_state.specs.Moving.{IsSettled, HasComeTo, at_start, by_parent}
-use Rattle.core_state.specs.Nodes.{Nodes, Home, Stands, Above, here, higher}
+use Rattle.core_state.specs.Kind.{Kind, Step, log_after, after_step}
+use Rattle.core_state.specs.Moving.{HasComeTo, at_start, by_parent}
+use Rattle.core_state.specs.Nodes.{Nodes, Stands, Above, here, higher}
 use Rattle.core_state.specs.Encoding.{place}
 use Rattle.core_state.specs.Parts.{call_at, call_by_task, call_on_places, task_on_pool, task_on_cover, update_on_nodes, update_on_cover}
 use Rattle.core_state.specs.Frame.{IsOutside}
@@ -33,17 +32,16 @@ use Rattle.core_state.specs.Bodies.{MovesBody}
 use Rattle.core_state.specs.LocksAgree.{LocksAgree, lock_scope}
 use Rattle.core_state.specs.BodiesAgree.{body_scope, ChangesList, IsUnderStripe}
 use Rattle.core_state.specs.NodesInOnePlace.{NodesInOnePlace, NodesInOnePlaceIn, node_scope}
-use Rattle.core_state.specs.TreesSound.{tree_scope}
 use Rattle.core_state.specs.BodiesCovered.{cover_scope}
-use Rattle.core_state.specs.LocationsHold.{LocationsHold, location_scope, is_location_store, Removes, IsLocation, IsWidened, IsUnheld, ClimbsFrom}
+use Rattle.core_state.specs.LocationsHold.{LocationsHold, location_scope, is_location_store, Removes, IsLocation, IsWidened, ClimbsFrom}
 use Rattle.core_state.proofs.Beginning.{above-more}
 use Rattle.core_state.proofs.Forming.{unspent_pass}
 use Rattle.core_state.proofs.Frames.{frame, step-same}
 use Rattle.core_state.proofs.Opening.{only, none_in}
 use Rattle.core_state.proofs.Steps.{word-step-other}
 use Rattle.core_guard.proofs.Alone.{lock-alone}
-use Rattle.core_guard.proofs.BodyTouch.{body_of, handled-stripe, other-word, location-words, held-kept}
-use Rattle.core_guard.proofs.Leaving.{Acts, lawful, After, Last, Stays, Leaves, LeadsWithin, sound-leads, IsHandled, as_before-same, stands-in_tree}
+use Rattle.core_guard.proofs.BodyTouch.{body_of, handled-stripe, location-words, held-kept}
+use Rattle.core_guard.proofs.Leaving.{Acts, lawful, After, Last, Stays, Leaves, LeadsWithin, IsHandled, as_before-same, stands-in_tree}
 use Rattle.core_guard.proofs.LockSteps.{LocksAgree-other}
 use Rattle.core_guard.proofs.PlacesLeft.{SeenUpdate, BodyLeft, body_stays, pass_anew, LocationsHold-leaves}
 use Rattle.core_guard.proofs.PlacesStay.{PassIsPlaced, acting, pass-placed, up-stood, up-forth}

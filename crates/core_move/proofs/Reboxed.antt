@@ -1,12 +1,10 @@
 -- A body that a move gives another box, or another box word: it stands where it stood.
-use Rattle.std.proofs.Common.{◌≡◌, ◌≢◌, ◌⊎◌, ◌↔◌, ℕ, ◌<◌, ◌≤◌, length, Option, Some, None, Contains, refl, ap, sym, ◌∙◌, subst, inl, inr, arith}
-use Rattle.std.specs.Prelude.{IsNone, IsSomeAnd}
+use Rattle.std.proofs.Common.{◌≡◌, ◌≢◌, ◌⊎◌, ◌↔◌, ℕ, ◌≤◌, length, Some, refl, ap, sym, ◌∙◌, subst, inl, inr, arith}
 use Rattle.std.proofs.lemmas.Bool.{cases_eq}
 use Rattle.std.proofs.lemmas.Option.{same_Some}
 use Rattle.fixed_box.specs.declared.fix_box.FixBox.{FixBox}
 use Rattle.scene_model.specs.declared.body_view.Phase.TheVariants.{Out, Held, In}
 use Rattle.scene_model.specs.Scene.{Record, record_at}
-use Rattle.scene_model.specs.Step.{HasBody}
 use Rattle.word_map.specs.declared.name.Name.TheVariants.{LocA, LocB}
 use Rattle.core_state.specs.declared.view.Task.{Task}
 use Rattle.core_state.specs.declared.view.Call.{Call}
@@ -24,7 +22,7 @@ use Rattle.core_state.proofs.Lookups.{at_one}
 use Rattle.core_guard.proofs.BodyTouch.{removes-handled}
 use Rattle.core_guard.proofs.Leaving.{Acts, After, Last, Leaves, IsIdle, idle-unhandled}
 use Rattle.core_guard.proofs.PlacesLeft.{IsAnew, anew-in-place}
-use Rattle.core_guard.proofs.PlacesStay.{BodyIsPlaced, removes-seen, places-seen, update-forth, seen-task, removes-handles}
+use Rattle.core_guard.proofs.PlacesStay.{places-seen, update-forth, seen-task, removes-handles}
 use Rattle.core_guard.proofs.Scenes.{none_here}
 use Rattle.core_guard.proofs.Seats.{has-seat, has-step}
 use Rattle.core_move.proofs.MoveSteps.{IsOfMove, move-removes, move-places, last-after, other-alone, locations, phase-word}

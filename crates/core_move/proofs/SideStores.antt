@@ -1,9 +1,9 @@
 -- Storing a box word in a move keeps all laws: of a body in the broad phase every bound from its locations up contains the new
 -- box, and contained the old one; one that is out stands in no tree.
-use Rattle.std.proofs.Common.{◌≡◌, ◌≢◌, ◌⊎◌, ℕ, ◌+◌, ◌<◌, ◌≤◌, ◌||◌, List, [], ◌∷◌, ◌++◌, Bool, true, false, length, option_map, Option, Some, None, refl, ap, sym, ◌∙◌, subst, inl, inr, arith}
-use Rattle.std.specs.Prelude.{slice_index, IsSomeAnd, IfSome}
-use Rattle.std.proofs.lemmas.Bool.{false≢true, cases_eq}
-use Rattle.std.proofs.lemmas.Option.{none-some, same_Some}
+use Rattle.std.proofs.Common.{◌≡◌, ◌≢◌, ◌⊎◌, ℕ, ◌+◌, ◌<◌, ◌≤◌, ◌||◌, List, [], ◌∷◌, ◌++◌, Bool, true, false, length, option_map, Option, Some, None, refl, ap, sym, ◌∙◌, subst, inl, inr}
+use Rattle.std.specs.Prelude.{slice_index, IsSomeAnd}
+use Rattle.std.proofs.lemmas.Bool.{cases_eq}
+use Rattle.std.proofs.lemmas.Option.{same_Some}
 use Rattle.scene_model.specs.declared.body_view.Phase.TheVariants.{Out, Held, In}
 use Rattle.scene_model.specs.Scene.{Record, record_at}
 use Rattle.scene_model.specs.Step.{HasBody}
@@ -20,7 +20,7 @@ use Rattle.core_state.specs.declared.view.View.{View}
 use Rattle.core_state.specs.Log.{history}
 use Rattle.core_state.specs.Core.{Core, word_of, scene_of}
 use Rattle.core_state.specs.Kind.{Kind, Step, log_after, learned, after_step}
-use Rattle.core_state.specs.Encoding.{Sides, sides_of, Covers, bound_in, layer_of}
+use Rattle.core_state.specs.Encoding.{Sides, sides_of, layer_of}
 use Rattle.core_state.specs.Guards.{KeepsGuards}
 use Rattle.core_state.specs.Bodies.{is_box_word, has_box_word, MovesBody, IsBetweenBoxes}
 use Rattle.core_state.specs.Moving.{IsSettled, IsKnownLocation, HasClimbed, IsWidenedFor, IsOutToMove, StoresSide, of_target, of_body_out, MayStoreSide, side_stored_by, store_side}
@@ -33,14 +33,14 @@ use Rattle.core_state.specs.LocationsHold.{LocationsHold, location_scope, IsLoca
 use Rattle.core_state.specs.BodiesAgree.{BodiesAgree, body_scope}
 use Rattle.core_state.specs.BodiesCovered.{BodiesCoveredIn, cover_scope}
 use Rattle.core_state.specs.WalksLead.{WalksLeadIn, walk_scope}
-use Rattle.core_state.specs.ReadersCounted.{ReadersCounted, ClimbsInTrees, reader_scope}
+use Rattle.core_state.specs.ReadersCounted.{ClimbsInTrees, reader_scope}
 use Rattle.core_state.specs.Invariants.{Invariants}
 use Rattle.core_state.proofs.Beginning.{body_record, record_body}
 use Rattle.core_state.proofs.Frames.{frame, step-same, step-history}
 use Rattle.core_state.proofs.Steps.{word-step, word-step-other, view-step}
 use Rattle.core_guard.proofs.BodiesStep.{phase-kept}
 use Rattle.core_guard.proofs.BodyTouch.{body_of}
-use Rattle.core_guard.proofs.Leaving.{Acts, After, Last, Leaves, LeadsWithin, sound-leads, leaves-same, scene-plain, held-once, stands-in_tree}
+use Rattle.core_guard.proofs.Leaving.{Acts, After, Last, Leaves, sound-leads, leaves-same, scene-plain, held-once, stands-in_tree}
 use Rattle.core_guard.proofs.PlacesLeft.{SeenUpdate, body_anew}
 use Rattle.core_guard.proofs.PlacesStay.{PassIsPlaced, encloses-forth}
 use Rattle.core_guard.proofs.ReadersLeft.{some-all, Counts, KeepsTargets, climb-forth, layers-kept, gives-kept, ReadersCounted-leaves}
@@ -51,7 +51,7 @@ use Rattle.core_guard.proofs.Holders.{keeps, unlocked, IsGuarded, guarded}
 use Rattle.core_guard.proofs.LivesGuarded.{unmade, unmarked}
 use Rattle.core_guard.proofs.Scenes.{none_here}
 use Rattle.core_move.proofs.Climbing.{climbed-encloses}
-use Rattle.core_move.proofs.MoveSteps.{IsUnderWay, has_begun, begins_now, IsMoveTask, is_move_word, IsOfMove, above-home, under_way-placed, same-call, locations, reader-word, location-back, LocationsHold-moves, stores-placed, LocksAgree-moves, NodesInOnePlace-moves, cover-part, cover-name}
+use Rattle.core_move.proofs.MoveSteps.{IsUnderWay, has_begun, begins_now, is_move_word, IsOfMove, above-home, under_way-placed, same-call, locations, reader-word, location-back, LocationsHold-moves, stores-placed, LocksAgree-moves, NodesInOnePlace-moves, cover-part}
 use Rattle.core_move.proofs.MoveBodies.{only-same, word-kept, BodiesAgree-moves}
 use Rattle.core_move.proofs.Reboxed.{out-nowhere, located-stands, in_or_out-unheld, reboxed}
 use Rattle.core_move.proofs.WidenSteps.{under-task, under-target}

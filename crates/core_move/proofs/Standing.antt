@@ -1,22 +1,21 @@
 -- Where a body in the broad phase stands: its locations are in trees of its layer, or in a new one, at the place that the
 -- update planned for it.
-use Rattle.std.proofs.Common.{◌≡◌, ◌≢◌, ◌⊎◌, ℕ, ◌<◌, ◌≤◌, true, length, Option, Some, None, Contains, refl, ap, sym, ◌∙◌, subst, inl, inr, arith}
+use Rattle.std.proofs.Common.{◌≡◌, ℕ, ◌<◌, ◌≤◌, true, length, Option, Some, None, Contains, refl, ap, sym, ◌∙◌, subst, inl, inr, arith}
 use Rattle.std.specs.Prelude.{IfSome, IsSomeAnd, option_map}
 use Rattle.std.proofs.lemmas.Bool.{cases_lt}
 use Rattle.std.proofs.lemmas.Option.{same_Some}
 use Rattle.scene_model.specs.declared.body_view.Phase.TheVariants.{In}
 use Rattle.scene_model.specs.Scene.{Record, record_at}
-use Rattle.word_map.specs.declared.name.Name.{Name}
-use Rattle.word_map.specs.declared.name.Name.TheVariants.{LocA, LocB, Main, Slot}
+use Rattle.word_map.specs.declared.name.Name.TheVariants.{LocB, Main}
 use Rattle.core_state.specs.declared.view.Noted.{Noted}
 use Rattle.core_state.specs.declared.view.Rebuild.{Rebuild}
 use Rattle.core_state.specs.declared.view.View.{View}
 use Rattle.core_state.specs.View.{IsPass}
 use Rattle.core_state.specs.Core.{Core, word_of, scene_of, IsViewAt}
 use Rattle.core_state.specs.Encoding.{place}
-use Rattle.core_state.specs.Nodes.{Nodes, Home, made, under, IsLive, Stands, IsOfLayer}
+use Rattle.core_state.specs.Nodes.{Nodes, Home, made, under, IsLive, IsOfLayer}
 use Rattle.core_state.specs.Parts.{update_on_places}
-use Rattle.core_state.specs.Scope.{Sight, sight, scene_in}
+use Rattle.core_state.specs.Scope.{Sight, sight}
 use Rattle.core_state.specs.Updates.{IsNoted, IsSameBody}
 use Rattle.core_state.specs.LocationsHold.{LocationsHold, location_scope, IsLocation, IsWhere, in_slot, in_main, in_old, in_merged, IsSecondFor, IsPlannedAt, IsPublishedAt}
 use Rattle.core_state.proofs.Beginning.{body_record}

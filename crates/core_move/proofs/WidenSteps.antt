@@ -1,8 +1,7 @@
 -- The laws after a side was widened in a move: its place is above a location of the body, and the side counts for the layer
 -- since the move has come to it.
-use Rattle.std.proofs.Common.{◌≡◌, ◌≢◌, ◌⊎◌, ℕ, suc, ◌<◌, ◌≤◌, List, [], ◌∷◌, ◌++◌, Bool, true, false, length, Option, Some, None, Contains, refl, ap, sym, ◌∙◌, subst, inl, inr, arith}
-use Rattle.std.specs.Prelude.{slice_index, IsSomeAnd, IfSome, option_map}
-use Rattle.std.proofs.lemmas.Bool.{false≢true}
+use Rattle.std.proofs.Common.{◌≡◌, ◌≢◌, ◌⊎◌, ℕ, ◌<◌, List, [], ◌∷◌, ◌++◌, true, length, Option, Some, None, refl, ap, sym, ◌∙◌, subst, inl, inr, arith}
+use Rattle.std.specs.Prelude.{IsSomeAnd, IfSome, option_map}
 use Rattle.std.proofs.lemmas.Option.{none-some, same_Some}
 use Rattle.scene_model.specs.declared.body_view.Phase.TheVariants.{Held, In}
 use Rattle.scene_model.specs.Scene.{Record, record_at}
@@ -13,9 +12,8 @@ use Rattle.word_map.specs.Names.{IsName}
 use Rattle.core_state.specs.declared.item.Load.{Load}
 use Rattle.core_state.specs.declared.item.Store.{Store}
 use Rattle.core_state.specs.declared.view.Task.{Task}
-use Rattle.core_state.specs.declared.view.Task.TheVariants.{Nothing, Moving}
+use Rattle.core_state.specs.declared.view.Task.TheVariants.{Moving}
 use Rattle.core_state.specs.declared.view.Call.{Call}
-use Rattle.core_state.specs.declared.view.Noted.{Noted}
 use Rattle.core_state.specs.declared.view.Rebuild.{Rebuild}
 use Rattle.core_state.specs.declared.view.View.{View}
 use Rattle.core_state.specs.View.{IsPass}
@@ -29,7 +27,7 @@ use Rattle.core_state.specs.Bodies.{is_box_word, has_box_word, MovesBody, IsBetw
 use Rattle.core_state.specs.Moving.{IsKnownLocation, side_in, MayWiden, MayWidenLow, MayWidenHigh, widen_low, widen_high}
 use Rattle.core_state.specs.Nodes.{Nodes, Home, made, under, superseded, IsLive, Stands, IsOfLayer, Above}
 use Rattle.core_state.specs.Parts.{task_at_place, update_on_readers}
-use Rattle.core_state.specs.Scope.{Sight, sight, scene_in, HasPass}
+use Rattle.core_state.specs.Scope.{Sight, sight}
 use Rattle.core_state.specs.Space.{IsTarget, IsComing, IsInLayer}
 use Rattle.core_state.specs.Updates.{IsNoted, IsSameBody}
 use Rattle.core_state.specs.TreesSound.{BoundsOnlyWiden, tree_scope}
@@ -45,15 +43,15 @@ use Rattle.core_guard.proofs.Holders.{keeps, IsGuarded, guarded}
 use Rattle.core_guard.proofs.Touched.{IsKept, kept}
 use Rattle.core_guard.proofs.Leaving.{Acts, After, Last, Stays, as_before-same, Leaves, LeadsWithin, sound-leads, scene-plain, above-forth, held-once}
 use Rattle.core_guard.proofs.PlacesLeft.{SeenUpdate, body_stays}
-use Rattle.core_guard.proofs.PlacesStay.{PassIsPlaced, acting, encloses-forth}
+use Rattle.core_guard.proofs.PlacesStay.{PassIsPlaced, encloses-forth}
 use Rattle.core_guard.proofs.ReadersLeft.{Counts, TightSide, KeepsTargets, climb-forth, layers-kept, gives-kept, ReadersCounted-leaves}
 use Rattle.core_guard.proofs.Seats.{each-seats, seat-has}
 use Rattle.core_guard.proofs.Settled.{StandsStill, settled-still}
 use Rattle.core_guard.proofs.BodiesStep.{words-kept, unstored}
 use Rattle.core_guard.proofs.Unowned.{view-once, stands-unowned}
 use Rattle.core_guard.proofs.WidenedBound.{WidensBound, as_it_was, is_widened, side-after, side-widens, widened-leaves, TreesSound-widens, WalksLead-widens}
-use Rattle.core_move.proofs.Standing.{IsInLayerAt, in_tree, in_new_tree, IsPlannedBy, in-layer}
-use Rattle.core_move.proofs.MoveSteps.{move-removes, move-places, last-after, IsUnderWay, has_begun, begins_now, IsMoveTask, IsOfMove, above-home, come-up, under_way-placed, is_move_word, same-call, locations, reader-word, location-back, LocationsHold-moves, stores-placed, LocksAgree-moves, NodesInOnePlace-moves, cover-part, cover-name, other-stays}
+use Rattle.core_move.proofs.Standing.{IsInLayerAt, in_tree, in_new_tree, in-layer}
+use Rattle.core_move.proofs.MoveSteps.{move-removes, move-places, last-after, IsUnderWay, has_begun, begins_now, IsMoveTask, IsOfMove, above-home, come-up, under_way-placed, is_move_word, same-call, locations, reader-word, location-back, LocationsHold-moves, stores-placed, LocksAgree-moves, NodesInOnePlace-moves, cover-part, cover-name}
 use Rattle.core_move.proofs.MoveBodies.{only-same, word-kept, BodiesAgree-moves}
 use Rattle.core_move.proofs.Widening.{IsWider, min-wider, max-wider, widening, new_store, Goes, goes, box-more}
 use Rattle.core_guard.proofs.BodyTouch.{body_of}

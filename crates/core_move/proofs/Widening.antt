@@ -1,29 +1,23 @@
 -- Widening a side of a bound in a move keeps all laws, a low side and a high one alike: the side counts for the layer from
 -- then on, since the move has come to it, and its place is above a location of the body.
-use Rattle.std.proofs.Common.{◌≡◌, ◌≢◌, ◌⊎◌, ℕ, ◌<◌, ◌≤◌, ◌==◌, List, [], ◌∷◌, ◌++◌, Bool, true, false, cond, length, Option, Some, None, min, max, refl, ap, sym, ◌∙◌, subst, inl, inr, arith, eq-eqb}
-use Rattle.std.specs.Prelude.{slice_index, IsSomeAnd, IfSome, Contains, ◌||◌, option_map}
-use Rattle.std.proofs.lemmas.Bool.{false≢true, cases_lt, ne_eqb}
+use Rattle.std.proofs.Common.{◌≡◌, ◌⊎◌, ℕ, ◌<◌, ◌≤◌, List, [], ◌∷◌, ◌++◌, Bool, false, length, None, min, max, refl, ap, sym, ◌∙◌, subst, inl, inr, arith, eq-eqb}
+use Rattle.std.specs.Prelude.{slice_index, ◌||◌}
+use Rattle.std.proofs.lemmas.Bool.{cases_lt, ne_eqb}
 use Rattle.std.proofs.Math.Nat.{min-le_left, min-le_right, min-eq_left, min-eq_right, le-max_left, le-max_right, max-eq_left, max-eq_right}
 use Rattle.std.proofs.Math.ListN.{get_or-append}
 use Rattle.std.proofs.lemmas.List.{length-append, get_or_push}
-use Rattle.scene_model.specs.declared.body_view.Phase.TheVariants.{Held, In}
-use Rattle.scene_model.specs.Scene.{Record, record_at}
-use Rattle.scene_model.specs.Step.{HasBody}
-use Rattle.word_map.specs.declared.name.Name.{Name}
-use Rattle.word_map.specs.declared.name.Name.TheVariants.{LocA, LocB, BoxWord, Bound, Layer, User, Phase, Slot}
-use Rattle.word_map.specs.Names.{IsName}
+use Rattle.word_map.specs.declared.name.Name.TheVariants.{Bound}
 use Rattle.core_state.specs.declared.item.Load.{Load}
 use Rattle.core_state.specs.declared.item.Store.{Store}
 use Rattle.core_state.specs.declared.view.Task.{Task}
-use Rattle.core_state.specs.declared.view.Task.TheVariants.{Nothing, Moving}
+use Rattle.core_state.specs.declared.view.Task.TheVariants.{Moving}
 use Rattle.core_state.specs.declared.view.Call.{Call}
 use Rattle.core_state.specs.declared.view.View.{View}
-use Rattle.core_state.specs.Core.{Core, word_of, scene_of}
+use Rattle.core_state.specs.Core.{Core}
 use Rattle.core_state.specs.Operation.{Operation, fetch_min, fetch_max, result_of}
-use Rattle.core_state.specs.Kind.{Kind, Step, found_by, left_by, log_after, learned, after_step}
-use Rattle.core_state.specs.Encoding.{place}
-use Rattle.core_state.specs.Bodies.{is_box_word, has_box_word, MovesBody, IsBetweenBoxes}
-use Rattle.core_state.specs.Moving.{IsSettled, IsKnownLocation, HasComeTo, at_start, BeginsMove, IsSideOfTarget, an_old, the_next, GoesOnMoving, begins_move, goes_on_moving, MayWiden, target_with, side_in, widened_by}
+use Rattle.core_state.specs.Kind.{Kind, Step, log_after, learned}
+use Rattle.core_state.specs.Bodies.{is_box_word, has_box_word}
+use Rattle.core_state.specs.Moving.{IsKnownLocation, HasComeTo, at_start, BeginsMove, IsSideOfTarget, an_old, the_next, GoesOnMoving, begins_move, goes_on_moving, MayWiden, target_with, side_in, widened_by}
 use Rattle.core_guard.proofs.Leaving.{Last}
 use Rattle.core_move.proofs.MoveSteps.{IsUnderWay, has_begun, begins_now}
 

@@ -7,7 +7,7 @@ ghost use Rattle.core_state.specs.View.{IsPass};
 ghost use Rattle.core_state.specs.Core.{Core, IsViewAt};
 ghost use Rattle.core_state.specs.Kind.{Steps};
 ghost use Rattle.core_state.specs.Encoding.{sides_of};
-ghost use Rattle.core_state.specs.Moving.{MayWidenLow, widen_low, MayWidenHigh, widen_high, MayLoadParentMoving, load_parent_moving, MayStoreSide, store_side, MayStoreLastSide, store_last_side, HasClimbed};
+ghost use Rattle.core_state.specs.Moving.{MayWidenLow, widen_low, MayWidenHigh, widen_high, MayLoadParentMoving, load_parent_moving, MayStoreSide, store_side, MayStoreLastSide, store_last_side, HasWidened, HasClimbed};
 ghost use Rattle.core_state.specs.Formed.{IsFormed};
 ghost use Rattle.core_state.specs.Guards.{GuardsHold};
 ghost use Rattle.core_state.specs.Invariants.{Invariants};

@@ -1,7 +1,8 @@
 //! Moves keep the invariants.
 //!
 //! The crate has the proof that the kinds of step of a move of a body lead from a core that meets all invariants to one
-//! that does. Today this is the load of a parent, by which a move climbs.
+//! that does. A move widens the bounds from the locations of the body up to the roots, loads the parents on the way, and
+//! then stores the words of the new box.
 //!
 //! It stands on the core's definitions, and on what is proved of steps in general for the kinds on locks and bodies. The
 //! table of typed steps stands on it.

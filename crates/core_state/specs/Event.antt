@@ -13,6 +13,7 @@ use Rattle.core_state.specs.Batches.{MayLoadSlot, load_slot, MayReserve, reserve
 use Rattle.core_state.specs.Pool.{MayStorePoolLink, store_pool_link, MayStorePoolHead, store_pool_head, MayStorePoolCount, store_pool_count}
 use Rattle.core_state.specs.Walks.{MayBegin, begin_walk, MayEnd, end_walk, MayWalkSlot, walk_slot, MayWalkMain, walk_main, MayWalkChild, walk_child, MayWalkBound, walk_bound}
 use Rattle.core_state.specs.Moving.{MayLoadParentMoving, load_parent_moving}
+use Rattle.core_state.specs.Removing.{MayRemove, remove, MayClearEntry, clear_entry, MayClearLocation, clear_location}
 
 -- a step on a lock
 pub data LockEvent (before after : Core) : Type 0 where
@@ -66,6 +67,12 @@ pub data WalkEvent (before after : Core) : Type 0 where
 pub data MoveEvent (before after : Core) : Type 0 where
   loads_parent : (index : ℕ) → Steps (MayLoadParentMoving index) (load_parent_moving index) before after → MoveEvent before after
 
+-- a step of a removal
+pub data RemovalEvent (before after : Core) : Type 0 where
+  removes : Steps MayRemove remove before after → RemovalEvent before after
+  clears_entry : Steps MayClearEntry clear_entry before after → RemovalEvent before after
+  clears_location : Steps MayClearLocation clear_location before after → RemovalEvent before after
+
 -- one event leads from the one core to the other; docs/steps.md has the kinds by number
 pub data Event (before after : Core) : Type 0 where
   opens_pass : Opens before after → Event before after
@@ -79,6 +86,7 @@ pub data Event (before after : Core) : Type 0 where
   of_pool : PoolEvent before after → Event before after
   of_walks : WalkEvent before after → Event before after
   of_moves : MoveEvent before after → Event before after
+  of_removals : RemovalEvent before after → Event before after
 
 -- events one after the other
 pub data Run (first : Core) : Core → Type 0 where

@@ -35,3 +35,5 @@ pub mod Still
 pub mod Light
 pub mod CallsAgree
 pub mod PhaseAgree
+pub mod OutStill
+pub mod Recalled

@@ -96,7 +96,7 @@ task-seen (Removing index) i = ((λ h. h, λ h. h), (λ h. h, λ h. h))
 task-seen (Placing index) i = ((λ h. h, λ h. h), (λ h. h, λ h. h))
 
 -- an update has done with a body still, where nobody begins to place it
-still_done : (v w : View) (r : Rebuild) (i : ℕ) → (IsPlacing w.call.task i → IsPlacing v.call.task i) → IsDone v r i → IsDone w r i
+pub still_done : (v w : View) (r : Rebuild) (i : ℕ) → (IsPlacing w.call.task i → IsPlacing v.call.task i) → IsDone v r i → IsDone w r i
 still_done v w r i calm (inl t) = inl (t.0, λ places. t.1 (calm places))
 still_done v w r i calm (inr given) = inr given
 

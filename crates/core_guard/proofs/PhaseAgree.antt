@@ -36,7 +36,7 @@ state-phase phase p = go p.body refl
     go None e = rw e refl
     go (Some r) e = rw e refl
 
-abbrev phase_index : Name → ℕ
+abbrev pub phase_index : Name → ℕ
 phase_index (Phase i) = i
 phase_index _ = 0
 

@@ -1,2 +1,3 @@
 pub mod ParentLoads
 pub mod Keeping
+pub mod PhaseStores

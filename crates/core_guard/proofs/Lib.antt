@@ -37,3 +37,4 @@ pub mod CallsAgree
 pub mod PhaseAgree
 pub mod OutStill
 pub mod Recalled
+pub mod Cleared

@@ -38,3 +38,4 @@ pub mod PhaseAgree
 pub mod OutStill
 pub mod Recalled
 pub mod Cleared
+pub mod ClearedPlaces

@@ -44,14 +44,14 @@ abbrev pub cleared_in : Sight → (ℕ → ℕ → ℕ) → Sight
 cleared_in s c = record s { word = with_children s.word c }
 
 -- a child word that was the entry of the body is 0
-pub record IsGone (nodes : Nodes) (word : Name → ℕ) (c : ℕ → ℕ → ℕ) (i n k : ℕ) : Type 0 where
+pub record IsGone (nodes : Nodes) (old c : ℕ → ℕ → ℕ) (i n k : ℕ) : Type 0 where
   pub none : c n k ≡ 0
-  pub was : word (Child n k) ≡ body_child i
+  pub was : old n k ≡ body_child i
   pub stands : Stands (nodes.home n)
 
 -- and any other is what it was
 abbrev pub ClearsEntries : Nodes → (Name → ℕ) → (ℕ → ℕ → ℕ) → ℕ → Type 0
-ClearsEntries nodes word c i = (n k : ℕ) → (c n k ≡ word (Child n k)) ⊎ IsGone nodes word c i n k
+ClearsEntries nodes word c i = (n k : ℕ) → (c n k ≡ word (Child n k)) ⊎ IsGone nodes (λ n k. word (Child n k)) c i n k
 
 -- ways up are by parents alone
 pub above-same : (v w : Name → ℕ) → ((n : ℕ) → w (Parent n) ≡ v (Parent n)) → (n k a b : ℕ) → Above v n k a b → Above w n k a b
@@ -333,20 +333,26 @@ module _ (kind : Kind) (core : Core) (step : Step) (node child : ℕ) (names : s
       subst Law (sym (child-sight scope))
       (subst (λ (l : List View). Law (record (cleared_in (sight scope core) (children_in scope)) { passes = l })) (sym (passes-same scope kind core step a.at a.pass same)) h)
 
-  -- which is shown of the one child
+  -- a child is the one that is stored, or it is as before
+  pub child-where : (n k : ℕ) → ((n ≡ node) × (k ≡ child)) ⊎ (word_of (after_step kind core step) (Child n k) ≡ word_of core (Child n k))
+  child-where n k =
+      elim (cases_eq n node) [
+        | inl same ↦ elim (cases_eq k child) [
+          | inl too ↦ inl (same, too)
+          | inr apart ↦ inr (word-step-other kind core step (Child n k) (λ e. apart (ap child_of (e ∙ names))))
+        ]
+        | inr apart ↦ inr (word-step-other kind core step (Child n k) (λ e. apart (ap node_of (e ∙ names))))
+      ]
+
+  -- so what is said is shown of the one child
   abbrev IsSo : Nodes → ℕ → ℕ → ℕ → Type 0
-  IsSo nodes i n k = (word_of (after_step kind core step) (Child n k) ≡ word_of core (Child n k)) ⊎ IsGone nodes (word_of core) (λ n k. word_of (after_step kind core step) (Child n k)) i n k
+  IsSo nodes i n k = (word_of (after_step kind core step) (Child n k) ≡ word_of core (Child n k)) ⊎ IsGone nodes (λ n k. word_of core (Child n k)) (λ n k. word_of (after_step kind core step) (Child n k)) i n k
 
   pub child-clears : (nodes : Nodes) (i : ℕ) → word_of (after_step kind core step) (Child node child) ≡ 0 → (word_of core (Child node child) ≡ 0) ⊎ ((word_of core (Child node child) ≡ body_child i) × Stands (nodes.home node))
       → ClearsEntries nodes (word_of core) (λ n k. word_of (after_step kind core step) (Child n k)) i
   child-clears nodes i none was n k =
-      elim (cases_eq n node) [
-        | inl same ↦ elim (cases_eq k child) [
-          | inl too ↦ subst (λ (m : ℕ). IsSo nodes i m k) (sym same) (subst (IsSo nodes i node) (sym too) here)
-          | inr apart ↦ inl (word-step-other kind core step (Child n k) (λ e. apart (ap child_of (e ∙ names))))
-        ]
-        | inr apart ↦ inl (word-step-other kind core step (Child n k) (λ e. apart (ap node_of (e ∙ names))))
+      let here : IsSo nodes i node child = elim was [ inl e ↦ inl (none ∙ sym e) | inr t ↦ inr (record { none = none; was = t.0; stands = t.1 }) ] in
+      elim (child-where n k) [
+        | inl same ↦ subst (λ (m : ℕ). IsSo nodes i m k) (sym same.0) (subst (IsSo nodes i node) (sym same.1) here)
+        | inr kept ↦ inl kept
       ]
-    where
-      here : IsSo nodes i node child
-      here = elim was [ inl e ↦ inl (none ∙ sym e) | inr t ↦ inr (record { none = none; was = t.0; stands = t.1 }) ]

@@ -48,7 +48,7 @@ module _ (kind : Kind) (core : Core) (step : Step) (a : Acts core step) (i : ℕ
     pub places : (j : ℕ) → IsPlacing step.view.call.task j ↔ IsPlacing (Last kind core step).call.task j
     pub own : PassIsPlaced nodes End (call_on_places (Last kind core step).call) (SeenUpdate kind core step)
     -- an update that planned the entry has done with the body
-    pub done : EachUpdate Was (λ number view r. (noted : Noted) (n k : ℕ) → Contains r.noted noted → noted.index ≡ i → IsGone nodes Was.word c i n k → noted.place ≡ place n k → nodes.home n ≡ made number noted.layer
+    pub done : EachUpdate Was (λ number view r. (noted : Noted) (n k : ℕ) → Contains r.noted noted → noted.index ≡ i → IsGone nodes (λ n k. Was.word (Child n k)) c i n k → noted.place ≡ place n k → nodes.home n ≡ made number noted.layer
         → IsDone view r i)
 
   -- ---- what one pass says
@@ -147,7 +147,7 @@ module _ (kind : Kind) (core : Core) (step : Step) (a : Acts core step) (i : ℕ
     -- ---- what an update plans
 
     abbrev HasDone : ℕ → View → Rebuild → Type 0
-    HasDone number view r = (noted : Noted) (n k : ℕ) → Contains r.noted noted → noted.index ≡ i → IsGone nodes Was.word c i n k → noted.place ≡ place n k → nodes.home n ≡ made number noted.layer → IsDone view r i
+    HasDone number view r = (noted : Noted) (n k : ℕ) → Contains r.noted noted → noted.index ≡ i → IsGone nodes (λ n k. Was.word (Child n k)) c i n k → noted.place ≡ place n k → nodes.home n ≡ made number noted.layer → IsDone view r i
 
     planned-forth : (number : ℕ) (v w : View) (r : Rebuild) (noted : Noted) → ((j : ℕ) → IsPlacing v.call.task j ↔ IsPlacing w.call.task j) → HasDone number v r → Contains r.noted noted
         → IsPlannedAt nodes Was number v r noted → IsPlannedAt nodes End number w r noted

@@ -39,3 +39,5 @@ pub mod OutStill
 pub mod Recalled
 pub mod Cleared
 pub mod ClearedPlaces
+pub mod Unowned
+pub mod OneUpdate

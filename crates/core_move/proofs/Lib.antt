@@ -1,3 +1,5 @@
 pub mod ParentLoads
 pub mod Keeping
 pub mod PhaseStores
+pub mod Removers
+pub mod EntryStores

@@ -147,7 +147,7 @@ climbs-seen nodes s (Moving index target) h = h
 climbs-seen nodes s (Removing index) h = h
 climbs-seen nodes s _ h = tt
 
-climbs-was : (nodes : Nodes) (s : Sight) (task : Task) → ClimbsInTrees nodes s (task_at_place task) → ClimbsInTrees nodes s task
+pub climbs-was : (nodes : Nodes) (s : Sight) (task : Task) → ClimbsInTrees nodes s (task_at_place task) → ClimbsInTrees nodes s task
 climbs-was nodes s (Moving index target) h = h
 climbs-was nodes s (Removing index) h = h
 climbs-was nodes s _ h = tt

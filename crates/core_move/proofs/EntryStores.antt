@@ -52,7 +52,7 @@ use Rattle.core_guard.proofs.Unowned.{stands-unowned}
 use Rattle.core_move.proofs.Removers.{stripe, others-else, own-places, taken, body_out, known-location}
 
 -- one element more in a list
-last-or : {X : Type 0} (xs : List X) (x y : X) → Contains (xs ++ x ∷ []) y → Contains xs y ⊎ (x ≡ y)
+pub last-or : {X : Type 0} (xs : List X) (x y : X) → Contains (xs ++ x ∷ []) y → Contains xs y ⊎ (x ≡ y)
 last-or xs x y h = elim (Contains-append_cases xs (x ∷ []) y h) [ inl old ↦ inl old | inr new ↦ inr (only x y new) ]
 
 -- one store more, of no location

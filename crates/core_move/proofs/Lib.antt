@@ -3,3 +3,5 @@ pub mod Keeping
 pub mod PhaseStores
 pub mod Removers
 pub mod EntryStores
+pub mod LocationStores
+pub mod Removals

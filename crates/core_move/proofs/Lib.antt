@@ -5,3 +5,4 @@ pub mod Removers
 pub mod EntryStores
 pub mod LocationStores
 pub mod Removals
+pub mod NowhereThen

@@ -492,6 +492,17 @@ module _ (core : Core) (step : Step) (a : Acts core step) where
   second-which : (i : ℕ) → step.name ≡ LocB i → HasClearedEntries step.view i → known_word step.view (LocA i) ≡ 0 → Which core step i no_call
   second-which i names entries first = which_second names (first-known clear_location core step a i entries.task ∙ first) refl
 
+  -- with the second location the body is nowhere
+  pub ends-nowhere : (i : ℕ) → step.name ≡ LocB i → HasClearedEntries step.view i → known_word step.view (LocA i) ≡ 0 → step.first ≡ 0
+      → (word_of (After clear_location core step) (LocA i) ≡ 0) × (word_of (After clear_location core step) (LocB i) ≡ 0) × HasBody (scene_of (After clear_location core step)) i (λ r. r.phase ≡ Out)
+  ends-nowhere i names entries first none =
+      let recalls = second-recalls i names in
+      let which = second-which i names entries first in (
+        first-none core step a i entries none no_call recalls which,
+        ap (λ (n : Name). word_of (After clear_location core step) n) (sym names) ∙ stored core step a i entries none no_call recalls which,
+        out-after core step a i entries none no_call recalls which,
+      )
+
   -- no other pass has the stripe
   unstriped : (i : ℕ) → HasClearedEntries step.view i → (seat number : ℕ) (view : View) (mode : Mode) → seat ≢ step.seat → IsViewAt core seat view → IsPass view number → ¬ Holds view (stripe_of core.config i) mode
   unstriped i entries seat number view mode apart found is holds =

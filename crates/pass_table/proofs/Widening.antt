@@ -16,7 +16,7 @@ use Rattle.core_state.specs.Batches.{MayStoreNode, load_slot, reserve, mark, sto
 use Rattle.core_state.specs.Pool.{store_pool_link, store_pool_head, store_pool_count}
 use Rattle.core_state.specs.Walks.{begin_walk, end_walk, walk_slot, walk_main, walk_child, walk_bound}
 use Rattle.core_state.specs.Moving.{load_parent_moving}
-use Rattle.core_state.specs.Removing.{MayClearLocation, the_first, the_second, remove, clear_entry, clear_location}
+use Rattle.core_state.specs.Removing.{the_first, the_second, remove, clear_entry, clear_location}
 use Rattle.core_state.specs.Invariants.{Invariants}
 use Rattle.core_batch.proofs.Owning.{batch-home}
 use Rattle.core_state.specs.Nodes.{Nodes, Stands, node_in}

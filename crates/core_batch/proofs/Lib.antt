@@ -3,7 +3,6 @@ pub mod SlotLists
 pub mod Owning
 pub mod Mapped
 pub mod PlacedAgree
-pub mod PhaseAgree
 pub mod Attaching
 pub mod Attached
 pub mod AttachLeaves

@@ -44,7 +44,8 @@ use Rattle.core_guard.proofs.BodyTouch.{body_of, touches-body, location-words, r
 use Rattle.core_guard.proofs.LivesTouch.{out_unseen, out-places}
 use Rattle.core_batch.proofs.Lists.{contains_at, pairs-cons, pairs-none, pairs-at, pairs-append, flat-own, flat-across, flat-pairs}
 use Rattle.core_batch.proofs.Mapped.{AreOtherBodies, own-marks, own-slots, StemsFrom, mapped-part, own-kept, batch-kept, own_batch, other_batch, held-by, marks-after}
-use Rattle.core_batch.proofs.PhaseAgree.{phase_past, phase_sight, other_word, record_other, record_here, held-other, held-was, phase_here, phase-agree}
+use Rattle.core_guard.proofs.CallsAgree.{same_call}
+use Rattle.core_guard.proofs.PhaseAgree.{phase_past, phase_sight, other_word, record_other, record_here, held-other, held-was, phase_here, phase-agree}
 use Rattle.core_batch.proofs.Owning.{number-low, slot-reserved}
 use Rattle.core_batch.proofs.HeldFacts.{out_or_held, Rebatches, rebatches, slot-named, batch-no_tree, mark-planned, planned-still}
 
@@ -195,10 +196,10 @@ module _ (core : Core) (step : Step) (a : Acts core step) (asked : MayMark step.
   locks = rebatches-mark.locks
 
   abbrev past : List Made
-  past = phase_past mark core step a.at a.pass a.laws.bodies asked.index asked.names (Mark asked.index) Held (λ scene. refl) body.0 body.1 call locks
+  past = phase_past mark core step a.at a.pass a.laws.bodies asked.index asked.names (Mark asked.index) Held (λ scene. refl) body.0 body.1
 
   abbrev New : Sight
-  New = phase_sight mark core step a.at a.pass a.laws.bodies asked.index asked.names (Mark asked.index) Held (λ scene. refl) body.0 body.1 call locks
+  New = phase_sight mark core step a.at a.pass a.laws.bodies asked.index asked.names (Mark asked.index) Held (λ scene. refl) body.0 body.1
 
   -- ---- marks
 
@@ -271,14 +272,14 @@ module _ (core : Core) (step : Step) (a : Acts core step) (asked : MayMark step.
           ]
 
   here : record_at (scene_in New) asked.index ≡ Some (in_phase Held body.0)
-  here = record_here mark core step a.at a.pass a.laws.bodies asked.index asked.names (Mark asked.index) Held (λ scene. refl) body.0 body.1 call locks
+  here = record_here mark core step a.at a.pass a.laws.bodies asked.index asked.names (Mark asked.index) Held (λ scene. refl) body.0 body.1
 
   stored : New.word (Phase asked.index) ≡ step.first
-  stored = phase_here mark core step a.at a.pass a.laws.bodies asked.index asked.names (Mark asked.index) Held (λ scene. refl) body.0 body.1 call locks refl
+  stored = phase_here mark core step a.at a.pass a.laws.bodies asked.index asked.names (Mark asked.index) Held (λ scene. refl) body.0 body.1 refl
 
   stays-held : (b d : Batch) (u : Marked) → d.layer ≡ b.layer → d.slot ≡ b.slot → u.index ≢ asked.index → IsHeldFor (sight body_scope core) b u → IsHeldFor New d u
   stays-held b d u layer slot apart was =
-      let kept = held-other mark core step a.at a.pass a.laws.bodies asked.index asked.names (Mark asked.index) Held (λ scene. refl) body.0 body.1 call locks b u apart was in
+      let kept = held-other mark core step a.at a.pass a.laws.bodies asked.index asked.names (Mark asked.index) Held (λ scene. refl) body.0 body.1 b u apart was in
       record {
         held = subst (λ (l : ℕ). HasBody (scene_in New) u.index (λ r. (r.phase ≡ Held) × (r.layer ≡ l))) (sym layer) kept.held;
         phase = kept.phase ∙ ap phase_join (sym slot);
@@ -291,14 +292,14 @@ module _ (core : Core) (step : Step) (a : Acts core step) (asked : MayMark step.
     held = record_body (record_at (scene_in New) asked.index) (λ r. (r.phase ≡ Held) × (r.layer ≡ b.layer)) (in_phase Held body.0) here (refl, layer-here ∙ sym slot.0);
     phase = stored ∙ (asked.joins ∙ ap phase_join (sym slot.1));
     bounds = λ k less.
-        other_word mark core step a.at a.pass a.laws.bodies asked.index asked.names (Mark asked.index) Held (λ scene. refl) body.0 body.1 call locks (BoxWord asked.index k) refl
+        other_word mark core step a.at a.pass a.laws.bodies asked.index asked.names (Mark asked.index) Held (λ scene. refl) body.0 body.1 (BoxWord asked.index k) refl
         ∙ (ap (λ (c : Config). word c core.log (BoxWord asked.index k)) (sym config) ∙ sym (box-words (learned core step) asked.index k less));
   }
 
   batches : BatchPart New
   batches =
       mapped-part mark core step a.at a.pass past a.laws.bodies f changes same_slot stems once
-      (λ l t. other_word mark core step a.at a.pass a.laws.bodies asked.index asked.names (Mark asked.index) Held (λ scene. refl) body.0 body.1 call locks (Slot l t) refl)
+      (λ l t. other_word mark core step a.at a.pass a.laws.bodies asked.index asked.names (Mark asked.index) Held (λ scene. refl) body.0 body.1 (Slot l t) refl)
       (λ b u among marked.
       elim (mark-in b u marked) [
         | old_mark old ↦ stays-held b (f b) u (same_slot b).0 (same_slot b).1 (old-apart b u among old) (a.laws.bodies.marked b u (held-by core step.seat step.number step.view b a.at a.pass among) old)
@@ -313,7 +314,7 @@ module _ (core : Core) (step : Step) (a : Acts core step) (asked : MayMark step.
       elim (cases_eq i asked.index) [
         | inl same ↦ (f asked.batch, new, own-kept mark core step a.at a.pass past a.laws.bodies f changes same_slot asked.batch asked.has.among, mark-comes, sym same)
         | inr apart ↦
-            let t = a.laws.bodies.held i (held-was mark core step a.at a.pass a.laws.bodies asked.index asked.names (Mark asked.index) Held (λ scene. refl) body.0 body.1 call locks i apart has) in
+            let t = a.laws.bodies.held i (held-was mark core step a.at a.pass a.laws.bodies asked.index asked.names (Mark asked.index) Held (λ scene. refl) body.0 body.1 i apart has) in
             elim (batch-kept mark core step a.at a.pass past a.laws.bodies f changes same_slot t.0 t.2) [
               | own_batch among all ↦ (f t.0, t.1, all, mark-stays t.0 t.1 t.3, t.4)
               | other_batch seat number view other found is among all ↦ (t.0, t.1, all, t.3, t.4)
@@ -344,7 +345,7 @@ module _ (core : Core) (step : Step) (a : Acts core step) (asked : MayMark step.
       let slot = asked.has.for_slot.1 in
       let joins = asked.joins in
       let fits = named.1 in
-      phase-agree mark core step a.at a.pass a.laws.bodies asked.index asked.names (Mark asked.index) Held (λ scene. refl) body.0 body.1 call locks refl says (omega arith) refl (ap mark_of asked.names) (mark-out, tt) batches
+      phase-agree mark core step a.at a.pass a.laws.bodies asked.index asked.names (Mark asked.index) Held (λ scene. refl) body.0 body.1 refl (same_call call) locks says (omega arith) refl (ap mark_of asked.names) (mark-out, tt) batches
 
   pub LocksAgree-mark : LocksAgree (after_step mark core step)
   LocksAgree-mark = LocksAgree-other core step (lawful a) mark (ap (λ (n : Name). lock_scope.names n) asked.names) locks
@@ -363,7 +364,7 @@ module _ (core : Core) (step : Step) (a : Acts core step) (asked : MayMark step.
   after-other : (i : ℕ) → i ≢ asked.index → record_at (scene_of (After mark core step)) i ≡ record_at (scene_of core) i
   after-other i apart =
       record-made mark core step (Mark asked.index) refl (ap mark_of asked.names) i
-      ∙ record_other mark core step a.at a.pass a.laws.bodies asked.index asked.names (Mark asked.index) Held (λ scene. refl) body.0 body.1 call locks i apart
+      ∙ record_other mark core step a.at a.pass a.laws.bodies asked.index asked.names (Mark asked.index) Held (λ scene. refl) body.0 body.1 i apart
 
   unstored : is_location_store step.name ≡ false
   unstored = ap is_location_store asked.names

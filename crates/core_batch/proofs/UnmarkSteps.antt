@@ -32,7 +32,8 @@ use Rattle.core_guard.proofs.Leaving.{Acts, lawful, IsHandled, After, Touches}
 use Rattle.core_guard.proofs.BodyTouch.{body_of, touches-body, record-made, IsBare, bare-apart}
 use Rattle.core_batch.proofs.Lists.{filter_from, flat-own, flat-across, flat-pairs}
 use Rattle.core_batch.proofs.Mapped.{AreOtherBodies, own-marks, marks-apart, StemsFrom, mapped-part, batch-kept, own_batch, other_batch, held-by, marks-after}
-use Rattle.core_batch.proofs.PhaseAgree.{phase_past, phase_sight, other_word, record_other, record_here, held-other, held-was, phase_here, phase-agree}
+use Rattle.core_guard.proofs.CallsAgree.{same_call}
+use Rattle.core_guard.proofs.PhaseAgree.{phase_past, phase_sight, other_word, record_other, record_here, held-other, held-was, phase_here, phase-agree}
 use Rattle.core_batch.proofs.HeldFacts.{held_or_in, held-alone, Rebatches, rebatches, mark-held, marked-held, mark-planned, planned-still}
 
 module _ (core : Core) (step : Step) (a : Acts core step) (asked : MayUnmark step.view step.name step.first step.second) where
@@ -79,10 +80,10 @@ module _ (core : Core) (step : Step) (a : Acts core step) (asked : MayUnmark ste
   locks = rebatches-unmark.locks
 
   abbrev past : List Made
-  past = phase_past unmark core step a.at a.pass a.laws.bodies asked.m.index asked.names (Unmark asked.m.index) Out (λ scene. refl) body.0 body.1 call locks
+  past = phase_past unmark core step a.at a.pass a.laws.bodies asked.m.index asked.names (Unmark asked.m.index) Out (λ scene. refl) body.0 body.1
 
   abbrev New : Sight
-  New = phase_sight unmark core step a.at a.pass a.laws.bodies asked.m.index asked.names (Unmark asked.m.index) Out (λ scene. refl) body.0 body.1 call locks
+  New = phase_sight unmark core step a.at a.pass a.laws.bodies asked.m.index asked.names (Unmark asked.m.index) Out (λ scene. refl) body.0 body.1
 
   stems : (b : Batch) (u : Marked) → Contains step.view.batches b → Contains (filter left_over b.marked) u → StemsFrom unmark core step a.at a.pass past a.laws.bodies f changes (λ x. (refl, refl)) b u
   stems b u among marked = inl (u, (filter_from left_over b.marked u marked).0, refl)
@@ -99,13 +100,13 @@ module _ (core : Core) (step : Step) (a : Acts core step) (asked : MayUnmark ste
   still-held : (i : ℕ) → HasBody (scene_in New) i (λ q. q.phase ≡ Held) → i ≢ asked.m.index
   still-held i has same =
       let here : record_at (scene_in New) asked.m.index ≡ Some (in_phase Out body.0) =
-      record_here unmark core step a.at a.pass a.laws.bodies asked.m.index asked.names (Unmark asked.m.index) Out (λ scene. refl) body.0 body.1 call locks
+      record_here unmark core step a.at a.pass a.laws.bodies asked.m.index asked.names (Unmark asked.m.index) Out (λ scene. refl) body.0 body.1
       in
       let out : Out ≡ Held = subst (λ (o : Option Record). IsSomeAnd o (λ q. q.phase ≡ Held)) here (subst (λ (k : ℕ). HasBody (scene_in New) k (λ q. q.phase ≡ Held)) same has) in
       absurd cc
 
   stays-held : (b : Batch) (u : Marked) → u.index ≢ asked.m.index → IsHeldFor (sight body_scope core) b u → IsHeldFor New b u
-  stays-held b u apart was = held-other unmark core step a.at a.pass a.laws.bodies asked.m.index asked.names (Unmark asked.m.index) Out (λ scene. refl) body.0 body.1 call locks b u apart was
+  stays-held b u apart was = held-other unmark core step a.at a.pass a.laws.bodies asked.m.index asked.names (Unmark asked.m.index) Out (λ scene. refl) body.0 body.1 b u apart was
 
   apart-elsewhere : (seat number : ℕ) (view : View) (b : Batch) (u : Marked) → seat ≢ step.seat → IsViewAt core seat view → IsPass view number → Contains view.batches b → Contains b.marked u → u.index ≢ asked.m.index
   apart-elsewhere seat number view b u apart found is among marked same =
@@ -114,7 +115,7 @@ module _ (core : Core) (step : Step) (a : Acts core step) (asked : MayUnmark ste
   batches : BatchPart New
   batches =
       mapped-part unmark core step a.at a.pass past a.laws.bodies f changes (λ x. (refl, refl)) stems once
-      (λ l t. other_word unmark core step a.at a.pass a.laws.bodies asked.m.index asked.names (Unmark asked.m.index) Out (λ scene. refl) body.0 body.1 call locks (Slot l t) refl)
+      (λ l t. other_word unmark core step a.at a.pass a.laws.bodies asked.m.index asked.names (Unmark asked.m.index) Out (λ scene. refl) body.0 body.1 (Slot l t) refl)
       (λ b u among marked.
       let t = filter_from left_over b.marked u marked in
       let was = stays-held b u (left-apart u t.1) (a.laws.bodies.marked b u (held-by core step.seat step.number step.view b a.at a.pass among) t.0) in
@@ -122,7 +123,7 @@ module _ (core : Core) (step : Step) (a : Acts core step) (asked : MayUnmark ste
       (λ seat number view b u apart found is among marked. stays-held b u (apart-elsewhere seat number view b u apart found is among marked) (a.laws.bodies.marked b u (held-by core seat number view b found is among) marked))
       (λ i has.
       let apart = still-held i has in
-      let t = a.laws.bodies.held i (held-was unmark core step a.at a.pass a.laws.bodies asked.m.index asked.names (Unmark asked.m.index) Out (λ scene. refl) body.0 body.1 call locks i apart has) in
+      let t = a.laws.bodies.held i (held-was unmark core step a.at a.pass a.laws.bodies asked.m.index asked.names (Unmark asked.m.index) Out (λ scene. refl) body.0 body.1 i apart has) in
       elim (batch-kept unmark core step a.at a.pass past a.laws.bodies f changes (λ x. (refl, refl)) t.0 t.2) [
         | own_batch among all ↦ (f t.0, t.1, all, contains_filter left_over t.0.marked t.1 t.3 (apart-left t.1 (λ same. apart (sym t.4 ∙ same))), t.4)
         | other_batch seat number view other found is among all ↦ (t.0, t.1, all, t.3, t.4)
@@ -130,7 +131,7 @@ module _ (core : Core) (step : Step) (a : Acts core step) (asked : MayUnmark ste
 
   pub BodiesAgree-unmark : BodiesAgree (after_step unmark core step)
   BodiesAgree-unmark =
-      phase-agree unmark core step a.at a.pass a.laws.bodies asked.m.index asked.names (Unmark asked.m.index) Out (λ scene. refl) body.0 body.1 call locks refl
+      phase-agree unmark core step a.at a.pass a.laws.bodies asked.m.index asked.names (Unmark asked.m.index) Out (λ scene. refl) body.0 body.1 refl (same_call call) locks
       (ap (λ (n : ℕ). phase_by n (word_of core (Slot body.0.layer (n - 2)))) asked.out) (subst (λ (n : ℕ). n < 2 + core.config.slots) (sym asked.out) (omega arith))
       refl (ap unmark_of asked.names) (held, tt) batches
 
@@ -153,19 +154,19 @@ module _ (core : Core) (step : Step) (a : Acts core step) (asked : MayUnmark ste
   after-here : record_at (scene_of (After unmark core step)) asked.m.index ≡ Some (in_phase Out body.0)
   after-here =
       record-made unmark core step (Unmark asked.m.index) refl (ap unmark_of asked.names) asked.m.index
-      ∙ record_here unmark core step a.at a.pass a.laws.bodies asked.m.index asked.names (Unmark asked.m.index) Out (λ scene. refl) body.0 body.1 call locks
+      ∙ record_here unmark core step a.at a.pass a.laws.bodies asked.m.index asked.names (Unmark asked.m.index) Out (λ scene. refl) body.0 body.1
 
   after-other : (i : ℕ) → i ≢ asked.m.index → record_at (scene_of (After unmark core step)) i ≡ record_at (scene_of core) i
   after-other i apart =
       record-made unmark core step (Unmark asked.m.index) refl (ap unmark_of asked.names) i
-      ∙ record_other unmark core step a.at a.pass a.laws.bodies asked.m.index asked.names (Unmark asked.m.index) Out (λ scene. refl) body.0 body.1 call locks i apart
+      ∙ record_other unmark core step a.at a.pass a.laws.bodies asked.m.index asked.names (Unmark asked.m.index) Out (λ scene. refl) body.0 body.1 i apart
 
   unstored : is_location_store step.name ≡ false
   unstored = ap is_location_store asked.names
 
   stored : word_of (After unmark core step) (Phase asked.m.index) ≡ 0
   stored =
-      phase_here unmark core step a.at a.pass a.laws.bodies asked.m.index asked.names (Unmark asked.m.index) Out (λ scene. refl) body.0 body.1 call locks refl ∙ asked.out
+      phase_here unmark core step a.at a.pass a.laws.bodies asked.m.index asked.names (Unmark asked.m.index) Out (λ scene. refl) body.0 body.1 refl ∙ asked.out
 
   bare : IsBare unmark core step asked.m.index
   bare = record {

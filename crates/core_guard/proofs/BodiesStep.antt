@@ -282,11 +282,33 @@ module _ (kind : Kind) (core : Core) (step : Step) (at : IsViewAt core step.seat
       pub boxes : (i : ℕ) (r : Record) → record_at (scene_in (sight body_scope core)) i ≡ Some r → r.phase ≡ Held → (k : ℕ) → new_sight.word (BoxWord i k) ≡ (sight body_scope core).word (BoxWord i k)
       pub back : (i : ℕ) → HasBody (scene_in new_sight) i (λ q. q.phase ≡ Held) → HasBody (scene_in (sight body_scope core)) i (λ r. r.phase ≡ Held)
 
+    -- batches that are the same hold what they held, where their marks say so and no other body is held
+    batches-same : (view_after kind core step).batches ≡ step.view.batches → all_batches new_sight ≡ all_batches (sight body_scope core)
+    batches-same batches = flat-step body_scope keeps kind core step at pass (λ v. v.batches) batches
+
+    pub batch-left : BodiesAgree core → (view_after kind core step).batches ≡ step.view.batches → ((l t : ℕ) → new_sight.word (Slot l t) ≡ (sight body_scope core).word (Slot l t))
+        → ((batch : Batch) (m : Marked) → IsHeldFor (sight body_scope core) batch m → IsHeldFor new_sight batch m)
+        → ((i : ℕ) → HasBody (scene_in new_sight) i (λ q. q.phase ≡ Held) → HasBody (scene_in (sight body_scope core)) i (λ r. r.phase ≡ Held)) → BatchPart new_sight
+    batch-left h batches slots marks back = record {
+      reserved = λ l t number below. (
+        λ e. has-step body_scope keeps kind core step at pass number (HoldsSlot l t) (HoldsSlot l t) ((h.reserved l t number below).0 (sym (slots l t) ∙ e))
+            (λ seat view apart found is has. has) (λ same has. subst (λ (b : List Batch). (batch : Batch) × Contains b batch × IsForSlot l t batch) (sym batches) has),
+        λ has. slots l t ∙ (h.reserved l t number below).1
+            (has-unstep body_scope keeps kind core step at pass number (HoldsSlot l t) (HoldsSlot l t) has
+            (λ seat view apart found is one. one) (λ same one. subst (λ (b : List Batch). (batch : Batch) × Contains b batch × IsForSlot l t batch) batches one)),
+      );
+      slots = subst (λ (b : List Batch). AllPairs AreOtherSlots b) (sym (batches-same batches)) h.slots;
+      marked = λ batch m among marked. marks batch m (h.marked batch m (subst (λ (b : List Batch). Contains b batch) (batches-same batches) among) marked);
+      held = λ i has.
+          let t = h.held i (back i has) in
+          (t.0, t.1, subst (λ (b : List Batch). Contains b t.0) (sym (batches-same batches)) t.2, t.3, t.4);
+      once =
+          subst (λ (m : List Marked). AllPairs (λ (a : Marked) (b : Marked). a.index ≢ b.index) m)
+          (ap (λ (l : List Batch). flat_map (λ (b : Batch). b.marked) l) (sym (batches-same batches))) h.once;
+    }
+
     module _ (h : BodiesAgree core) (batches : (view_after kind core step).batches ≡ step.view.batches) (held : KeepsHeld)
         (phases : (i : ℕ) → new_sight.word (Phase i) ≡ (sight body_scope core).word (Phase i)) (slots : (l t : ℕ) → new_sight.word (Slot l t) ≡ (sight body_scope core).word (Slot l t)) where
-      batches-same : all_batches new_sight ≡ all_batches (sight body_scope core)
-      batches-same = flat-step body_scope keeps kind core step at pass (λ v. v.batches) batches
-
       held-kept : (batch : Batch) (m : Marked) → IsHeldFor (sight body_scope core) batch m → IsHeldFor new_sight batch m
       held-kept batch m was =
           let old = body_record (record_at (scene_in (sight body_scope core)) m.index) (λ r. (r.phase ≡ Held) × (r.layer ≡ batch.layer)) was.held in
@@ -298,20 +320,4 @@ module _ (kind : Kind) (core : Core) (step : Step) (at : IsViewAt core step.seat
           }
 
       pub batch-part : BatchPart new_sight
-      batch-part = record {
-        reserved = λ l t number below. (
-          λ e. has-step body_scope keeps kind core step at pass number (HoldsSlot l t) (HoldsSlot l t) ((h.reserved l t number below).0 (sym (slots l t) ∙ e))
-              (λ seat view apart found is has. has) (λ same has. subst (λ (b : List Batch). (batch : Batch) × Contains b batch × IsForSlot l t batch) (sym batches) has),
-          λ has. slots l t ∙ (h.reserved l t number below).1
-              (has-unstep body_scope keeps kind core step at pass number (HoldsSlot l t) (HoldsSlot l t) has
-              (λ seat view apart found is one. one) (λ same one. subst (λ (b : List Batch). (batch : Batch) × Contains b batch × IsForSlot l t batch) batches one)),
-        );
-        slots = subst (λ (b : List Batch). AllPairs AreOtherSlots b) (sym batches-same) h.slots;
-        marked = λ batch m among marked. held-kept batch m (h.marked batch m (subst (λ (b : List Batch). Contains b batch) batches-same among) marked);
-        held = λ i has.
-            let t = h.held i (held.back i has) in
-            (t.0, t.1, subst (λ (b : List Batch). Contains b t.0) (sym batches-same) t.2, t.3, t.4);
-        once =
-            subst (λ (m : List Marked). AllPairs (λ (a : Marked) (b : Marked). a.index ≢ b.index) m)
-            (ap (λ (l : List Batch). flat_map (λ (b : Batch). b.marked) l) (sym batches-same)) h.once;
-      }
+      batch-part = batch-left h batches slots held-kept held.back

@@ -219,7 +219,14 @@ module _ (kind : Kind) (core : Core) (step : Step) where
   pub no_place : (value n k : ℕ) → value ≡ 0 → value ≢ place n k
   no_place value n k none e = absurd (omega arith)
 
-  -- who has the stripe of a body to write and does not handle it: nobody does
+  -- who has the stripe of a body to write: no other pass handles it, and if it does not itself, nobody does
+  pub stripe-others : (a : Acts core step) (i : ℕ) → Holds step.view (stripe_of core.config i) Write
+      → (seat number : ℕ) (view : View) → seat ≢ step.seat → IsViewAt core seat view → IsPass view number → ¬ IsHandled view.call.task i
+  stripe-others a i stripe seat number view apart found is handled =
+      let under = each-seat body_scope (λ n v. refl) core (λ n v. IsUnderStripe (sight body_scope core) v v.call.task) a.laws.bodies.stripes seat number view found is in
+      lock-alone kind core step a.at a.pass a.laws.locks a.laws.bodies (stripe_of core.config i) seat number view Write stripe apart found is
+      (handled-stripe (sight body_scope core) view view.call.task i handled under)
+
   pub stripe-alone : (a : Acts core step) (i : ℕ) → Holds step.view (stripe_of core.config i) Write → ¬ IsHandled step.view.call.task i
       → (seat number : ℕ) (view : View) → IsViewAt core seat view → IsPass view number → ¬ IsHandled view.call.task i
   stripe-alone a i stripe own seat number view found is handled =
@@ -227,10 +234,7 @@ module _ (kind : Kind) (core : Core) (step : Step) where
         | inl same ↦
             let one : step.view ≡ view = at_one core.views step.seat step.view view a.at (subst (λ (k : ℕ). IsViewAt core k view) same found) in
             own (subst (λ (v : View). IsHandled v.call.task i) (sym one) handled)
-        | inr apart ↦
-            let under = each-seat body_scope (λ n v. refl) core (λ n v. IsUnderStripe (sight body_scope core) v v.call.task) a.laws.bodies.stripes seat number view found is in
-            lock-alone kind core step a.at a.pass a.laws.locks a.laws.bodies (stripe_of core.config i) seat number view Write stripe apart found is
-            (handled-stripe (sight body_scope core) view view.call.task i handled under)
+        | inr apart ↦ stripe-others a i stripe seat number view apart found is handled
       ]
 
   -- a body with no location, before the step and after it, and in no layer's broad phase

@@ -96,7 +96,7 @@ task-seen (Removing index) i = ((λ h. h, λ h. h), (λ h. h, λ h. h))
 task-seen (Placing index) i = ((λ h. h, λ h. h), (λ h. h, λ h. h))
 
 -- an update has done with a body still, where nobody begins to place it
-still_done : (v w : View) (r : Rebuild) (i : ℕ) → (IsPlacing w.call.task i → IsPlacing v.call.task i) → IsDone v r i → IsDone w r i
+pub still_done : (v w : View) (r : Rebuild) (i : ℕ) → (IsPlacing w.call.task i → IsPlacing v.call.task i) → IsDone v r i → IsDone w r i
 still_done v w r i calm (inl t) = inl (t.0, λ places. t.1 (calm places))
 still_done v w r i calm (inr given) = inr given
 
@@ -273,12 +273,12 @@ module _ (kind : Kind) (core : Core) (step : Step) (a : Acts core step) (nodes l
           }
 
   -- what is said of an update before
-  record WasRight (view : View) (r : Rebuild) : Type 0 where
-    right : (i : ℕ) → IsNotedRight nodes Old view r i
-    rest : RestHolds Old r
-    fresh : (n : ℕ) → New n → ¬ IsOldTree r (later.home n)
+  pub record WasRight (view : View) (r : Rebuild) : Type 0 where
+    pub right : (i : ℕ) → IsNotedRight nodes Old view r i
+    pub rest : RestHolds Old r
+    pub fresh : (n : ℕ) → New n → ¬ IsOldTree r (later.home n)
 
-  was-right : BodiesCovered nodes core → IsFresh kind core step later New → EachUpdate Old (λ number view r. WasRight view r)
+  pub was-right : BodiesCovered nodes core → IsFresh kind core step later New → EachUpdate Old (λ number view r. WasRight view r)
   was-right h fresh number view among pass =
       let places = if_some_both view.rebuild _ _ (h.to_place number view among pass) (h.notes number view among pass) in
       let kept = if_some_both view.rebuild _ _ (h.merged number view among pass) (h.exchanged number view among pass) in

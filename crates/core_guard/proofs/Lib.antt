@@ -35,3 +35,10 @@ pub mod Still
 pub mod Light
 pub mod Unowned
 pub mod WidenedBound
+pub mod CallsAgree
+pub mod PhaseAgree
+pub mod OutStill
+pub mod Recalled
+pub mod Cleared
+pub mod ClearedPlaces
+pub mod OneUpdate

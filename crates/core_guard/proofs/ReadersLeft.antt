@@ -57,7 +57,7 @@ map-back f (z ∷ xs) y h =
     ]
 
 -- what holds of each two holds again, where it does of two that are there
-pairs-again : {X : Type 0} (R Q : X → X → Type 0) (xs : List X) → ((x y : X) → Contains xs x → Contains xs y → R x y → Q x y) → AllPairs R xs → AllPairs Q xs
+pub pairs-again : {X : Type 0} (R Q : X → X → Type 0) (xs : List X) → ((x y : X) → Contains xs x → Contains xs y → R x y → Q x y) → AllPairs R xs → AllPairs Q xs
 pairs-again R Q xs more h i j d below inside =
     more (get_or xs i d) (get_or xs j d) (i, omega arith, get_or_default xs i (get_or xs i d) d (omega arith)) (j, inside, get_or_default xs j (get_or xs j d) d inside) (h i j d below inside)
 
@@ -147,7 +147,7 @@ climbs-seen nodes s (Moving index target) h = h
 climbs-seen nodes s (Removing index) h = h
 climbs-seen nodes s _ h = tt
 
-climbs-was : (nodes : Nodes) (s : Sight) (task : Task) → ClimbsInTrees nodes s (task_at_place task) → ClimbsInTrees nodes s task
+pub climbs-was : (nodes : Nodes) (s : Sight) (task : Task) → ClimbsInTrees nodes s (task_at_place task) → ClimbsInTrees nodes s task
 climbs-was nodes s (Moving index target) h = h
 climbs-was nodes s (Removing index) h = h
 climbs-was nodes s _ h = tt

@@ -88,7 +88,7 @@ else-some i name (Some entry) none phase made = else-made i name entry none phas
 
 -- ---- one item, and those since the last step of the pass
 
-abbrev made_of : ℕ → Entry → Made
+abbrev pub made_of : ℕ → Entry → Made
 made_of pass entry = record { pass = pass; entry = entry }
 
 one-next : (layers : ℕ) (scene : Scene) (i pass : ℕ) (entry : Option Entry) (later : List Made) → IsLawfulFrom layers scene (cons_option (option_map (made_of pass) entry) later) → IfSome entry (IsElse i) → ¬ IsHeldIn scene i
@@ -96,7 +96,7 @@ one-next : (layers : ℕ) (scene : Scene) (i pass : ℕ) (entry : Option Entry) 
 one-next layers scene i pass None later lawful other unheld = (refl, lawful)
 one-next layers scene i pass (Some entry) later lawful other unheld = (entry-same layers scene i entry lawful.0 other unheld, lawful.1)
 
-scene-more : (c : Config) (first more : List Item) → scene_at c (first ++ more) ≡ scene_from (scene_at c first) (history more)
+pub scene-more : (c : Config) (first more : List Item) → scene_at c (first ++ more) ≡ scene_from (scene_at c first) (history more)
 scene-more c first more = ap (scene_from (empty_scene c.bodies)) (filter_map-append made_by first more) ∙ scene_from-append (empty_scene c.bodies) (history first) (history more)
 
 module _ (c : Config) (view : View) (i : ℕ) (mode : Mode) (holds : Holds view (stripe_of c i) mode) where
@@ -145,10 +145,10 @@ pub record StandsStill (core : Core) (view : View) (i : ℕ) : Type 0 where
   pub loc_b : word_of core (LocB i) ≡ known_word view (LocB i)
 
 module _ (core : Core) (step : Step) (a : Acts core step) where
-  abbrev sound : IsSoundView core.config core.log step.view
+  abbrev pub sound : IsSoundView core.config core.log step.view
   sound = a.formed.views step.seat step.view a.at (unspent_pass step.view.role step.number a.pass)
 
-  quiet-since : (early later : List Item) (item : Item) → sound.known.0 ≡ early ++ item ∷ later → IsQuiet core.config step.view (step.view.known ++ early) item
+  pub quiet-since : (early later : List Item) (item : Item) → sound.known.0 ≡ early ++ item ∷ later → IsQuiet core.config step.view (step.view.known ++ early) item
   quiet-since early later item parts =
       a.guards step.seat step.number step.view (step.view.known ++ early) later item a.at a.pass
       (sound.known.1 ∙ (ap (λ (l : List Item). step.view.known ++ l) parts ∙ sym (append_assoc step.view.known early (item ∷ later))))
@@ -161,14 +161,21 @@ module _ (core : Core) (step : Step) (a : Acts core step) where
   abbrev Since : List Item
   Since = sound.known.0
 
-  sound-since : All (IsSoundItem core.config) Since
+  pub sound-since : All (IsSoundItem core.config) Since
   sound-since = all_second (IsSoundItem core.config) Known Since (subst (λ (l : List Item). All (IsSoundItem core.config) l) sound.known.1 a.formed.items)
 
-  lawful-since : IsLawfulFrom core.config.layers (scene_at core.config Known) (history Since)
-  lawful-since =
+  -- what was known is lawful, and so is what came
+  lawful-both : IsLawfulFrom core.config.layers (empty_scene core.config.bodies) (history Known) × IsLawfulFrom core.config.layers (scene_at core.config Known) (history Since)
+  lawful-both =
       let start = empty_scene core.config.bodies in
       let whole = subst (λ (l : List Item). IsLawfulFrom core.config.layers start (history l)) sound.known.1 a.laws.bodies.lawful in
-      (lawful_parts core.config.layers start (history Known) (history Since) (subst (IsLawfulFrom core.config.layers start) (filter_map-append made_by Known Since) whole)).1
+      lawful_parts core.config.layers start (history Known) (history Since) (subst (IsLawfulFrom core.config.layers start) (filter_map-append made_by Known Since) whole)
+
+  pub lawful-known : IsLawfulFrom core.config.layers (empty_scene core.config.bodies) (history Known)
+  lawful-known = lawful-both.0
+
+  pub lawful-since : IsLawfulFrom core.config.layers (scene_at core.config Known) (history Since)
+  lawful-since = lawful-both.1
 
   pub settled-still : (i : ℕ) → IsSettled step.view i → StandsStill core step.view i
   settled-still i h =

@@ -11,3 +11,9 @@ pub mod LastStores
 pub mod Closing
 pub mod ParentLoads
 pub mod Keeping
+pub mod PhaseStores
+pub mod Removers
+pub mod EntryStores
+pub mod LocationStores
+pub mod Removals
+pub mod NowhereThen

@@ -23,11 +23,12 @@ use Rattle.core_state.specs.Boxes.{box_of}
 use Rattle.core_state.specs.Lives.{creation_of, destruction_of, new_user_of}
 use Rattle.core_state.specs.Moving.{box_with_last, move_of}
 use Rattle.core_state.specs.Batches.{mark_of, unmark_of, batch_for, joined_by}
+use Rattle.core_state.specs.Removing.{removal_of}
 use Rattle.core_state.specs.Core.{Core, IsViewAt, opening}
 use Rattle.core_state.specs.Operation.{stores}
 use Rattle.core_state.specs.Kind.{Kind, Asking, Step, IsAllowed, Steps, found_by, left_by, item_of, gained_by, log_after, view_after, after_step}
 use Rattle.core_state.specs.Seats.{Opens, Visits, Joins, after_split, visitor_of, joined_view, spent_view}
-use Rattle.core_state.specs.Event.{Event, opens_pass, splits_visitor, joins_visitor, looks, of_locks, of_lists, of_bodies, of_batches, of_pool, of_walks, of_moves, LockEvent, loads_lock, takes_read, takes_write, releases, ListEvent, loads_list, stores_link, stores_head, BodyEvent, stores_field, creates, destroys, loads_body, sets_user, BatchEvent, loads_slot, reserves, marks, stores_node, places, attaches, takes_back, unmarks, lets_slot_go, PoolEvent, stores_pool_link, stores_pool_head, stores_pool_count, WalkEvent, begins_walk, ends_walk, walks_slot, walks_main, walks_child, walks_bound, MoveEvent, widens_low, widens_high, loads_parent, stores_side, stores_last_side, Run, begins, goes_on}
+use Rattle.core_state.specs.Event.{Event, opens_pass, splits_visitor, joins_visitor, looks, of_locks, of_lists, of_bodies, of_batches, of_pool, of_walks, of_moves, LockEvent, loads_lock, takes_read, takes_write, releases, ListEvent, loads_list, stores_link, stores_head, BodyEvent, stores_field, creates, destroys, loads_body, sets_user, BatchEvent, loads_slot, reserves, marks, stores_node, places, attaches, takes_back, unmarks, lets_slot_go, PoolEvent, stores_pool_link, stores_pool_head, stores_pool_count, WalkEvent, begins_walk, ends_walk, walks_slot, walks_main, walks_child, walks_bound, MoveEvent, widens_low, widens_high, loads_parent, stores_side, stores_last_side, Run, begins, goes_on, of_removals, RemovalEvent, removes, clears_entry, clears_location}
 use Rattle.core_state.specs.Formed.{IsMadeOn, IsSoundItem, HasNumbers, AreApart, IsSoundView, IsFormed}
 use Rattle.std.proofs.lemmas.Option.{same_Some, none-some}
 use Rattle.core_state.proofs.Lookups.{at_set, at_push}
@@ -340,6 +341,11 @@ unmarks-said : (name : Name) → IfSome (unmark_of name) (λ entry. IsMadeOn ent
 unmarks-said (Phase index) = refl
 unmarks-said _ = tt
 
+-- and so does a removal
+removes-said : (name : Name) → IfSome (removal_of name) (λ entry. IsMadeOn entry name)
+removes-said (Phase index) = refl
+removes-said _ = tt
+
 joining-said : (layer slot : ℕ) (batch : Option Batch) → IfSome (option_map (λ b. Join layer (map (λ m. m.index) b.marked)) batch) (λ entry. IsMadeOn entry (Slot layer slot))
 joining-said layer slot None = tt
 joining-said layer slot (Some b) = (slot, refl)
@@ -407,6 +413,11 @@ IsFormed-moves before after (loads_parent index e) formed = IsFormed-steps _ _ b
 IsFormed-moves before after (stores_side e) formed = IsFormed-steps _ _ before after (says-nothing _ (λ view name value. refl)) e formed
 IsFormed-moves before after (stores_last_side e) formed = IsFormed-steps _ _ before after (record { said = moves-said }) e formed
 
+IsFormed-removals : (before after : Core) → RemovalEvent before after → IsFormed before → IsFormed after
+IsFormed-removals before after (removes e) formed = IsFormed-steps _ _ before after (record { said = λ view name value. removes-said name }) e formed
+IsFormed-removals before after (clears_entry e) formed = IsFormed-steps _ _ before after (says-nothing _ (λ view name value. refl)) e formed
+IsFormed-removals before after (clears_location e) formed = IsFormed-steps _ _ before after (says-nothing _ (λ view name value. refl)) e formed
+
 pub IsFormed-event : (before after : Core) → Event before after → IsFormed before → IsFormed after
 IsFormed-event before after (opens_pass e) formed = IsFormed-opens before after e formed
 IsFormed-event before after (splits_visitor e) formed = IsFormed-visits before after e formed
@@ -419,6 +430,7 @@ IsFormed-event before after (of_batches e) formed = IsFormed-batches before afte
 IsFormed-event before after (of_pool e) formed = IsFormed-pool before after e formed
 IsFormed-event before after (of_walks e) formed = IsFormed-walks before after e formed
 IsFormed-event before after (of_moves e) formed = IsFormed-moves before after e formed
+IsFormed-event before after (of_removals e) formed = IsFormed-removals before after e formed
 
 -- the only seat of the opening
 opening-only : (c : Config) (seat : ℕ) (view : View) → IsViewAt (opening c) seat view → (seat ≡ 0) × (blank_view c (Pass 0 (c.passes - 1)) ≡ view)

@@ -78,6 +78,12 @@ part-same : (scope : Scope) (view after : View) (number : ℕ) → number_of vie
     → scope.part (bare_view number) after ≡ scope.part (bare_view number) view → part_of scope after ≡ part_of scope view
 part-same scope view after number pass still same = rw (pass, still) (ap Some same)
 
+pub passes-same : (scope : Scope) (kind : Kind) (core : Core) (step : Step) → IsViewAt core step.seat step.view → IsPass step.view step.number
+    → scope.part (bare_view step.number) (view_after kind core step) ≡ scope.part (bare_view step.number) step.view
+    → filter_map (part_of scope) (after_step kind core step).views ≡ filter_map (part_of scope) core.views
+passes-same scope kind core step at pass same =
+    filter_map-set (part_of scope) core.views step.seat step.view (view_after kind core step) at (part-same scope step.view (view_after kind core step) step.number pass pass same)
+
 -- a step outside of a scope leaves all that is seen in it
 pub step-same : (scope : Scope) (kind : Kind) (core : Core) (step : Step) → IsViewAt core step.seat step.view → IsPass step.view step.number
     → IsOutside scope kind core step → IsSameTo scope core (after_step kind core step)
@@ -85,8 +91,7 @@ step-same scope kind core step at pass outside = record {
   config = refl;
   words = λ name speaks. outside-word scope kind core step name outside speaks;
   history = λ reads. sym (step-history kind core step (outside.entry reads));
-  passes = sym (filter_map-set (part_of scope) core.views step.seat step.view (view_after kind core step) at
-      (part-same scope step.view (view_after kind core step) step.number pass pass outside.part));
+  passes = sym (passes-same scope kind core step at pass outside.part);
 }
 
 -- ---- seats

@@ -13,7 +13,7 @@ use Rattle.core_state.specs.Core.{Core, word_of, IsViewAt}
 use Rattle.core_state.specs.Operation.{Operation, load, store, exchange, compare_exchange, fetch_add, fetch_min, fetch_max, stores, result_of}
 use Rattle.core_state.specs.Kind.{Kind, Asking, Step, Steps, found_by, left_by, item_of, gained_by, log_after, view_after, after_step}
 use Rattle.core_state.specs.Seats.{Joins, after_split, joined_view, spent_view}
-use Rattle.core_state.specs.Event.{Event, opens_pass, splits_visitor, joins_visitor, looks, of_locks, of_lists, of_bodies, of_batches, of_pool, of_walks, of_moves, LockEvent, loads_lock, takes_read, takes_write, releases, ListEvent, loads_list, stores_link, stores_head, BodyEvent, stores_field, creates, destroys, loads_body, sets_user, BatchEvent, loads_slot, reserves, marks, stores_node, places, attaches, takes_back, unmarks, lets_slot_go, PoolEvent, stores_pool_link, stores_pool_head, stores_pool_count, WalkEvent, begins_walk, ends_walk, walks_slot, walks_main, walks_child, walks_bound, MoveEvent, widens_low, widens_high, loads_parent, stores_side, stores_last_side, Run, begins, goes_on, ChangesOne}
+use Rattle.core_state.specs.Event.{Event, opens_pass, splits_visitor, joins_visitor, looks, of_locks, of_lists, of_bodies, of_batches, of_pool, of_walks, of_moves, LockEvent, loads_lock, takes_read, takes_write, releases, ListEvent, loads_list, stores_link, stores_head, BodyEvent, stores_field, creates, destroys, loads_body, sets_user, BatchEvent, loads_slot, reserves, marks, stores_node, places, attaches, takes_back, unmarks, lets_slot_go, PoolEvent, stores_pool_link, stores_pool_head, stores_pool_count, WalkEvent, begins_walk, ends_walk, walks_slot, walks_main, walks_child, walks_bound, MoveEvent, widens_low, widens_high, loads_parent, stores_side, stores_last_side, Run, begins, goes_on, ChangesOne, of_removals, RemovalEvent, removes, clears_entry, clears_location}
 use Rattle.core_state.proofs.Lookups.{at_bound, at_one, at_longer, set_here, set_else}
 use Rattle.core_state.proofs.Prefixes.{IsPrefix-refl, IsPrefix-trans}
 use Rattle.core_state.proofs.Reading.{word-stored, word-other, words-push, words-named}
@@ -151,6 +151,11 @@ moves-prefix before after (loads_parent index e) = steps-prefix _ _ before after
 moves-prefix before after (stores_side e) = steps-prefix _ _ before after e
 moves-prefix before after (stores_last_side e) = steps-prefix _ _ before after e
 
+removals-prefix : (before after : Core) → RemovalEvent before after → IsPrefix before.log after.log
+removals-prefix before after (removes e) = steps-prefix _ _ before after e
+removals-prefix before after (clears_entry e) = steps-prefix _ _ before after e
+removals-prefix before after (clears_location e) = steps-prefix _ _ before after e
+
 pub event-prefix : (before after : Core) → Event before after → IsPrefix before.log after.log
 event-prefix before after (opens_pass e) = same-prefix before after (ap (λ (c : Core). c.log) e.result)
 event-prefix before after (splits_visitor e) = same-prefix before after (ap (λ (c : Core). c.log) e.result)
@@ -163,6 +168,7 @@ event-prefix before after (of_batches e) = batches-prefix before after e
 event-prefix before after (of_pool e) = pool-prefix before after e
 event-prefix before after (of_walks e) = walks-prefix before after e
 event-prefix before after (of_moves e) = moves-prefix before after e
+event-prefix before after (of_removals e) = removals-prefix before after e
 
 pub run-prefix : (first last : Core) → Run first last → IsPrefix first.log last.log
 run-prefix first last begins = IsPrefix-refl first.log
@@ -244,6 +250,11 @@ moves-one before after (loads_parent index e) = steps-one _ _ before after e
 moves-one before after (stores_side e) = steps-one _ _ before after e
 moves-one before after (stores_last_side e) = steps-one _ _ before after e
 
+removals-one : (before after : Core) → RemovalEvent before after → ChangesOne before after
+removals-one before after (removes e) = steps-one _ _ before after e
+removals-one before after (clears_entry e) = steps-one _ _ before after e
+removals-one before after (clears_location e) = steps-one _ _ before after e
+
 pub event-one : (before after : Core) → Event before after → ChangesOne before after
 event-one before after (opens_pass e) = split-one before after e.seat _ _ e.result
 event-one before after (splits_visitor e) = split-one before after e.seat _ _ e.result
@@ -256,3 +267,4 @@ event-one before after (of_batches e) = batches-one before after e
 event-one before after (of_pool e) = pool-one before after e
 event-one before after (of_walks e) = walks-one before after e
 event-one before after (of_moves e) = moves-one before after e
+event-one before after (of_removals e) = removals-one before after e

@@ -13,6 +13,7 @@ use Rattle.core_state.specs.Batches.{MayLoadSlot, load_slot, MayReserve, reserve
 use Rattle.core_state.specs.Pool.{MayStorePoolLink, store_pool_link, MayStorePoolHead, store_pool_head, MayStorePoolCount, store_pool_count}
 use Rattle.core_state.specs.Walks.{MayBegin, begin_walk, MayEnd, end_walk, MayWalkSlot, walk_slot, MayWalkMain, walk_main, MayWalkChild, walk_child, MayWalkBound, walk_bound}
 use Rattle.core_state.specs.Moving.{MayWidenLow, widen_low, MayWidenHigh, widen_high, MayLoadParentMoving, load_parent_moving, MayStoreSide, store_side, MayStoreLastSide, store_last_side}
+use Rattle.core_state.specs.Removing.{MayRemove, remove, MayClearEntry, clear_entry, MayClearLocation, clear_location}
 
 -- a step on a lock
 pub data LockEvent (before after : Core) : Type 0 where
@@ -70,6 +71,12 @@ pub data MoveEvent (before after : Core) : Type 0 where
   stores_side : Steps MayStoreSide store_side before after → MoveEvent before after
   stores_last_side : Steps MayStoreLastSide store_last_side before after → MoveEvent before after
 
+-- a step of a removal
+pub data RemovalEvent (before after : Core) : Type 0 where
+  removes : Steps MayRemove remove before after → RemovalEvent before after
+  clears_entry : Steps MayClearEntry clear_entry before after → RemovalEvent before after
+  clears_location : Steps MayClearLocation clear_location before after → RemovalEvent before after
+
 -- one event leads from the one core to the other; docs/steps.md has the kinds by number
 pub data Event (before after : Core) : Type 0 where
   opens_pass : Opens before after → Event before after
@@ -83,6 +90,7 @@ pub data Event (before after : Core) : Type 0 where
   of_pool : PoolEvent before after → Event before after
   of_walks : WalkEvent before after → Event before after
   of_moves : MoveEvent before after → Event before after
+  of_removals : RemovalEvent before after → Event before after
 
 -- events one after the other
 pub data Run (first : Core) : Core → Type 0 where

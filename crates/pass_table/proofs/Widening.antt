@@ -3,11 +3,11 @@ use Rattle.std.specs.Prelude.{⊤}
 use Rattle.std.proofs.Common.{◌≡◌, ◌≢◌, ℕ, false, refl, ap, sym, ◌∙◌, subst, arith}
 use Rattle.std.proofs.lemmas.Option.{same_Some}
 use Rattle.word_map.specs.declared.name.Name.{Name}
-use Rattle.word_map.specs.declared.name.Name.TheVariants.{Lock, SlotHead, SlotNext, State, User, BoxWord, Bound, Slot, Phase, LocA, PoolNext, PoolHead, PoolFree, Reader, Parent}
+use Rattle.word_map.specs.declared.name.Name.TheVariants.{Lock, SlotHead, SlotNext, State, User, BoxWord, Bound, Slot, Phase, LocA, PoolNext, PoolHead, PoolFree, Reader, Parent, Child, LocB}
 use Rattle.core_state.specs.Core.{Core, word_of}
 use Rattle.core_state.specs.Operation.{stores}
 use Rattle.core_state.specs.Kind.{Kind, Asking, Steps, found_by}
-use Rattle.core_state.specs.Event.{Event, opens_pass, splits_visitor, joins_visitor, looks, loads_lock, takes_read, takes_write, releases, loads_list, stores_link, stores_head, stores_field, creates, destroys, loads_body, sets_user, loads_slot, reserves, marks, places, attaches, takes_back, unmarks, lets_slot_go, stores_pool_link, stores_pool_head, stores_pool_count, stores_node, of_locks, of_lists, of_bodies, of_batches, of_pool, begins_walk, ends_walk, walks_slot, walks_main, walks_child, walks_bound, of_walks, widens_low, widens_high, loads_parent, stores_side, stores_last_side, of_moves}
+use Rattle.core_state.specs.Event.{Event, opens_pass, splits_visitor, joins_visitor, looks, loads_lock, takes_read, takes_write, releases, loads_list, stores_link, stores_head, stores_field, creates, destroys, loads_body, sets_user, loads_slot, reserves, marks, places, attaches, takes_back, unmarks, lets_slot_go, stores_pool_link, stores_pool_head, stores_pool_count, stores_node, of_locks, of_lists, of_bodies, of_batches, of_pool, begins_walk, ends_walk, walks_slot, walks_main, walks_child, walks_bound, of_walks, widens_low, widens_high, loads_parent, stores_side, stores_last_side, of_moves, removes, clears_entry, clears_location, of_removals}
 use Rattle.core_state.specs.Looking.{look}
 use Rattle.core_state.specs.Locking.{load_lock, take_read, take_write, release}
 use Rattle.core_state.specs.Lists.{load_list, store_link, store_head}
@@ -17,6 +17,7 @@ use Rattle.core_state.specs.Pool.{store_pool_link, store_pool_head, store_pool_c
 use Rattle.core_state.specs.Walks.{begin_walk, end_walk, walk_slot, walk_main, walk_child, walk_bound}
 use Rattle.core_state.specs.Moving.{load_parent_moving, store_side, store_last_side}
 use Rattle.core_move.proofs.WidenSteps.{widen_low-widens, widen_high-widens}
+use Rattle.core_state.specs.Removing.{the_first, the_second, remove, clear_entry, clear_location}
 use Rattle.core_state.specs.Invariants.{Invariants}
 use Rattle.core_batch.proofs.Owning.{batch-home}
 use Rattle.core_state.specs.Nodes.{Nodes, Stands, node_in}
@@ -116,3 +117,10 @@ module _ (before after : Core) (h : Invariants before) where
   event_widens (of_moves (loads_parent index e)) = let asked = e.allowed.asked in aside h.nodes _ (load_parent_moving index) before after e (Parent asked.node) asked.names (λ none. none)
   event_widens (of_moves (stores_side e)) = let asked = e.allowed.asked in aside h.nodes _ store_side before after e (BoxWord asked.index asked.side) asked.names (λ none. none)
   event_widens (of_moves (stores_last_side e)) = let asked = e.allowed.asked in aside h.nodes _ store_last_side before after e (BoxWord asked.index 5) asked.names (λ none. none)
+  event_widens (of_removals (removes e)) = let asked = e.allowed.asked in aside h.nodes _ remove before after e (Phase asked.index) asked.names (λ none. none)
+  event_widens (of_removals (clears_entry e)) = let asked = e.allowed.asked in aside h.nodes _ clear_entry before after e (Child asked.node asked.child) asked.names (λ none. none)
+  event_widens (of_removals (clears_location e)) =
+      elim (e.allowed.asked) [
+        | the_first index names cleared none ↦ aside h.nodes _ clear_location before after e (LocA index) names (λ none. none)
+        | the_second index names cleared first none ↦ aside h.nodes _ clear_location before after e (LocB index) names (λ none. none)
+      ]

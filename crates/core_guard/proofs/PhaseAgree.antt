@@ -11,7 +11,6 @@ use Rattle.scene_model.specs.Step.{HasBody, IsLawful, after_entry, with_phase, i
 use Rattle.scene_model.proofs.Places.{place_at-with_change_same, place_at-with_body_other}
 use Rattle.word_map.specs.declared.name.Name.{Name}
 use Rattle.word_map.specs.declared.name.Name.TheVariants.{SlotHead, SlotNext, State, Phase, Layer, User, BoxWord, Slot}
-use Rattle.core_state.specs.declared.view.Call.{Call}
 use Rattle.core_state.specs.declared.view.Marked.{Marked}
 use Rattle.core_state.specs.declared.view.Batch.{Batch}
 use Rattle.core_state.specs.Log.{word, history}
@@ -20,13 +19,14 @@ use Rattle.core_state.specs.Core.{Core, word_of, IsViewAt}
 use Rattle.core_state.specs.Operation.{store}
 use Rattle.core_state.specs.Kind.{Kind, Step, left_by, log_after, view_after, after_step}
 use Rattle.core_state.specs.Scope.{Sight, sight, scene_in}
-use Rattle.core_state.specs.Bodies.{state_word, phase_by, free_indexes, IsBetweenBoxes}
+use Rattle.core_state.specs.Bodies.{state_word, phase_by, free_indexes}
 use Rattle.core_state.specs.BodiesAgree.{BodiesAgree, body_scope, HasWordsOf, IsHeldFor}
 use Rattle.core_state.proofs.Steps.{word-step}
 use Rattle.core_guard.proofs.FreeIndexes.{free-change}
 use Rattle.core_guard.proofs.Scenes.{record_live}
 use Rattle.core_guard.proofs.OneBody.{history-made, scene-made, lawful-made}
-use Rattle.core_guard.proofs.BodiesStep.{new_sight, unstored, bodies-agree, WordsPart, together, whole-back, words-kept, list-stays, stripe-stays, BatchPart}
+use Rattle.core_guard.proofs.BodiesStep.{new_sight, unstored, bodies-agree, WordsPart, together, whole-back, words-kept, BatchPart}
+use Rattle.core_guard.proofs.CallsAgree.{CallGoesOn, between, list-goes, stripe-goes}
 
 -- whether a body is live, and how often one was created, is no matter of its phase
 state-phase : (phase : BodyPhase) (p : Place) → state_word (record p { body = option_map (in_phase phase) p.body }) ≡ state_word p
@@ -36,7 +36,7 @@ state-phase phase p = go p.body refl
     go None e = rw e refl
     go (Some r) e = rw e refl
 
-abbrev phase_index : Name → ℕ
+abbrev pub phase_index : Name → ℕ
 phase_index (Phase i) = i
 phase_index _ = 0
 
@@ -46,8 +46,7 @@ is_phase _ = false
 
 module _ (kind : Kind) (core : Core) (step : Step) (at : IsViewAt core step.seat step.view) (pass : IsPass step.view step.number) (h : BodiesAgree core)
     (index : ℕ) (names : step.name ≡ Phase index) (entry : Entry) (target : BodyPhase) (alters : (scene : Scene) → after_entry scene entry ≡ with_phase target scene index)
-    (r : Record) (live : record_at (scene_in (sight body_scope core)) index ≡ Some r)
-    (call : (view_after kind core step).call ≡ step.view.call) (locks : (view_after kind core step).locks ≡ step.view.locks) where
+    (r : Record) (live : record_at (scene_in (sight body_scope core)) index ≡ Some r) where
   abbrev pub phase_past : List Made
   phase_past = history core.log ++ record { pass = step.number; entry = entry } ∷ []
 
@@ -104,10 +103,8 @@ module _ (kind : Kind) (core : Core) (step : Step) (at : IsViewAt core step.seat
     pub phase_here : phase_sight.word (Phase index) ≡ step.first
     phase_here = ap (λ (n : Name). word core.config (log_after kind core step) n) (sym names) ∙ (word-step kind core step ∙ left)
 
-    module _ (says : phase_by step.first (word_of core (Slot r.layer (step.first - 2))) ≡ Some target) (fits : step.first < 2 + core.config.slots) where
-      between : (i : ℕ) → IsBetweenBoxes step.view i → IsBetweenBoxes (view_after kind core step) i
-      between i was = subst (λ (c : Call). IsBetweenBoxes (record step.view { call = c }) i) (sym call) was
-
+    module _ (goes : CallGoesOn Old step.view (view_after kind core step)) (locks : (view_after kind core step).locks ≡ step.view.locks)
+        (says : phase_by step.first (word_of core (Slot r.layer (step.first - 2))) ≡ Some target) (fits : step.first < 2 + core.config.slots) where
       words_here : HasWordsOf phase_sight index (in_phase target r)
       words_here =
           let was = h.live index r live in
@@ -115,7 +112,7 @@ module _ (kind : Kind) (core : Core) (step : Step) (at : IsViewAt core step.seat
             layer = other_word (Layer index) refl ∙ was.layer;
             user = other_word (User index) refl ∙ was.user;
             user_fits = was.user_fits;
-            bounds = λ whole k below. other_word (BoxWord index k) refl ∙ was.bounds (whole-back kind core step at pass phase_past index (between index) whole) k below;
+            bounds = λ whole k below. other_word (BoxWord index k) refl ∙ was.bounds (whole-back kind core step at pass phase_past index (between kind core step at pass h goes locks index) whole) k below;
             phase = (λ j. phase_by (phase_here j) (other_word (Slot r.layer (phase_here j - 2)) refl j)) ∙ says;
             slot = subst (λ (n : ℕ). n < 2 + core.config.slots) (sym phase_here) fits;
           }
@@ -130,7 +127,7 @@ module _ (kind : Kind) (core : Core) (step : Step) (at : IsViewAt core step.seat
                   subst (λ (k : ℕ). HasWordsOf phase_sight k q) (sym same)
                   (subst (HasWordsOf phase_sight index) (same_Some (in_phase target r) q (sym record_here ∙ subst (λ (k : ℕ). record_at (scene_in phase_sight) k ≡ Some q) same e)) words_here)
               | inr apart ↦
-                  words-kept kind core step at pass phase_past i q (between i) (other_word (Layer i) refl) (other_word (User i) refl) (λ k. other_word (BoxWord i k) refl) (other_phase i apart)
+                  words-kept kind core step at pass phase_past i q (between kind core step at pass h goes locks i) (other_word (Layer i) refl) (other_word (User i) refl) (λ k. other_word (BoxWord i k) refl) (other_phase i apart)
                   (λ l t. other_word (Slot l t) refl) (h.live i q (sym (record_other i apart) ∙ e))
             ];
         dead = λ i none.
@@ -144,5 +141,5 @@ module _ (kind : Kind) (core : Core) (step : Step) (at : IsViewAt core step.seat
       phase-agree stores made lawful batches =
           bodies-agree kind core step at pass phase_past (history-made kind core step entry stores made)
           (together phase_sight (words lawful)
-          (list-stays kind core step at pass phase_past h call locks (other_word SlotHead refl) (λ i. other_word (SlotNext i) refl) (ap free_indexes scene ∙ free-change (in_phase target) (scene_in Old) index))
-          (stripe-stays kind core step at pass phase_past h call locks) batches)
+          (list-goes kind core step at pass h goes locks phase_past (other_word SlotHead refl) (λ i. other_word (SlotNext i) refl) (ap free_indexes scene ∙ free-change (in_phase target) (scene_in Old) index))
+          (stripe-goes kind core step at pass h goes locks phase_past) batches)

@@ -1,0 +1,116 @@
+-- What the law of bodies says of the call of a pass that begins a call on a body in a tree, goes on with it or ends it: it
+-- changes no list and no box. And the law after a step on a word that it does not read.
+use Rattle.std.proofs.Common.{◌≡◌, ℕ, List, None, true, false, refl, ap, sym, ◌∙◌, subst}
+use Rattle.std.specs.Prelude.{⊤}
+use Rattle.std.proofs.lemmas.Bool.{false≢true}
+use Rattle.scene_model.specs.declared.body_view.Phase.TheVariants.{Held}
+use Rattle.scene_model.specs.declared.entry.Made.{Made}
+use Rattle.scene_model.specs.Scene.{record_at}
+use Rattle.word_map.specs.declared.name.Name.{Name}
+use Rattle.word_map.specs.declared.name.Name.TheVariants.{SlotHead, SlotNext, State, Phase, Layer, User, BoxWord, Slot}
+use Rattle.word_map.specs.Names.{index_lock}
+use Rattle.core_state.specs.declared.view.Task.{Task}
+use Rattle.core_state.specs.declared.view.Task.TheVariants.{Creating, Destroying, Moving}
+use Rattle.core_state.specs.declared.view.Call.{Call}
+use Rattle.core_state.specs.declared.view.View.{View}
+use Rattle.core_state.specs.Log.{history}
+use Rattle.core_state.specs.View.{IsPass}
+use Rattle.core_state.specs.Core.{Core, IsViewAt}
+use Rattle.core_state.specs.Kind.{Kind, Step, view_after, after_step}
+use Rattle.core_state.specs.Scope.{Sight, sight, scene_in}
+use Rattle.core_state.specs.Bodies.{free_indexes, IsBetweenBoxes, MovesBody}
+use Rattle.core_state.specs.BodiesAgree.{BodiesAgree, body_scope, ListsFree, ChangesList, IsUnderStripe}
+use Rattle.core_state.proofs.Beginning.{record_body}
+use Rattle.core_state.proofs.Frames.{step-history}
+use Rattle.core_guard.proofs.BodiesStep.{WordsPart, ListPart, StripePart, together, same-locks, unlisted, unstored, new_sight, bodies-agree, words-kept, list-moved, list-left, stripe-moved, stripe-part, stripe-stays, KeepsHeld, batch-part}
+
+-- the task changes neither the list of free indexes nor a box
+abbrev pub IsCalm : Task → Type 0
+IsCalm (Creating index) = ⊥
+IsCalm (Destroying index) = ⊥
+IsCalm (Moving index target) = ⊥
+IsCalm _ = ⊤
+
+calm-list : (task : Task) → IsCalm task → ¬ ChangesList task
+calm-list (Creating index) calm changes = calm
+calm-list (Destroying index) calm changes = calm
+calm-list _ calm changes = changes
+
+calm-box : (task : Task) (i : ℕ) → IsCalm task → ¬ MovesBody task i
+calm-box (Moving index target) i calm moves = calm
+calm-box _ i calm moves = moves
+
+-- the call is as before, or a calm one before and afterwards, which has the stripe of its body
+pub data CallGoesOn (s : Sight) (v w : View) : Type 0 where
+  same_call : w.call ≡ v.call → CallGoesOn s v w
+  calm_call : IsCalm v.call.task → IsCalm w.call.task → IsUnderStripe s w w.call.task → CallGoesOn s v w
+
+module _ (kind : Kind) (core : Core) (step : Step) (at : IsViewAt core step.seat step.view) (pass : IsPass step.view step.number) (h : BodiesAgree core)
+    (goes : CallGoesOn (sight body_scope core) step.view (view_after kind core step)) (locks : (view_after kind core step).locks ≡ step.view.locks) where
+  abbrev Old : Sight
+  Old = sight body_scope core
+
+  abbrev Last : View
+  Last = view_after kind core step
+
+  pub between : (i : ℕ) → IsBetweenBoxes step.view i → IsBetweenBoxes Last i
+  between i was = go goes
+    where
+      go : CallGoesOn Old step.view Last → IsBetweenBoxes Last i
+      go (same_call same) = subst (λ (c : Call). IsBetweenBoxes (record step.view { call = c }) i) (sym same) was
+      go (calm_call before after stripe) = absurd (calm-box step.view.call.task i before was.0)
+
+  module _ (past : List Made) where
+    abbrev New : Sight
+    New = new_sight kind core step at pass past
+
+    pub list-goes : New.word SlotHead ≡ Old.word SlotHead → ((i : ℕ) → New.word (SlotNext i) ≡ Old.word (SlotNext i)) → free_indexes (scene_in New) ≡ free_indexes (scene_in Old) → ListPart New
+    list-goes head next same = list-left kind core step at pass past h (own goes) (quiet goes) head next same
+      where
+        own : CallGoesOn Old step.view Last → ListsFree Old step.view step.view.call.task h.chain → ListsFree New Last Last.call.task h.chain
+        own (same_call e) old =
+            list-moved kind core step at pass past step.view Last Last.call.task h.chain (same-locks step.view Last locks (index_lock core.config)) same
+            (subst (λ (c : Call). ListsFree Old step.view c.task h.chain) (sym e) old)
+        own (calm_call before after stripe) old = unlisted New Last Last.call.task h.chain (calm-list Last.call.task after)
+
+        quiet : CallGoesOn Old step.view Last → ¬ ChangesList Last.call.task → ¬ ChangesList step.view.call.task
+        quiet (same_call e) none = subst (λ (c : Call). ¬ ChangesList c.task) e none
+        quiet (calm_call before after stripe) none = calm-list step.view.call.task before
+
+    pub stripe-goes : StripePart New
+    stripe-goes = go goes
+      where
+        go : CallGoesOn Old step.view Last → StripePart New
+        go (same_call same) = stripe-stays kind core step at pass past h same locks
+        go (calm_call before after stripe) = stripe-part kind core step at pass past h (λ old. stripe-moved kind core step at pass past Last Last Last.call.task (λ lock holds. holds) stripe)
+
+  -- ---- a step on a word that the law does not read
+
+  pub BodiesAgree-goes : body_scope.names step.name ≡ false → ((value : ℕ) → kind.entry step.view step.name value ≡ None) → Last.batches ≡ step.view.batches → BodiesAgree (after_step kind core step)
+  BodiesAgree-goes hidden plain batches =
+      bodies-agree kind core step at pass (history core.log) (step-history kind core step plain)
+      (together Now words (list-goes (history core.log) (kept SlotHead refl) (λ i. kept (SlotNext i) refl) refl) (stripe-goes (history core.log))
+      (batch-part kind core step at pass (history core.log) h batches held (λ i. kept (Phase i) refl) (λ l t. kept (Slot l t) refl)))
+    where
+      Now : Sight
+      Now = new_sight kind core step at pass (history core.log)
+
+      kept : (name : Name) → body_scope.names name ≡ true → Now.word name ≡ Old.word name
+      kept name reads = unstored kind core step at pass name (λ same. false≢true (sym hidden ∙ (ap (λ (n : Name). body_scope.names n) (sym same) ∙ reads)))
+
+      words : WordsPart Now
+      words = record {
+        lawful = h.lawful;
+        state = λ i below. kept (State i) refl ∙ h.state i below;
+        live = λ i r e.
+            words-kept kind core step at pass (history core.log) i r (between i) (kept (Layer i) refl) (kept (User i) refl) (λ k. kept (BoxWord i k) refl) (kept (Phase i) refl) (λ l t. kept (Slot l t) refl)
+            (h.live i r e);
+        dead = λ i none. kept (Phase i) refl ∙ h.dead i none;
+      }
+
+      held : KeepsHeld kind core step at pass (history core.log)
+      held = record {
+        forth = λ i r e is. record_body (record_at (scene_in Old) i) (λ q. (q.phase ≡ Held) × (q.layer ≡ r.layer)) r e (is, refl);
+        boxes = λ i r e is k. kept (BoxWord i k) refl;
+        back = λ i is. is;
+      }

@@ -1,0 +1,28 @@
+-- One update at most is under way: two passes that have one are one pass.
+use Rattle.std.proofs.Common.{◌≡◌, ℕ, suc, Option, Some, None, IsSome, option_map, refl, subst, arith}
+use Rattle.word_map.specs.declared.name.Name.TheVariants.{Update}
+use Rattle.core_state.specs.declared.view.Rebuild.{Rebuild}
+use Rattle.core_state.specs.declared.view.View.{View}
+use Rattle.core_state.specs.View.{IsPass}
+use Rattle.core_state.specs.Core.{Core, word_of, IsViewAt}
+use Rattle.core_state.specs.Formed.{IsFormed}
+use Rattle.core_state.specs.Nodes.{Nodes}
+use Rattle.core_state.specs.NodesInOnePlace.{NodesInOnePlace, node_scope}
+use Rattle.core_guard.proofs.Seats.{seat-has}
+use Rattle.core_guard.proofs.Unowned.{view-once}
+
+some-map : (f : Rebuild → Rebuild) (o : Option Rebuild) → IsSome o → IsSome (option_map f o)
+some-map f None h = h
+some-map f (Some r) h = refl
+
+module _ (core : Core) (formed : IsFormed core) (nodes : Nodes) (h : NodesInOnePlace nodes core) where
+  names-update : (seat number : ℕ) (view : View) → IsViewAt core seat view → IsPass view number → IsSome view.rebuild → word_of core Update ≡ suc number
+  names-update seat number view at pass some =
+      (h.update number).1
+      (seat-has node_scope (λ k v. refl) core number (λ v. IsSome v.rebuild) (record { seat = seat; view = view; at = at; pass = pass; holds = some-map _ view.rebuild some }))
+
+  pub one-update : (seat other number second : ℕ) (v w : View) → IsViewAt core seat v → IsViewAt core other w → IsPass v number → IsPass w second → IsSome v.rebuild → IsSome w.rebuild → v ≡ w
+  one-update seat other number second v w at found pass own one two =
+      let first = names-update seat number v at pass one in
+      let same : second ≡ number = let again = names-update other second w found own two in omega arith in
+      view-once core formed seat other number v w at found pass (subst (IsPass w) same own)

@@ -1,0 +1,281 @@
+-- Clearing an entry of a body that is taken out: it is at a location of that body, so no way to another body is cut.
+use Rattle.std.proofs.Common.{◌≡◌, ◌≢◌, ◌⊎◌, ℕ, List, [], ◌∷◌, ◌++◌, Option, Some, None, false, IsSome, is_some, refl, ap, sym, ◌∙◌, subst, inl, inr, arith}
+use Rattle.std.specs.Prelude.{Contains, IfSome, IsSomeAnd, option_map}
+use Rattle.std.proofs.lemmas.List.Folds.{list_any-append}
+use Rattle.std.proofs.lemmas.Bool.{cases_eq}
+use Rattle.std.proofs.lemmas.List.Elements.{Contains-append_cases}
+use Rattle.scene_model.specs.declared.body_view.Phase.TheVariants.{Out, In}
+use Rattle.scene_model.specs.Scene.{Record, record_at}
+use Rattle.scene_model.specs.Step.{HasBody}
+use Rattle.word_map.specs.declared.name.Name.{Name}
+use Rattle.word_map.specs.declared.name.Name.TheVariants.{LocB, Child, Bound}
+use Rattle.core_state.specs.declared.item.Store.{Store}
+use Rattle.core_state.specs.declared.view.Task.{Task}
+use Rattle.core_state.specs.declared.view.Task.TheVariants.{Removing}
+use Rattle.core_state.specs.declared.view.Call.{Call}
+use Rattle.core_state.specs.declared.view.Noted.{Noted}
+use Rattle.core_state.specs.declared.view.Rebuild.{Rebuild}
+use Rattle.core_state.specs.declared.view.View.{View}
+use Rattle.core_state.specs.View.{IsPass}
+use Rattle.core_state.specs.Core.{Core, word_of, scene_of, IsViewAt}
+use Rattle.core_state.specs.Kind.{Step, after_step}
+use Rattle.core_state.specs.Removing.{MayClearEntry, clear_entry}
+use Rattle.core_state.specs.Encoding.{body_child, place}
+use Rattle.core_state.specs.Nodes.{Nodes, made, IsLive, Stands}
+use Rattle.core_state.specs.Parts.{call_by_task, call_on_places, update_on_places}
+use Rattle.core_state.specs.Scope.{Sight, sight}
+use Rattle.core_state.specs.LocksAgree.{lock_scope}
+use Rattle.core_state.specs.BodiesAgree.{BodiesAgree, body_scope, IsUnderStripe}
+use Rattle.core_state.specs.NodesInOnePlace.{node_scope}
+use Rattle.core_state.specs.TreesSound.{TreesSoundIn, tree_scope}
+use Rattle.core_state.specs.Updates.{EachUpdate, HasUpdate, IsPlacing, IsDone}
+use Rattle.core_state.specs.LocationsHold.{LocationsHoldIn, location_scope, IsLocation, GivesBox, ClimbsFrom, IsUnheld, IsTakenOut, Removes, IsSecondFor, is_location_store, has_cleared_location}
+use Rattle.core_state.specs.BodiesCovered.{BodiesCoveredIn, cover_scope}
+use Rattle.core_state.specs.WalksLead.{WalksLeadIn, walk_scope}
+use Rattle.core_state.specs.ReadersCounted.{ReadersCountedIn, reader_scope}
+use Rattle.core_state.specs.Invariants.{Invariants}
+use Rattle.core_state.proofs.Lookups.{at_one}
+use Rattle.core_state.proofs.Opening.{only}
+use Rattle.core_state.proofs.Steps.{word-step}
+use Rattle.core_guard.proofs.CallsAgree.{IsCalm, calm_call, BodiesAgree-goes}
+use Rattle.core_guard.proofs.Cleared.{IsGone, ClearsEntries, none-kept, children_in, child-sight, child-law, child-where, child-clears, TreesSound-cleared, WalksLead-cleared, ReadersCounted-cleared}
+use Rattle.core_guard.proofs.ClearedPlaces.{End, ClearsPlace, LocationsHold-cleared}
+use Rattle.core_guard.proofs.Holders.{keeps, IsGuarded, guarded}
+use Rattle.core_guard.proofs.Leaving.{Acts, After, Last, idle-unhandled}
+use Rattle.core_guard.proofs.OneUpdate.{one-update}
+use Rattle.core_guard.proofs.PlacesLeft.{SeenUpdate}
+use Rattle.core_guard.proofs.PlacesStay.{PassIsPlaced, acting, seen-task, places-handles}
+use Rattle.core_guard.proofs.Recalled.{Recalls, call-is, task-is, law-unseen, LocksAgree-recalled, NodesInOnePlace-recalled}
+use Rattle.core_guard.proofs.Seats.{seen_of, each-seats, has-seat}
+use Rattle.core_guard.proofs.Touched.{IsKept, kept}
+use Rattle.core_guard.proofs.Unowned.{stands-unowned}
+use Rattle.core_move.proofs.Removers.{stripe, others-else, own-places, taken, body_out, known-location}
+
+-- one element more in a list
+pub last-or : {X : Type 0} (xs : List X) (x y : X) → Contains (xs ++ x ∷ []) y → Contains xs y ⊎ (x ≡ y)
+last-or xs x y h = elim (Contains-append_cases xs (x ∷ []) y h) [ inl old ↦ inl old | inr new ↦ inr (only x y new) ]
+
+-- one store more, of no location
+cleared-more : (stores : List Store) (new : Store) → is_location_store new.name ≡ false → has_cleared_location stores ≡ false → has_cleared_location (stores ++ new ∷ []) ≡ false
+cleared-more stores new none h = list_any-append (λ (s : Store). is_location_store s.name) stores (new ∷ []) ∙ rw (h, none) refl
+
+module _ (core : Core) (step : Step) (a : Acts core step) (asked : MayClearEntry step.view step.name step.first step.second) where
+  abbrev i : ℕ
+  i = asked.index
+
+  abbrev nodes : Nodes
+  nodes = a.laws.nodes
+
+  abbrev Was : Sight
+  Was = sight location_scope core
+
+  abbrev new_store : Store
+  new_store = record { name = step.name; value = step.first }
+
+  abbrev new_call : Call
+  new_call = record step.view.call { stores = step.view.call.stores ++ new_store ∷ [] }
+
+  recalls : Recalls clear_entry core step new_call
+  recalls = refl
+
+  task-after : (Last clear_entry core step).call.task ≡ Removing i
+  task-after = task-is clear_entry core step new_call recalls ∙ asked.task
+
+  -- ---- the word
+
+  location : IsLocation Was i asked.node asked.child
+  location = known-location clear_entry core step a i asked.task asked.node asked.child asked.location
+
+  none-after : word_of (After clear_entry core step) (Child asked.node asked.child) ≡ 0
+  none-after = ap (λ (n : Name). word_of (After clear_entry core step) n) (sym asked.names) ∙ (word-step clear_entry core step ∙ asked.none)
+
+  stands : Stands (nodes.home asked.node)
+  stands = ((taken clear_entry core step a i asked.task).cleared asked.node asked.child location).0
+
+  abbrev c : ℕ → ℕ → ℕ
+  c n k = word_of (After clear_entry core step) (Child n k)
+
+  clears : ClearsEntries nodes (word_of core) c i
+  clears =
+      child-clears clear_entry core step asked.node asked.child asked.names (λ value. refl) nodes i none-after
+      (elim (((taken clear_entry core step a i asked.task).cleared asked.node asked.child location).1) [ inl e ↦ inl e | inr e ↦ inr (e.0, stands) ])
+
+  not_in : ¬ HasBody (scene_of core) i (λ r. r.phase ≡ In)
+  not_in inside = go (record_at (scene_of core) i) (body_out clear_entry core step a i asked.task) inside
+    where
+      apart : Out ≡ In → ⊥
+      apart e = absurd cc
+
+      go : (o : Option Record) → IsSomeAnd o (λ x. x.phase ≡ Out) → ¬ IsSomeAnd o (λ x. x.phase ≡ In)
+      go None h k = h
+      go (Some x) h k = apart (sym h ∙ k)
+
+  -- ---- the pass
+
+  -- an entry that stands was not cleared: what is stored is 0
+  uncleared : (n k : ℕ) → c n k ≡ body_child i → ¬ Contains step.view.call.stores (record { name = Child n k; value = 0 }) → ¬ Contains new_call.stores (record { name = Child n k; value = 0 })
+  uncleared n k entry old among =
+      elim (last-or step.view.call.stores new_store (record { name = Child n k; value = 0 }) among) [
+        | inl before ↦ old before
+        | inr new ↦
+            let none : c n k ≡ 0 = ap (λ (s : Store). word_of (After clear_entry core step) s.name) (sym new) ∙ (word-step clear_entry core step ∙ asked.none) in
+            absurd (omega arith)
+      ]
+
+  -- and what it stored before is what it stored
+  old-bound : (n k q value : ℕ) → Contains new_call.stores (record { name = Bound n k q; value = value }) → Contains step.view.call.stores (record { name = Bound n k q; value = value })
+  old-bound n k q value among =
+      elim (last-or step.view.call.stores new_store (record { name = Bound n k q; value = value }) among) [
+        | inl before ↦ before
+        | inr new ↦ absurd (bound_child (sym (ap (λ (s : Store). s.name) new) ∙ asked.names))
+      ]
+    where
+      bound_child : Bound n k q ≡ Child asked.node asked.child → ⊥
+      bound_child e = absurd cc
+
+  abbrev Later : Sight
+  Later = End clear_entry core step a i c clears
+
+  still-taken : IsTakenOut nodes Later (acting new_call (SeenUpdate clear_entry core step)) i
+  still-taken =
+      let t = taken clear_entry core step a i asked.task in
+      record {
+        out = t.out;
+        cleared = λ n k at.
+            let was = t.cleared n k at in (
+              was.0,
+              elim (was.1) [
+                | inl e ↦ inl (none-kept nodes Was c i clears n k e)
+                | inr e ↦ elim (clears n k) [
+                  | inl same ↦ inr (same ∙ e.0, cleared-more step.view.call.stores new_store (ap is_location_store asked.names) e.1, uncleared n k (same ∙ e.0) e.2)
+                  | inr gone ↦ inl gone.none
+                ]
+              ],
+            );
+        live = t.live;
+      }
+
+  own-after : PassIsPlaced nodes Later (call_on_places (Last clear_entry core step).call) (SeenUpdate clear_entry core step)
+  own-after =
+      let p = own-places clear_entry core step a i asked.task in
+      let none : (n k : ℕ) → ¬ ClimbsFrom Was (acting step.view.call (SeenUpdate clear_entry core step)) step.view.call.task n k = λ n k climbs. subst (λ (t : Task). ClimbsFrom Was (acting step.view.call (SeenUpdate clear_entry core step)) t n k) asked.task climbs in
+      subst (λ (d : Call). PassIsPlaced nodes Later d (SeenUpdate clear_entry core step)) (sym (ap call_on_places (call-is clear_entry core step new_call recalls) ∙ ap (λ (t : Task). call_by_task t new_call) asked.task))
+      (record {
+        removed = λ j removes. subst (IsTakenOut nodes Later (acting new_call (SeenUpdate clear_entry core step))) (subst (λ (t : Task). Removes t j) asked.task removes) still-taken;
+        unheld = subst (IsUnheld Later) (sym asked.task) tt;
+        widened = λ j n k box gives stored at. absurd (subst (λ (t : Task). GivesBox t j box) asked.task gives);
+        still_wide = λ n k q value among. p.still_wide n k q value (old-bound n k q value among);
+        climbs_from = λ n k climbs. absurd (subst (λ (t : Task). ClimbsFrom Later (acting new_call (SeenUpdate clear_entry core step)) t n k) asked.task climbs);
+        on_its_way = λ m value among. let t = p.on_its_way m value among in absurd (none t.1.0 t.1.1 t.1.3);
+        widened_on_way = λ x y q value among. let t = p.widened_on_way x y q value (old-bound x y q value among) in absurd (none t.0 t.1 t.2);
+      })
+
+  -- ---- an update that planned the entry
+
+  gone-here : (n k : ℕ) → IsGone nodes (λ n k. word_of core (Child n k)) c i n k → (n ≡ asked.node) × (k ≡ asked.child)
+  gone-here n k gone =
+      elim (child-where clear_entry core step asked.node asked.child asked.names (λ value. refl) n k) [
+        | inl here ↦ here
+        | inr same ↦ let none = gone.none in let was = gone.was in absurd (omega arith)
+      ]
+
+  -- it is at the second location, so the update has placed the body
+  planned-second : (n k number l : ℕ) → IsGone nodes (λ n k. word_of core (Child n k)) c i n k → nodes.home n ≡ made number l → word_of core (LocB i) ≢ 0
+  planned-second n k number l gone home none =
+      elim (location.1) [
+        | inl first ↦
+            let live = (taken clear_entry core step a i asked.task).live asked.node asked.child location.0 first in
+            subst IsLive (ap nodes.home (sym (gone-here n k gone).0) ∙ home) live
+        | inr second ↦ absurd (omega arith)
+      ]
+
+  -- nobody places it
+  unplaced : (seat number : ℕ) (view : View) → IsViewAt core seat view → IsPass view number → ¬ IsPlacing view.call.task i
+  unplaced seat number view found own places =
+      elim (cases_eq seat step.seat) [
+        | inl same ↦
+            let one : step.view ≡ view = at_one core.views step.seat step.view view a.at (subst (λ (k : ℕ). IsViewAt core k view) same found) in
+            subst (λ (t : Task). IsPlacing t i) (ap (λ (v : View). v.call.task) (sym one) ∙ asked.task) places
+        | inr apart ↦ others-else clear_entry core step a i asked.task seat number view apart found own (places-handles view.call.task i places)
+      ]
+
+  some-of : (o : Option Rebuild) (P : Rebuild → Type 0) → IsSomeAnd (option_map update_on_places o) P → IsSome o
+  some-of None P h = absurd h
+  some-of (Some r) P h = refl
+
+  placed-by : (seat number : ℕ) (view : View) (r : Rebuild) → IsViewAt core seat view → IsPass view number → view.rebuild ≡ Some r → word_of core (LocB i) ≢ 0 → Contains r.placed i
+  placed-by seat number view r found own e other =
+      let second = a.laws.locations.second i other in
+      let from = has-seat location_scope (λ k v. refl) core second.0 (λ v. HasUpdate v (IsSecondFor Was i)) second.1 in
+      let one : from.view ≡ view =
+      one-update core a.formed nodes a.laws.places from.seat seat second.0 number from.view view from.at found from.pass own (some-of from.view.rebuild (IsSecondFor Was i) from.holds) (ap is_some e) in
+      (subst (λ (o : Option Rebuild). IsSomeAnd (option_map update_on_places o) (IsSecondFor Was i)) (ap (λ (v : View). v.rebuild) one ∙ e) from.holds).0
+
+  abbrev HasDone : ℕ → View → Rebuild → Type 0
+  HasDone number view r = (noted : Noted) (n k : ℕ) → Contains r.noted noted → noted.index ≡ i → IsGone nodes (λ n k. word_of core (Child n k)) c i n k → noted.place ≡ place n k → nodes.home n ≡ made number noted.layer → IsDone view r i
+
+  done : EachUpdate Was (λ number view r. HasDone number view r)
+  done = each-seats location_scope (λ k v. refl) core (λ number v. IfSome v.rebuild (λ r. HasDone number v r)) (λ seat number view found own. go seat number view found own view.rebuild refl)
+    where
+      go : (seat number : ℕ) (view : View) → IsViewAt core seat view → IsPass view number → (o : Option Rebuild) → view.rebuild ≡ o → IfSome (option_map update_on_places o) (λ r. HasDone number (seen_of location_scope number view) r)
+      go seat number view found own None e = tt
+      go seat number view found own (Some r) e = λ noted n k among same gone at home.
+          inl (
+            placed-by seat number view r found own e (planned-second n k number noted.layer gone home),
+            λ places.
+                unplaced seat number view found own (seen-task (λ task. IsPlacing task i) (λ task calm h. idle-unhandled task i calm (places-handles task i h)) view.call places),
+          )
+
+  clears-place : ClearsPlace clear_entry core step a i c clears
+  clears-place = record {
+    left = not_in;
+    rebuild = refl;
+    batches = refl;
+    removes = λ j removes. removes;
+    places = λ j. (λ h. h, λ h. h);
+    own = own-after;
+    done = done;
+  }
+
+  -- ---- the laws
+
+  BodiesAgree-clear_entry : BodiesAgree (after_step clear_entry core step)
+  BodiesAgree-clear_entry =
+      BodiesAgree-goes clear_entry core step a.at a.pass a.laws.bodies
+      (calm_call (subst IsCalm (sym asked.task) tt) (subst IsCalm (sym task-after) tt)
+      (subst (λ (t : Task). IsUnderStripe (sight body_scope core) (Last clear_entry core step) t) (sym task-after) (stripe clear_entry core step a i asked.task)))
+      refl (ap body_scope.names asked.names) (λ value. refl) refl
+
+  Invariants-cleared : Invariants (after_step clear_entry core step)
+  Invariants-cleared =
+      let node = asked.node in
+      let child = asked.child in
+      let law = child-law clear_entry core step node child asked.names (λ value. refl) a in
+      let kids = children_in clear_entry core step node child asked.names (λ value. refl) in
+      record {
+        nodes = nodes;
+        locks = LocksAgree-recalled clear_entry core step new_call recalls a (ap lock_scope.names asked.names);
+        bodies = BodiesAgree-clear_entry;
+        places = NodesInOnePlace-recalled clear_entry core step new_call recalls a (ap node_scope.names asked.names) refl;
+        trees = law tree_scope (TreesSoundIn nodes) refl (TreesSound-cleared nodes (sight tree_scope core) (kids tree_scope) i clears a.laws.trees);
+        locations =
+            subst (LocationsHoldIn nodes) (sym (child-sight clear_entry core step node child asked.names (λ value. refl) location_scope))
+            (LocationsHold-cleared clear_entry core step a i c clears clears-place);
+        cover = law-unseen clear_entry core step new_call recalls a cover_scope (BodiesCoveredIn nodes) (ap cover_scope.names asked.names) (λ reads value. refl) refl a.laws.cover;
+        walks = law walk_scope WalksLeadIn refl (WalksLead-cleared nodes (sight walk_scope core) (kids walk_scope) i clears not_in a.laws.walks);
+        readers = law reader_scope (ReadersCountedIn nodes) refl (ReadersCounted-cleared nodes (sight reader_scope core) (kids reader_scope) i clears a.laws.readers);
+      }
+
+-- ---- kind 40
+
+pub Invariants-clear_entry : IsKept MayClearEntry clear_entry
+Invariants-clear_entry = kept MayClearEntry clear_entry (λ core step a asked. Invariants-cleared core step a asked)
+
+pub GuardsHold-clear_entry : IsGuarded MayClearEntry clear_entry
+GuardsHold-clear_entry =
+    guarded MayClearEntry clear_entry
+    (λ core step a asked. keeps clear_entry core step (Child asked.node asked.child) asked.names
+    (λ stored seat number view apart found own. (
+      stands-unowned core a.formed a.laws.nodes a.laws.places a.laws.trees seat number view found own asked.node (stands core step a asked),
+      tt,
+    )))

@@ -210,6 +210,8 @@ module _ (nodes : Nodes) (s : Sight) (c : ℕ → ℕ → ℕ) (i : ℕ) (clears
               (position_of s.config query view.walk.loads) (old.ahead index generation due);
           widens = widens-forth view.walk (position_of s.config query view.walk.loads).spot old.widens;
           order = old.order;
+          once = old.once;
+          bodies = old.bodies;
         };
     begun = h.begun;
   }

@@ -91,7 +91,7 @@ module _ (kind : Kind) (core : Core) (step : Step) (a : Acts core step) (i : ℕ
           live = t.live;
         };
     unheld = unheld-forth call.task p.unheld;
-    widened = λ j n k box gives stored location. encloses-forth n k box (p.widened j n k box gives stored location);
+    widened = λ j n k box gives stored location. let t = p.widened j n k box gives stored location in (t.0, encloses-forth n k box t.1);
     still_wide = p.still_wide;
     climbs_from = λ n k climbs. p.climbs_from n k (climbs-back (acting call rebuild) call.task n k climbs);
     on_its_way = λ m value read. let t = p.on_its_way m value read in (t.0, (t.1.0, t.1.1, t.1.2, climbs-forth (acting call rebuild) call.task t.1.0 t.1.1 t.1.3, up-forth t.1.0 t.1.1 m t.1.2 t.1.4));

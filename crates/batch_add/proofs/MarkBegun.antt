@@ -4,16 +4,15 @@ use Rattle.std.proofs.Common.{◌≡◌, ℕ, ◌<◌, List, [], ◌++◌, ◌�
 use Rattle.std.proofs.lemmas.Map.Keys.{IsDistinct-from_apart}
 use Rattle.fixed_box.specs.declared.fix_box.FixBox.{FixBox}
 use Rattle.body_ident.specs.Id.{Id}
-use Rattle.word_map.specs.Names.{stripe_of}
 use Rattle.core_state.specs.declared.view.Mode.TheVariants.{Write}
 use Rattle.core_state.specs.declared.view.Task.TheVariants.{Nothing}
 use Rattle.core_state.specs.declared.view.Batch.{Batch}
 use Rattle.core_state.specs.declared.view.View.{View}
 use Rattle.core_state.specs.View.{IsPass}
-use Rattle.pass_table.specs.declared.take_op.TakeOp.{TakeOp}
 use Rattle.pass_table.specs.Holding.{IsAtRest}
-use Rattle.pass_table.specs.TakeTurns.{taking_of, IsTaking}
-use Rattle.batch_add.specs.declared.mark_op.MarkStage.TheVariants.{Taking}
+use Rattle.body_look.specs.declared.look_op.LookDepth.TheVariants.{Phase as ItsPhase}
+use Rattle.body_look.specs.Looking.{looking_of, IsLooking}
+use Rattle.batch_add.specs.declared.mark_op.MarkStage.TheVariants.{Looking}
 use Rattle.batch_add.specs.declared.mark_op.Marking.{Marking}
 use Rattle.pass_table.specs.Work.{HasWorked, begun as begun_work}
 use Rattle.batch_add.specs.Parts.{IsNewest}
@@ -40,11 +39,11 @@ nothing_done start before batch all n none newest bare =
     ∙ ap (λ (m : ℕ). marks_work start before batch (take m all) []) (sym none)
 
 -- a marking is begun by a pass at rest
-pub marking-begun : (operation : Marking) (view next : View) (number : ℕ) (taking : TakeOp) → operation.marked ≡ 0 → operation.stage ≡ Taking taking → IsPass view number → IsAtRest view → next ≡ view
+pub marking-begun : (operation : Marking) (view next : View) (number : ℕ) → operation.marked ≡ 0 → operation.stage ≡ Looking → IsPass view number → IsAtRest view
     → 0 < length operation.ids.items → length operation.bodies.items ≡ length operation.ids.items → All (λ id. id.index < view.config.bodies) operation.ids.items
     → ((before : List Batch) × (batch : Batch) × IsForNewest operation.layer operation.slot view before batch)
-    → IsTaking (taking_of (stripe_of view.config (current (marks_of operation)).index) Write) view taking next → IsMarking operation view operation next
-marking-begun operation view next number taking none at pass rest still some room below newest goes = record {
+    → IsLooking (looking_of view.config (current (marks_of operation)) Write ItsPhase) view operation.look next → IsMarking operation view operation next
+marking-begun operation view next number none at pass rest some room below newest goes = record {
   layer = refl;
   slot = refl;
   ids = refl;
@@ -54,16 +53,15 @@ marking-begun operation view next number taking none at pass rest still some roo
     room = room;
     begun = record { for_newest = newest.2; below = below; rest = rest; first = none_first operation.ids.items operation.bodies.items operation.marked none };
     at =
-        subst (AtMark view newest.0 newest.1 (marks_of operation) next) (sym at) (
-          record {
+        subst (AtMark view newest.0 newest.1 (marks_of operation) next operation.look) (sym at) (record {
+          mid = view;
+          between = record {
             next = omega arith;
             steps = [];
             free = λ lock. refl;
-            worked =
-                subst (λ (v : View). HasWorked view v (marks_work view newest.0 newest.1 (marks_of operation).bodies [])) (sym still)
-                (subst (HasWorked view view) (nothing_done view newest.0 newest.1 operation.bodies.items operation.marked none newest.2.newest newest.2.bare) (worked-begun view number pass rest));
-          },
-          subst (λ (v : View). IsTaking (taking_of (stripe_of view.config (current (marks_of operation)).index) Write) v taking next) (sym still) goes,
-        );
+            worked = subst (HasWorked view view) (nothing_done view newest.0 newest.1 operation.bodies.items operation.marked none newest.2.newest newest.2.bare) (worked-begun view number pass rest);
+          };
+          looking = goes;
+        });
   };
 }

@@ -15,28 +15,29 @@ use Rattle.core_state.specs.declared.view.Mode.TheVariants.{Write}
 use Rattle.core_state.specs.declared.view.LockStep.TheVariants.{Taken as TakenStep, Released}
 use Rattle.core_state.specs.declared.view.Batch.{Batch}
 use Rattle.core_state.specs.declared.view.View.{View}
-use Rattle.core_state.specs.View.{IsPass, HoldsNot}
+use Rattle.core_state.specs.View.{IsPass}
 use Rattle.core_state.specs.Encoding.{phase_join}
 use Rattle.core_state.specs.Batches.{MayMark, mark}
 use Rattle.core_state.specs.Locking.{MayRelease, release}
-use Rattle.pass_table.specs.declared.take_op.TakeOp.{TakeOp}
 use Rattle.pass_table.specs.declared.turn.Turn.TheVariants.{Done, More}
 use Rattle.pass_table.specs.Stepping.{Stored}
-use Rattle.pass_table.specs.TakeTurns.{taking_of, IsTaking}
 use Rattle.pass_table.specs.Holding.{MayLetGo, LetGo}
 use Rattle.pass_table.specs.Turning.{MadeBy, IsUnderWay, LoadsNow}
 use Rattle.pass_table.specs.Calls.{AtPoint}
 use Rattle.pass_table.proofs.Knowing.{known-more}
 use Rattle.pass_table.proofs.Calling.{point-later, released-step, released-made}
+use Rattle.body_look.specs.declared.look_op.LookDepth.TheVariants.{Phase as ItsPhase}
+use Rattle.body_look.specs.declared.look_op.LookOp.{LookOp}
+use Rattle.body_look.specs.Looking.{looking_of, IsLooking}
 use Rattle.batch_add.specs.declared.mark_op.MarkRefused.{MarkRefused}
 use Rattle.batch_add.specs.declared.mark_op.MarkStage.{MarkStage}
-use Rattle.batch_add.specs.declared.mark_op.MarkStage.TheVariants.{Taking, Boxed, Leaving, Refusing}
+use Rattle.batch_add.specs.declared.mark_op.MarkStage.TheVariants.{Looking, Boxed, Leaving, Refusing}
 use Rattle.batch_add.specs.declared.mark_op.Marking.{Marking}
 use Rattle.pass_table.specs.Work.{HasWorked, HasDone}
 use Rattle.batch_add.specs.Parts.{IsNewest, HasMarked, HasMarkedBefore, marks_outcome, IsMarkRefusedAt}
-use Rattle.batch_add.specs.Marking.{Marks, marks_of, marked_bodies, current, IsBegunFor, marks_work, HasStripe, AtMark, GoesOnFrom, IsMarking, Notes, mark_left, IsMarkTurn, takes_at}
+use Rattle.batch_add.specs.Marking.{Marks, marks_of, marked_bodies, current, IsBegunFor, marks_work, HasStripe, AtMark, PastLook, GoesOnFrom, IsMarking, Notes, mark_left, IsMarkTurn, takes_at}
 use Rattle.batch_add.specs.MarkLater.{stripe-held}
-use Rattle.pass_table.proofs.WorkLater.{worked-sizes, worked-mode}
+use Rattle.pass_table.proofs.WorkLater.{worked-sizes}
 use Rattle.pass_table.proofs.Working.{worked-released, worked-done}
 use Rattle.batch_add.proofs.MarkLocks.{free-again}
 use Rattle.batch_add.proofs.Marked.{asks-mark, mark-step, mark-made, mark-leaves, marks-begun}
@@ -66,8 +67,8 @@ marked-few layer slot start before batch marks begun =
 -- ---- the turn that marks a body
 
 -- what a going marking is at
-pub going-at : (operation : Marking) (stage : MarkStage) (start view : View) (goes : GoesOnFrom start operation view) → operation.stage ≡ stage → AtMark start goes.before goes.batch (marks_of operation) view stage
-going-at operation stage start view goes at = subst (AtMark start goes.before goes.batch (marks_of operation) view) at goes.at
+pub going-at : (operation : Marking) (stage : MarkStage) (start view : View) (goes : GoesOnFrom start operation view) → operation.stage ≡ stage → AtMark start goes.before goes.batch (marks_of operation) view operation.look stage
+going-at operation stage start view goes at = subst (AtMark start goes.before goes.batch (marks_of operation) view operation.look) at goes.at
 
 -- the store of the phase word may be made
 pub may-mark : (operation : Marking) (bounds : FixBox) (view : View) (value : ℕ) → IsUnderWay IsMarking operation view → operation.stage ≡ Boxed bounds → value ≡ phase_join operation.slot
@@ -106,8 +107,8 @@ module _ (operation new : Marking) (number : ℕ) (bounds : FixBox) (stripe : �
             (subst (IsBegunFor operation.layer operation.slot start goes.before goes.batch) marks
             (marks-begun operation.layer operation.slot start goes.before goes.batch (marks_of operation) goes.begun view bounds here value joins next stored)));
         at =
-            subst (AtMark start goes.before goes.batch (marks_of new) next) (sym notes.stage)
-            (subst (λ (m : Marks). AtMark start goes.before goes.batch m next (Leaving stripe)) marks
+            subst (AtMark start goes.before goes.batch (marks_of new) next new.look) (sym notes.stage)
+            (subst (λ (m : Marks). PastLook start goes.before goes.batch m next (Leaving stripe)) marks
             (mark-leaves operation.layer operation.slot start goes.before goes.batch (marks_of operation) goes.begun view bounds here value joins next stored number stripe pass
             (same ∙ ap (λ (c : Config). stripe_of c (current (marks_of operation)).index) sizes) (subst (λ (c : Config). stripe < c.stripes) sizes low)));
       }
@@ -117,11 +118,11 @@ module _ (operation new : Marking) (number : ℕ) (bounds : FixBox) (stripe : �
   mark-turn value joins stored pass at same low way =
       let goes = way.goes.goes in
       let here = going-at operation (Boxed bounds) way.start view goes at in
-      let one : mark_left operation ≡ 2 + 13 * (length operation.ids.items - suc operation.marked) =
+      let one : mark_left operation ≡ 2 + 15 * (length operation.ids.items - suc operation.marked) =
       ap (λ (s : MarkStage). mark_left (record operation { stage = s })) at
       in
-      let two : mark_left new ≡ 1 + 13 * (length operation.ids.items - suc operation.marked) =
-      ap (λ (s : MarkStage). mark_left (record new { stage = s })) notes.stage ∙ (λ i. 1 + 13 * (length (ap (λ v. v.items) notes.ids i) - notes.marked i))
+      let two : mark_left new ≡ 1 + 15 * (length operation.ids.items - suc operation.marked) =
+      ap (λ (s : MarkStage). mark_left (record new { stage = s })) notes.stage ∙ (λ i. 1 + 15 * (length (ap (λ v. v.items) notes.ids i) - notes.marked i))
       in
       record {
         step = mark-step operation.layer operation.slot way.start goes.before goes.batch (marks_of operation) goes.begun view bounds here value joins next stored;
@@ -129,7 +130,7 @@ module _ (operation new : Marking) (number : ℕ) (bounds : FixBox) (stripe : �
             subst (MadeBy view next) (sym notes.made)
             (mark-made operation.layer operation.slot way.start goes.before goes.batch (marks_of operation) goes.begun view bounds here value joins next stored number pass);
         turned = inl (omega arith);
-        loads = subst (λ (s : MarkStage). LoadsNow view next (takes_at s)) (sym notes.stage) tt;
+        loads = subst (λ (s : MarkStage). LoadsNow view next (takes_at new.look s)) (sym notes.stage) tt;
         keeps = λ first start marking. record {
           layer = notes.layer ∙ marking.layer;
           slot = notes.slot ∙ marking.slot;
@@ -152,20 +153,23 @@ module _ (start : View) (before : List Batch) (batch : Batch) (layer slot : ℕ)
   gone_worked : HasWorked start next (marks_work start before batch marks.bodies ((held.steps ++ TakenStep stripe Write ∷ []) ++ Released stripe ∷ []))
   gone_worked = worked-released start view next _ held.worked stripe found go refl
 
-  -- no lock is held then
-  pub none-held : (lock : ℕ) → HoldsNot next lock
-  none-held lock = worked-mode start next _ gone_worked begun.rest lock ∙ free-again held.steps stripe held.free lock
-
-  -- then the next body comes
-  pub then-next : marks.marked < length marks.ids → (taking : TakeOp) → IsTaking (taking_of (stripe_of start.config (current marks).index) Write) next taking next → AtMark start before batch marks next (Taking taking)
-  then-next less taking goes = (
-    record { next = less; steps = (held.steps ++ TakenStep stripe Write ∷ []) ++ Released stripe ∷ []; free = free-again held.steps stripe held.free; worked = gone_worked },
-    goes,
-  )
-
-  -- or the call ends
+  -- the call may end
   pub ends-with : HasDone start next (marks_outcome start before batch marks.bodies)
   ends-with = worked-done start next _ gone_worked begun.rest refl (free-again held.steps stripe held.free)
+
+  -- or the next body comes
+  pub then-next : marks.marked < length marks.ids → (look : LookOp) → IsLooking (looking_of start.config (current marks) Write ItsPhase) next look next → AtMark start before batch marks next look Looking
+  then-next less look looking = record {
+    mid = next;
+    between = record { next = less; steps = (held.steps ++ TakenStep stripe Write ∷ []) ++ Released stripe ∷ []; free = free-again held.steps stripe held.free; worked = gone_worked };
+    looking = looking;
+  }
+
+  -- its index is one of the world's
+  pub next-below : marks.marked < length marks.ids → (current marks).index < next.config.bodies
+  next-below less =
+      subst (λ (c : Config). (current marks).index < c.bodies) (sym (worked-sizes start next _ gone_worked))
+      (All-get_or (λ (i : Id). i.index < start.config.bodies) marks.ids marks.marked (record { index = 0; seq = 0 }) less begun.below)
 
   -- with the bodies of the first ids marked
   pub has-marked : HasMarked before batch (take marks.marked marks.ids) start next marks.bodies

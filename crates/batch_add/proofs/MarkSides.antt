@@ -10,29 +10,26 @@ use Rattle.word_map.specs.declared.name.Name.TheVariants.{Layer, BoxWord}
 use Rattle.core_state.specs.declared.view.Batch.{Batch}
 use Rattle.core_state.specs.declared.view.View.{View}
 use Rattle.core_state.specs.View.{known_word}
-use Rattle.core_state.specs.Lives.{MayLoadBody, load_body}
-use Rattle.pass_table.specs.Stepping.{Stepped}
 use Rattle.pass_table.specs.Bodies.{IsGuarded, IsTold, Loaded}
-use Rattle.pass_table.proofs.Bodies.{loaded-body}
 use Rattle.batch_add.specs.declared.mark_op.MarkStage.TheVariants.{Outside, Sides, Boxed}
-use Rattle.batch_add.specs.Marking.{Marks, current, IsBegunFor, IsAtBody, KnowsHere, KnowsSides, AtMark}
+use Rattle.batch_add.specs.Marking.{Marks, current, IsBegunFor, IsAtBody, KnowsHere, KnowsSides, PastLook}
 use Rattle.batch_add.specs.MarkLater.{here-later, sides-later}
 use Rattle.batch_add.proofs.MarkLoads.{body-then, guarded-before, told-then, out-body, out-known}
 
 -- a body that is out is in the layer of the batch: its box comes next
 pub layer-here : (layer slot : ℕ) (start : View) (before : List Batch) (batch : Batch) (marks : Marks) (begun : IsBegunFor layer slot start before batch marks) (view next : View) (found : ℕ)
-    (stepped : Stepped MayLoadBody load_body view (Layer (current marks).index) 0 0 found next) (at : AtMark start before batch marks view Outside) (words : List ℕ) → found ≡ batch.layer → length words ≡ 6
-    → AtMark start before batch marks next (Sides words 0)
-layer-here layer slot start before batch marks begun view next found stepped at words same six = (
-  out-body layer slot start before batch marks begun view next found stepped at,
-  (out-known layer slot start before batch marks begun view next found stepped at, (loaded-body view next (Layer (current marks).index) found stepped).word ∙ same),
+    (loaded : Loaded view next (Layer (current marks).index) found) (at : PastLook start before batch marks view Outside) (words : List ℕ) → found ≡ batch.layer → length words ≡ 6
+    → PastLook start before batch marks next (Sides words 0)
+layer-here layer slot start before batch marks begun view next found loaded at words same six = (
+  out-body layer slot start before batch marks begun view next found loaded at,
+  (out-known layer slot start before batch marks begun view next found loaded at, loaded.word ∙ same),
   omega arith,
   six,
   λ k below. absurd (omega arith),
 )
 
 module _ (layer slot : ℕ) (start : View) (before : List Batch) (batch : Batch) (marks : Marks) (begun : IsBegunFor layer slot start before batch marks) (view next : View)
-    (words : List ℕ) (loaded found : ℕ) (stepped : Stepped MayLoadBody load_body view (BoxWord (current marks).index loaded) 0 0 found next) (at : AtMark start before batch marks view (Sides words loaded)) where
+    (words : List ℕ) (loaded found : ℕ) (side_loaded : Loaded view next (BoxWord (current marks).index loaded) found) (at : PastLook start before batch marks view (Sides words loaded)) where
   abbrev side_id : Id
   side_id = current marks
 
@@ -41,9 +38,6 @@ module _ (layer slot : ℕ) (start : View) (before : List Batch) (batch : Batch)
 
   abbrev side_words : List ℕ
   side_words = set words loaded found
-
-  side_loaded : Loaded view next side_name found
-  side_loaded = loaded-body view next side_name found stepped
 
   side_body : IsAtBody start before batch marks next
   side_body = body-then layer slot start before batch marks begun view next side_name found side_loaded at.0
@@ -68,10 +62,10 @@ module _ (layer slot : ℕ) (start : View) (before : List Batch) (batch : Batch)
             sides-later side_id view next side_guarded side_loaded.more words loaded at.4 k (omega arith) ∙ sym (get_or-set_other words loaded k found 0 apart)
       ]
 
-  pub side-next : loaded < 5 → AtMark start before batch marks next (Sides side_words (loaded + 1))
+  pub side-next : loaded < 5 → PastLook start before batch marks next (Sides side_words (loaded + 1))
   side-next less = (side_body, side_here, omega arith, length-set words loaded found ∙ at.3, λ k below. known_sides k (omega arith))
 
-  pub side-last : 5 ≤ loaded → (bounds : FixBox) → words_of bounds ≡ side_words → AtMark start before batch marks next (Boxed bounds)
+  pub side-last : 5 ≤ loaded → (bounds : FixBox) → words_of bounds ≡ side_words → PastLook start before batch marks next (Boxed bounds)
   side-last last bounds same = (side_body, side_here, subst (λ (l : List ℕ). KnowsSides side_id next l 6) (sym same) (λ k below. known_sides k (omega arith)))
 
   -- the six words are those of the body's box

@@ -1,120 +1,170 @@
--- How the turns of marking bodies go on, and those that take the stripe of a body.
-use Rattle.std.proofs.Common.{◌≡◌, ℕ, suc, ◌+◌, ◌-◌, ◌*◌, ◌<◌, List, length, None, Result, inl, ap, sym, ◌∙◌, subst, arith, Option, Some}
-use Rattle.word_map.specs.Names.{stripe_of}
+-- How the turns of marking bodies go on, and those that look at a body.
+use Rattle.std.proofs.Common.{◌≡◌, ℕ, suc, ◌+◌, ◌-◌, ◌*◌, ◌<◌, ◌≤◌, List, length, None, Result, inl, refl, ap, sym, ◌∙◌, subst, arith}
 use Rattle.core_state.specs.declared.view.Mode.TheVariants.{Write}
 use Rattle.core_state.specs.declared.view.Batch.{Batch}
 use Rattle.core_state.specs.declared.view.View.{View}
-use Rattle.pass_table.specs.declared.take_op.TakeOp.{TakeOp}
 use Rattle.pass_table.specs.declared.turn.Turn.{Turn}
 use Rattle.pass_table.specs.declared.turn.Turn.TheVariants.{More, Again}
-use Rattle.pass_table.specs.TakeTurns.{taking_of, IsTaking, HasTaken, turns_left}
 use Rattle.pass_table.specs.Turning.{AtMostOneStep, MadeBy, Turned, LoadsNow, GoesOn, Answers}
-use Rattle.pass_table.proofs.TakingTurns.{taking-anew}
 use Rattle.pass_table.proofs.Calling.{turned-more, turned-again}
+use Rattle.body_look.specs.declared.body_found.BodyFound.{BodyFound}
+use Rattle.body_look.specs.declared.body_found.BodyFound.TheVariants.{Gone as FoundGone, Live as FoundLive, Out as FoundOut, In as FoundIn, Held as FoundHeld, Joined as FoundJoined}
+use Rattle.body_look.specs.declared.look_op.LookDepth.TheVariants.{Phase as ItsPhase}
+use Rattle.body_look.specs.declared.look_op.LookOp.{LookOp}
+use Rattle.body_look.specs.Looking.{looking_of, IsLooking, look_left, look_takes}
+use Rattle.body_look.proofs.Answering.{turn-left}
 use Rattle.batch_add.specs.declared.mark_op.MarkRefused.{MarkRefused}
 use Rattle.batch_add.specs.declared.mark_op.MarkStage.{MarkStage}
-use Rattle.batch_add.specs.declared.mark_op.MarkStage.TheVariants.{Taking, Striped}
+use Rattle.batch_add.specs.declared.mark_op.MarkStage.TheVariants.{Looking}
 use Rattle.batch_add.specs.declared.mark_op.Marking.{Marking}
-use Rattle.batch_add.specs.Marking.{Marks, marks_of, current, IsBegunFor, AtMark, IsMarking, HasMadeMarks, stage_left, turns_each, bodies_left, IsMarkTurn, takes_at}
-use Rattle.pass_table.proofs.Working.{worked-waited, worked-taken}
+use Rattle.batch_add.specs.Marking.{Marks, marks_of, current, IsBegunFor, IsAtLook, after_look, AtMark, PastLook, IsMarking, HasMadeMarks, stage_left, turns_each, bodies_left, IsMarkTurn, takes_at}
 
 abbrev pub MarkTurn : Type 0
 MarkTurn = Turn (Result (Unit {0}) MarkRefused)
 
--- a turn that goes from a stage to a stage keeps to the stages of the operation
-abbrev pub KeepsStage : Marking → View → View → MarkStage → MarkStage → Type 0
-KeepsStage operation view next stage after =
+-- a turn that goes from a stage to a stage, with the look as it is then, keeps to the stages of the operation
+abbrev pub KeepsStage : Marking → View → View → MarkStage → LookOp → MarkStage → Type 0
+KeepsStage operation view next stage look after =
     (start : View) (before : List Batch) (batch : Batch) → IsBegunFor operation.layer operation.slot start before batch (marks_of operation)
-    → AtMark start before batch (marks_of operation) view stage → AtMark start before batch (marks_of operation) next after
+    → AtMark start before batch (marks_of operation) view operation.look stage → AtMark start before batch (marks_of operation) next look after
 
-abbrev pub at_stage : Marking → MarkStage → Marking
-at_stage operation stage = record operation { stage = stage; made = None }
-
-keeps_on : (operation : Marking) (stage after : MarkStage) (view next : View) → operation.stage ≡ stage → KeepsStage operation view next stage after
-    → (first : Marking) (start : View) → IsMarking first start operation view → IsMarking first start (at_stage operation after) next
-keeps_on operation stage after view next at keeps first start marking =
-    let goes = marking.goes in
-    record {
-      layer = marking.layer;
-      slot = marking.slot;
-      ids = marking.ids;
-      goes = record {
-        before = goes.before;
-        batch = goes.batch;
-        room = goes.room;
-        begun = goes.begun;
-        at = keeps start goes.before goes.batch goes.begun (subst (AtMark start goes.before goes.batch (marks_of operation) view) at goes.at);
-      };
-    }
+abbrev pub at_stage : Marking → LookOp → MarkStage → Marking
+at_stage operation look stage = record operation { look = look; stage = stage; made = None }
 
 -- how much is left at a stage
-abbrev pub left_at : Marking → MarkStage → ℕ
-left_at operation stage = stage_left stage + turns_each * bodies_left (length operation.ids.items) operation.marked stage
+abbrev pub left_at : Marking → LookOp → MarkStage → ℕ
+left_at operation look stage = stage_left look stage + turns_each * bodies_left (length operation.ids.items) operation.marked stage
 
--- a turn that made no entry and goes on to a stage
-pub went-on : (turn : MarkTurn) (operation new : Marking) (stage after : MarkStage) (view next : View) → turn ≡ More → new ≡ at_stage operation after → operation.stage ≡ stage
-    → AtMostOneStep view next → MadeBy view next None
-    → left_at operation after < left_at operation stage → LoadsNow view next (takes_at after) → KeepsStage operation view next stage after → IsMarkTurn turn operation new view next
-went-on turn operation new stage after view next goes is at step made less loads keeps =
-    subst (λ (t : MarkTurn). IsMarkTurn t operation new view next) (sym goes)
-    (subst (λ (o : Marking). IsMarkTurn More operation o view next) (sym is) (record {
-      step = step;
-      made = made;
-      turned = inl (subst (λ (s : MarkStage). left_at operation after < left_at operation s) (sym at) less);
-      loads = loads;
-      keeps = keeps_on operation stage after view next at keeps;
-      answered = λ first start marking. tt;
-    }))
+module _ (operation new : Marking) (stage : MarkStage) (look : LookOp) (after : MarkStage) (view next : View) (is : new ≡ at_stage operation look after) (at : operation.stage ≡ stage)
+    (step : AtMostOneStep view next) (made : MadeBy view next None) (loads : LoadsNow view next (takes_at look after)) (keeps : KeepsStage operation view next stage look after) where
+  abbrev then : Marking
+  then = at_stage operation look after
 
--- ---- taking the stripe
+  goes_on : (first : Marking) (start : View) → IsMarking first start operation view → IsMarking first start then next
+  goes_on first start marking =
+      let goes = marking.goes in
+      record {
+        layer = marking.layer;
+        slot = marking.slot;
+        ids = marking.ids;
+        goes = record {
+          before = goes.before;
+          batch = goes.batch;
+          room = goes.room;
+          begun = goes.begun;
+          at = keeps start goes.before goes.batch goes.begun (subst (AtMark start goes.before goes.batch (marks_of operation) view operation.look) at goes.at);
+        };
+      }
 
--- a turn that is to be made again, or after which there is more to do
-module _ (operation new : Marking) (taking after : TakeOp) (view next : View) (is : new ≡ at_stage operation (Taking after)) (at : operation.stage ≡ Taking taking)
-    (step : AtMostOneStep view next) (made : MadeBy view next None) (loads : LoadsNow view next (Some after)) (keeps : KeepsStage operation view next (Taking taking) (Taking after)) where
-  abbrev later_turns : ℕ
-  later_turns = 11 + turns_each * (length operation.ids.items - suc operation.marked)
-
-  lefts : (t : TakeOp) → left_at operation (Taking t) ≡ later_turns + turns_left t
-  lefts t = omega arith
-
-  take_turn : (turn : MarkTurn) → Turned turn view next (Some taking) (later_turns + turns_left taking) (later_turns + turns_left after)
-      → (LoadsNow view next (Some after) → GoesOn turn (LoadsNow view next (Some after)))
-      → ((first : Marking) (start : View) → IsMarking first start (at_stage operation (Taking after)) next → GoesOn turn (IsMarking first start (at_stage operation (Taking after)) next))
-      → ((first : Marking) (start : View) → Answers turn (HasMadeMarks first start (at_stage operation (Taking after)) next)) → IsMarkTurn turn operation new view next
-  take_turn turn turned new_load goes answers =
+  -- a turn that made no entry and goes on to a stage
+  turn_to : (turn : MarkTurn) → Turned turn view next (takes_at operation.look stage) (left_at operation operation.look stage) (left_at operation look after)
+      → (LoadsNow view next (takes_at look after) → GoesOn turn (LoadsNow view next (takes_at look after)))
+      → ((first : Marking) (start : View) → IsMarking first start then next → GoesOn turn (IsMarking first start then next)) → ((first : Marking) (start : View) → Answers turn (HasMadeMarks first start then next))
+      → IsMarkTurn turn operation new view next
+  turn_to turn turned new_load goes answers =
       subst (λ (o : Marking). IsMarkTurn turn operation o view next) (sym is) (record {
         step = step;
         made = made;
-        turned =
-            subst (λ (t : Option TakeOp). Turned turn view next t (left_at operation operation.stage) (left_at operation (Taking after))) (sym (ap takes_at at))
-            (subst (λ (n : ℕ). Turned turn view next (Some taking) n (left_at operation (Taking after))) (sym (ap (left_at operation) at ∙ lefts taking))
-            (subst (λ (n : ℕ). Turned turn view next (Some taking) (later_turns + turns_left taking) n) (sym (lefts after)) turned));
+        turned = subst (λ (s : MarkStage). Turned turn view next (takes_at operation.look s) (left_at operation operation.look s) (left_at operation look after)) (sym at) turned;
         loads = new_load loads;
-        keeps = λ first start marking. goes first start (keeps_on operation (Taking taking) (Taking after) view next at keeps first start marking);
+        keeps = λ first start marking. goes first start (goes_on first start marking);
         answered = λ first start marking. answers first start;
       })
 
-  pub take-more : (turn : MarkTurn) → turn ≡ More → Turned {T = Unit {0}} More view next (Some taking) (turns_left taking) (turns_left after) → IsMarkTurn turn operation new view next
-  take-more turn goes turned =
-      subst (λ (t : MarkTurn). IsMarkTurn t operation new view next) (sym goes)
-      (take_turn More (turned-more (Unit {0}) (Result (Unit {0}) MarkRefused) later_turns view next (Some taking) (turns_left taking) (turns_left after) turned) (λ l. l) (λ first start marking. marking) (λ first start. tt))
+  more_to : Turned {T = Result (Unit {0}) MarkRefused} More view next (takes_at operation.look stage) (left_at operation operation.look stage) (left_at operation look after) → IsMarkTurn More operation new view next
+  more_to turned = turn_to More turned (λ l. l) (λ first start marking. marking) (λ first start. tt)
 
-  pub take-again : (lock found : ℕ) → Turned {T = Unit {0}} (Again lock found) view next (Some taking) (turns_left taking) (turns_left after) → IsMarkTurn (Again lock found) operation new view next
-  take-again lock found turned =
-      take_turn (Again lock found) (turned-again (Unit {0}) (Result (Unit {0}) MarkRefused) later_turns view next (Some taking) (turns_left taking) (turns_left after) lock found turned) (λ l. l) (λ first start marking. marking) (λ first start. tt)
+  again_to : (lock found : ℕ) → Turned {T = Result (Unit {0}) MarkRefused} (Again lock found) view next (takes_at operation.look stage) (left_at operation operation.look stage) (left_at operation look after)
+      → IsMarkTurn (Again lock found) operation new view next
+  again_to lock found turned = turn_to (Again lock found) turned (λ l. l) (λ first start marking. marking) (λ first start. tt)
 
-module _ (start : View) (before : List Batch) (batch : Batch) (marks : Marks) (view next : View) (taking : TakeOp) (at : AtMark start before batch marks view (Taking taking)) where
-  abbrev stripe : ℕ
-  stripe = stripe_of start.config (current marks).index
+-- it goes on from one stage to the next
+pub went-on : (turn : MarkTurn) (operation new : Marking) (stage : MarkStage) (look : LookOp) (after : MarkStage) (view next : View) → turn ≡ More → new ≡ at_stage operation look after → operation.stage ≡ stage
+    → AtMostOneStep view next → MadeBy view next None → left_at operation look after < left_at operation operation.look stage → LoadsNow view next (takes_at look after)
+    → KeepsStage operation view next stage look after → IsMarkTurn turn operation new view next
+went-on turn operation new stage look after view next goes is at step made less loads keeps =
+    subst (λ (t : MarkTurn). IsMarkTurn t operation new view next) (sym goes) (more_to operation new stage look after view next is at step made loads keeps (inl less))
 
-  pub stripe-done : HasTaken (taking_of stripe Write) view next → MadeBy view next None → AtMark start before batch marks next Striped
-  stripe-done taken by = record {
-    next = at.0.next;
-    held = record { steps = at.0.steps; free = at.0.free; worked = worked-taken start view next _ at.0.worked stripe Write taken by };
-  }
+-- ---- looking at a body
 
-  pub stripe-on : (after : TakeOp) → IsTaking (taking_of stripe Write) view after next → MadeBy view next None → AtMark start before batch marks next (Taking after)
-  stripe-on after goes by = (
-    record { next = at.0.next; steps = at.0.steps; free = at.0.free; worked = worked-waited start view next _ at.0.worked stripe goes.waited by goes.alone },
-    taking-anew _ view after next goes,
-  )
+-- a turn of the look, after which it goes on
+module _ (operation new : Marking) (after : LookOp) (view next : View) (is : new ≡ record operation { look = after; made = None }) (at : operation.stage ≡ Looking)
+    (step : AtMostOneStep view next) (made : MadeBy view next None) (loads : LoadsNow view next (look_takes after))
+    (keeps : (first : LookOp) (start : View) → IsLooking first start operation.look view → IsLooking first start after next) where
+  abbrev later : ℕ
+  later = 9 + turns_each * (length operation.ids.items - suc operation.marked)
+
+  lefts : (look : LookOp) → left_at operation look Looking ≡ later + look_left look
+  lefts look = omega arith
+
+  still : new ≡ at_stage operation after Looking
+  still = is ∙ (λ i. record operation { look = after; stage = at i; made = None })
+
+  look_keeps : KeepsStage operation view next Looking after Looking
+  look_keeps start before batch begun now =
+      record { mid = now.mid; between = now.between; looking = keeps (looking_of start.config (current (marks_of operation)) Write ItsPhase) now.mid now.looking }
+
+  by_left : (turn : MarkTurn) → Turned turn view next (look_takes operation.look) (later + look_left operation.look) (later + look_left after)
+      → Turned turn view next (look_takes operation.look) (left_at operation operation.look Looking) (left_at operation after Looking)
+  by_left turn turned =
+      subst (λ (n : ℕ). Turned turn view next (look_takes operation.look) n (left_at operation after Looking)) (sym (lefts operation.look))
+      (subst (Turned turn view next (look_takes operation.look) (later + look_left operation.look)) (sym (lefts after)) turned)
+
+  pub look-more : Turned {T = BodyFound} More view next (look_takes operation.look) (look_left operation.look) (look_left after) → IsMarkTurn More operation new view next
+  look-more turned =
+      more_to operation new Looking after Looking view next still at step made loads look_keeps
+      (by_left More (turned-more BodyFound (Result (Unit {0}) MarkRefused) later view next (look_takes operation.look) (look_left operation.look) (look_left after) turned))
+
+  pub look-again : (lock found : ℕ) → Turned {T = BodyFound} (Again lock found) view next (look_takes operation.look) (look_left operation.look) (look_left after) → IsMarkTurn (Again lock found) operation new view next
+  look-again lock found turned =
+      again_to operation new Looking after Looking view next still at step made loads look_keeps lock found
+      (by_left (Again lock found) (turned-again BodyFound (Result (Unit {0}) MarkRefused) later view next (look_takes operation.look) (look_left operation.look) (look_left after) lock found turned))
+
+-- a look ends at a stage of which fewer turns are left, and no lock is taken
+found_left : (look : LookOp) (found : BodyFound) → stage_left look (after_look found) ≤ 9
+found_left look (FoundGone state) = omega arith
+found_left look FoundLive = omega arith
+found_left look FoundOut = omega arith
+found_left look FoundIn = omega arith
+found_left look (FoundHeld layer slot word) = omega arith
+found_left look (FoundJoined layer slot word) = omega arith
+
+found_takes : (look : LookOp) (found : BodyFound) → takes_at look (after_look found) ≡ None
+found_takes look (FoundGone state) = refl
+found_takes look FoundLive = refl
+found_takes look FoundOut = refl
+found_takes look FoundIn = refl
+found_takes look (FoundHeld layer slot word) = refl
+found_takes look (FoundJoined layer slot word) = refl
+
+found_bodies : (all marked : ℕ) (found : BodyFound) → bodies_left all marked (after_look found) ≡ all - suc marked
+found_bodies all marked (FoundGone state) = refl
+found_bodies all marked FoundLive = refl
+found_bodies all marked FoundOut = refl
+found_bodies all marked FoundIn = refl
+found_bodies all marked (FoundHeld layer slot word) = refl
+found_bodies all marked (FoundJoined layer slot word) = refl
+
+-- how it was is of no matter then
+found_past : (start : View) (before : List Batch) (batch : Batch) (marks : Marks) (view : View) (look : LookOp) (found : BodyFound) → PastLook start before batch marks view (after_look found)
+    → AtMark start before batch marks view look (after_look found)
+found_past start before batch marks view look (FoundGone state) at = at
+found_past start before batch marks view look FoundLive at = at
+found_past start before batch marks view look FoundOut at = at
+found_past start before batch marks view look FoundIn at = at
+found_past start before batch marks view look (FoundHeld layer slot word) at = at
+found_past start before batch marks view look (FoundJoined layer slot word) at = at
+
+-- the last turn of the look
+pub look-done : (operation new : Marking) (look : LookOp) (found : BodyFound) (after : MarkStage) (view next : View) (turn : MarkTurn) → turn ≡ More → new ≡ at_stage operation look after → operation.stage ≡ Looking
+    → AtMostOneStep view next → MadeBy view next None → after ≡ after_look found
+    → ((start : View) (before : List Batch) (batch : Batch) → IsBegunFor operation.layer operation.slot start before batch (marks_of operation) → IsAtLook start before batch (marks_of operation) operation.look view
+    → PastLook start before batch (marks_of operation) next (after_look found))
+    → IsMarkTurn turn operation new view next
+look-done operation new look found after view next turn more is at step made same keeps =
+    let few = found_left look found in
+    let one = turn-left operation.look in
+    let bodies = found_bodies (length operation.ids.items) operation.marked found in
+    let less : left_at operation look (after_look found) < left_at operation operation.look Looking = omega arith in
+    went-on turn operation new Looking look (after_look found) view next more (is ∙ ap (at_stage operation look) same) at step made less (subst (LoadsNow view next) (sym (found_takes look found)) tt)
+    (λ start before batch begun now. found_past start before batch (marks_of operation) next look found (keeps start before batch begun now))

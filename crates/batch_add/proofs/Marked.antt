@@ -44,7 +44,7 @@ use Rattle.pass_table.proofs.Calling.{stepped-sizes, steady-now, stores-word, st
 use Rattle.batch_add.specs.declared.mark_op.MarkStage.TheVariants.{Boxed, Leaving}
 use Rattle.pass_table.specs.Work.{HasWorked}
 use Rattle.batch_add.specs.Parts.{marked_as}
-use Rattle.batch_add.specs.Marking.{Marks, current, AreFirst, IsBegunFor, marks_work, AtMark}
+use Rattle.batch_add.specs.Marking.{Marks, current, AreFirst, IsBegunFor, marks_work, PastLook}
 use Rattle.batch_add.specs.MarkLater.{body-held}
 use Rattle.pass_table.proofs.WorkLater.{worked-batches, worked-loose, worked-written}
 use Rattle.pass_table.proofs.Working.{worked-untold}
@@ -75,7 +75,7 @@ change-last layer slot change (first ∷ before) batch others for_slot =
 -- ---- the body
 
 module _ (layer slot : ℕ) (start : View) (before : List Batch) (batch : Batch) (marks : Marks) (begun : IsBegunFor layer slot start before batch marks) (view : View) (bounds : FixBox)
-    (at : AtMark start before batch marks view (Boxed bounds)) where
+    (at : PastLook start before batch marks view (Boxed bounds)) where
   abbrev body_id : Id
   body_id = current marks
 
@@ -232,7 +232,7 @@ module _ (layer slot : ℕ) (start : View) (before : List Batch) (batch : Batch)
         (step-alone MayMark mark view next name value 0 stored.0 stored.1))
 
     -- its stripe is to be let go
-    pub mark-leaves : (number stripe : ℕ) → IsPass view number → stripe ≡ stripe_of start.config body_id.index → stripe < start.config.stripes → AtMark start before batch more_marks next (Leaving stripe)
+    pub mark-leaves : (number stripe : ℕ) → IsPass view number → stripe ≡ stripe_of start.config body_id.index → stripe < start.config.stripes → PastLook start before batch more_marks next (Leaving stripe)
     mark-leaves number stripe pass same low = (
       record {
         steps = at.0.held.steps;

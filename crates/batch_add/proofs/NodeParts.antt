@@ -52,7 +52,7 @@ module _ (op : PrepareOp) (view : View) (at : op.stage ≡ TakingNodes) where
   after_marks = left_after (count_of op) (need_of op)
 
   abbrev rest : ℕ
-  rest = 13 * count_of op + after_marks
+  rest = 15 * count_of op + after_marks
 
   left_before : prepare_left op ≡ nodes_left op.taking + rest
   left_before = ap (stage_left op) at
@@ -154,7 +154,7 @@ module _ (op : PrepareOp) (view : View) (at : op.stage ≡ TakingNodes) where
         )
 
       module _ (step : AtMostOneStep view next) (made : MadeBy view next None) (marking : Marking) (layer : marking.layer ≡ op.layer) (slot : marking.slot ≡ op.slot) (ids : marking.ids.items ≡ ids_of op)
-          (unmade : marking.made ≡ None) (few : mark_left marking ≤ 13 * count_of op) (goes : IsMarking marking next marking next) (unloaded : LoadedNone (mark_takes marking)) where
+          (unmade : marking.made ≡ None) (few : mark_left marking ≤ 15 * count_of op) (goes : IsMarking marking next marking next) (unloaded : LoadedNone (mark_takes marking)) where
         abbrev pub marking_next : PrepareOp
         marking_next = record op { taking = taking; stage = MarkingStage; marking = marking }
 

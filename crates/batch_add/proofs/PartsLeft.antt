@@ -76,10 +76,10 @@ give-few Counted = omega arith
 pub nodes-after : (nodes search count wanted rest : ℕ) → nodes ≤ 3 * count + 5 → count ≡ wanted → 0 < search → nodes + rest < search + (3 * wanted + 6 + rest)
 nodes-after nodes search count wanted rest most same some = omega arith
 
-pub marks-after : (marks nodes count rest : ℕ) → marks ≤ 13 * count → 0 < nodes → marks + rest < nodes + (13 * count + rest)
+pub marks-after : (marks nodes count rest : ℕ) → marks ≤ 15 * count → 0 < nodes → marks + rest < nodes + (15 * count + rest)
 marks-after marks nodes count rest most some = omega arith
 
-pub few-after : (give nodes count wanted : ℕ) → give ≤ 11 → 0 < nodes → 0 < count → give < nodes + (13 * count + (36 * wanted + 6 * count + 9))
+pub few-after : (give nodes count wanted : ℕ) → give ≤ 11 → 0 < nodes → 0 < count → give < nodes + (15 * count + (36 * wanted + 6 * count + 9))
 few-after give nodes count wanted most some bodies = omega arith
 
 pub some-ids : {A : Type 0} (l : List A) → 0 < length l → l ≢ []

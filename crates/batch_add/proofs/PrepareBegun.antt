@@ -56,5 +56,5 @@ module _ (op : PrepareOp) (view : View) (number : ℕ) (pass : IsPass view numbe
         record { bodies = bodies; plans = record { plans = plans; indexes = indexes } },
       )
 
-  pub preparing-begun : ((count_of op ≡ 0) × (op.stage ≡ Empty)) ⊎ ((0 < count_of op) × (op.stage ≡ Searching)) → IsPreparing op view op view
-  preparing-begun stage = record { layer = refl; ids = refl; wanted = record { in_layers = in_layers; below = below; few = few; rest = rest; current = current }; at = begun_at stage }
+  pub preparing-begun : ((count_of op ≡ 0) × (op.stage ≡ Empty)) ⊎ ((0 < count_of op) × (op.stage ≡ Searching)) → (next : View) → next ≡ view → IsPreparing op view op next
+  preparing-begun stage next still = subst (IsPreparing op view op) (sym still) (record { layer = refl; ids = refl; wanted = record { in_layers = in_layers; below = below; few = few; rest = rest; current = current }; at = begun_at stage })

@@ -40,7 +40,7 @@ module _ (op : PrepareOp) (view : View) (at : op.stage ≡ Searching) where
 
   -- how many turns come after it
   abbrev rest : ℕ
-  rest = 13 * count_of op + left_after (count_of op) (need_of op)
+  rest = 15 * count_of op + left_after (count_of op) (need_of op)
 
   left_before : prepare_left op ≡ search_left op.search + (3 * need_of op + 6 + rest)
   left_before = ap (stage_left op) at

@@ -17,15 +17,15 @@ use Rattle.core_state.specs.declared.view.View.{View}
 use Rattle.core_state.specs.View.{Holds, mode_of, mode_after}
 use Rattle.pass_table.specs.Knowing.{KnowsMore}
 use Rattle.pass_table.specs.Holding.{IsAtRest}
-use Rattle.pass_table.specs.TakeTurns.{taking-later}
 use Rattle.pass_table.specs.Bodies.{KnowsLive, IsGuarded}
 use Rattle.pass_table.proofs.Calling.{point-later}
-use Rattle.pass_table.proofs.TakingTurns.{taking-anew}
 use Rattle.pass_table.proofs.LockedBodies.{guarded-more, word-stays, layer-stays, phase-stays}
+use Rattle.body_look.specs.declared.look_op.LookOp.{LookOp}
+use Rattle.body_look.specs.LookLater.{looking-later}
 use Rattle.batch_add.specs.declared.mark_op.MarkStage.{MarkStage}
-use Rattle.batch_add.specs.declared.mark_op.MarkStage.TheVariants.{Taking, Striped, Live, Joining, Placed, Outside, Sides, Boxed, Leaving, Refusing}
+use Rattle.batch_add.specs.declared.mark_op.MarkStage.TheVariants.{Looking, Outside, Sides, Boxed, Leaving, Refusing}
 use Rattle.batch_add.specs.declared.mark_op.Marking.{Marking}
-use Rattle.batch_add.specs.Marking.{Marks, current, marks_of, IsBegunFor, HasStripe, IsAtBody, KnowsOut, KnowsHere, KnowsSides, KnowsJoin, AtMark, IsMarking}
+use Rattle.batch_add.specs.Marking.{Marks, current, marks_of, IsBegunFor, HasStripe, IsAtBody, KnowsOut, KnowsHere, KnowsSides, AtMark, IsMarking}
 use Rattle.pass_table.proofs.WorkLater.{worked-sizes, worked-pass, worked-mode, worked-more}
 
 -- ---- locks
@@ -77,9 +77,6 @@ module _ (id : Id) (view next : View) (guarded : IsGuarded id view) (more : Know
   pub sides-later : (words : List ℕ) (loaded : ℕ) → KnowsSides id view words loaded → KnowsSides id next words loaded
   sides-later words loaded sides k below = word-stays id view next guarded more (BoxWord id.index k) refl ∙ sides k below
 
-  pub join-later : (slots phase : ℕ) → KnowsJoin id slots phase view → KnowsJoin id slots phase next
-  join-later slots phase join = (live-later, phase-stays id view next guarded more ∙ join.1, join.2, join.3)
-
 -- ---- stages
 
 module _ (layer slot : ℕ) (start : View) (before : List Batch) (batch : Batch) (marks : Marks) (begun : IsBegunFor layer slot start before batch marks) (view next : View) (more : KnowsMore view next) where
@@ -92,26 +89,17 @@ module _ (layer slot : ℕ) (start : View) (before : List Batch) (batch : Batch)
   guarded_at : IsAtBody start before batch marks view → KnowsLive (current marks) view → IsGuarded (current marks) view
   guarded_at at live = body-guarded layer slot start before batch marks begun view at live
 
-  stage_later : (stage : MarkStage) → AtMark start before batch marks view stage → AtMark start before batch marks next stage
-  stage_later (Taking taking) h = (
-    record { next = h.0.next; steps = h.0.steps; free = h.0.free; worked = worked-more start view next _ h.0.worked more },
-    taking-anew _ view taking next (taking-later _ view taking view next more h.1),
-  )
-  stage_later Striped h = body-later h
-  stage_later Live h = (body-later h.0, live-later (current marks) view next (guarded_at h.0 h.1) more)
-  stage_later (Joining phase) h = (body-later h.0, join-later (current marks) view next (guarded_at h.0 h.1.0) more start.config.slots phase h.1)
-  stage_later (Placed phase lies) h =
-      let guarded = guarded_at h.0 h.1.0 in
-      (body-later h.0, join-later (current marks) view next guarded more start.config.slots phase h.1, layer-stays (current marks) view next guarded more ∙ h.2, h.3)
-  stage_later Outside h = (body-later h.0, out-later (current marks) view next (guarded_at h.0 h.1.0) more h.1)
-  stage_later (Sides words loaded) h =
+  stage_later : (look : LookOp) (stage : MarkStage) → AtMark start before batch marks view look stage → AtMark start before batch marks next look stage
+  stage_later look Looking h = record { mid = h.mid; between = h.between; looking = looking-later _ h.mid look view next more h.looking }
+  stage_later look Outside h = (body-later h.0, out-later (current marks) view next (guarded_at h.0 h.1.0) more h.1)
+  stage_later look (Sides words loaded) h =
       let guarded = guarded_at h.0 h.1.0.0 in
       (body-later h.0, here-later (current marks) view next guarded more batch.layer h.1, h.2, h.3, sides-later (current marks) view next guarded more words loaded h.4)
-  stage_later (Boxed bounds) h =
+  stage_later look (Boxed bounds) h =
       let guarded = guarded_at h.0 h.1.0.0 in
       (body-later h.0, here-later (current marks) view next guarded more batch.layer h.1, sides-later (current marks) view next guarded more (words_of bounds) 6 h.2)
-  stage_later (Leaving stripe) h = (stripe_later stripe h.0, h.1)
-  stage_later (Refusing refused) h = (body-later h.0, point-later start view next _ (more.since, more.known) h.1)
+  stage_later look (Leaving stripe) h = (stripe_later stripe h.0, h.1)
+  stage_later look (Refusing refused) h = (body-later h.0, point-later start view next _ (more.since, more.known) h.1)
 
 pub marking-later : (first : Marking) (start : View) (operation : Marking) (view next : View) → KnowsMore view next → IsMarking first start operation view → IsMarking first start operation next
 marking-later first start operation view next more marking =
@@ -125,6 +113,6 @@ marking-later first start operation view next more marking =
         batch = goes.batch;
         room = goes.room;
         begun = goes.begun;
-        at = stage_later operation.layer operation.slot start goes.before goes.batch (marks_of operation) goes.begun view next more operation.stage goes.at;
+        at = stage_later operation.layer operation.slot start goes.before goes.batch (marks_of operation) goes.begun view next more operation.look operation.stage goes.at;
       };
     }

@@ -13,18 +13,23 @@ use Rattle.core_state.specs.declared.view.Task.TheVariants.{Nothing}
 use Rattle.core_state.specs.declared.view.Batch.{Batch}
 use Rattle.core_state.specs.declared.view.View.{View}
 use Rattle.core_state.specs.View.{known_word, mode_of}
-use Rattle.core_state.specs.Encoding.{phase_out}
+use Rattle.core_state.specs.Encoding.{phase_out, phase_join}
 use Rattle.core_state.specs.Bodies.{IsForSlot}
 use Rattle.tree_plan.specs.Arranged.{AreApart}
 use Rattle.pass_table.specs.declared.take_op.TakeOp.{TakeOp}
 use Rattle.pass_table.specs.declared.turn.Turn.{Turn}
-use Rattle.pass_table.specs.TakeTurns.{taking_of, IsTaking, turns_left}
 use Rattle.pass_table.specs.Holding.{IsAtRest}
 use Rattle.pass_table.specs.Calls.{AtPoint, IsTurn}
 use Rattle.pass_table.specs.Bodies.{KnowsLive}
+use Rattle.body_look.specs.declared.body_found.BodyFound.{BodyFound}
+use Rattle.body_look.specs.declared.body_found.BodyFound.TheVariants.{Gone as FoundGone, Live as FoundLive, Out as FoundOut, In as FoundIn, Held as FoundHeld, Joined as FoundJoined}
+use Rattle.body_look.specs.declared.look_op.LookDepth.TheVariants.{Phase as ItsPhase}
+use Rattle.body_look.specs.declared.look_op.LookOp.{LookOp}
+use Rattle.body_look.specs.Looking.{looking_of, IsLooking, look_left, look_takes}
 use Rattle.batch_add.specs.declared.mark_op.MarkRefused.{MarkRefused}
+use Rattle.batch_add.specs.declared.mark_op.MarkRefused.TheVariants.{Gone, Held, AlreadyIn}
 use Rattle.batch_add.specs.declared.mark_op.MarkStage.{MarkStage}
-use Rattle.batch_add.specs.declared.mark_op.MarkStage.TheVariants.{Taking, Striped, Live, Joining, Placed, Outside, Sides, Boxed, Leaving, Refusing}
+use Rattle.batch_add.specs.declared.mark_op.MarkStage.TheVariants.{Looking, Outside, Sides, Boxed, Leaving, Refusing}
 use Rattle.batch_add.specs.declared.mark_op.Marking.{Marking}
 use Rattle.pass_table.specs.Work.{Work, HasWorked}
 use Rattle.batch_add.specs.Parts.{IsNewest, HasMarked, HasMarkedBefore, marks_outcome, IsMarkRefusedAt}
@@ -110,28 +115,36 @@ KnowsHere id layer view = KnowsOut id view × (known_word view (Layer id.index) 
 abbrev pub KnowsSides : Id → View → List ℕ → ℕ → Type 0
 KnowsSides id view words loaded = (k : ℕ) → k < loaded → known_word view (BoxWord id.index k) ≡ slice_index words k
 
--- its phase word is this, which names a slot
-abbrev pub KnowsJoin : Id → ℕ → ℕ → View → Type 0
-KnowsJoin id slots phase view = KnowsLive id view × (known_word view (Phase id.index) ≡ phase) × (2 ≤ phase) × (phase < 2 + slots)
+-- the next body has been looked at since a time at which no lock was held
+pub record IsAtLook (start : View) (before : List Batch) (batch : Batch) (marks : Marks) (look : LookOp) (view : View) : Type 0 where
+  pub mid : View
+  pub between : IsBetween start before batch marks mid
+  pub looking : IsLooking (looking_of start.config (current marks) Write ItsPhase) mid look view
+
+-- the stage after the look, where it has found this
+abbrev pub after_look : BodyFound → MarkStage
+after_look (FoundGone state) = Refusing (Gone state)
+after_look FoundLive = Outside
+after_look FoundOut = Outside
+after_look FoundIn = Refusing (AlreadyIn 1)
+after_look (FoundHeld layer slot word) = Refusing (Held word)
+after_look (FoundJoined layer slot word) = Refusing (AlreadyIn (phase_join slot))
 
 -- what holds at a stage
-abbrev pub AtMark : View → List Batch → Batch → Marks → View → MarkStage → Type 0
-AtMark start before batch marks view (Taking taking) =
-    IsBetween start before batch marks view × IsTaking (taking_of (stripe_of start.config (current marks).index) Write) view taking view
-AtMark start before batch marks view Striped = IsAtBody start before batch marks view
-AtMark start before batch marks view Live = IsAtBody start before batch marks view × KnowsLive (current marks) view
-AtMark start before batch marks view (Joining phase) = IsAtBody start before batch marks view × KnowsJoin (current marks) start.config.slots phase view
-AtMark start before batch marks view (Placed phase layer) =
-    IsAtBody start before batch marks view × KnowsJoin (current marks) start.config.slots phase view
-    × (known_word view (Layer (current marks).index) ≡ layer) × (layer < start.config.layers)
-AtMark start before batch marks view Outside = IsAtBody start before batch marks view × KnowsOut (current marks) view
-AtMark start before batch marks view (Sides words loaded) =
+abbrev pub AtMark : View → List Batch → Batch → Marks → View → LookOp → MarkStage → Type 0
+AtMark start before batch marks view look Looking = IsAtLook start before batch marks look view
+AtMark start before batch marks view look Outside = IsAtBody start before batch marks view × KnowsOut (current marks) view
+AtMark start before batch marks view look (Sides words loaded) =
     IsAtBody start before batch marks view × KnowsHere (current marks) batch.layer view × (loaded < 6) × (length words ≡ 6) × KnowsSides (current marks) view words loaded
-AtMark start before batch marks view (Boxed bounds) =
+AtMark start before batch marks view look (Boxed bounds) =
     IsAtBody start before batch marks view × KnowsHere (current marks) batch.layer view × KnowsSides (current marks) view (words_of bounds) 6
-AtMark start before batch marks view (Leaving stripe) = HasStripe start before batch marks stripe view × (stripe < start.config.stripes)
-AtMark start before batch marks view (Refusing refused) =
+AtMark start before batch marks view look (Leaving stripe) = HasStripe start before batch marks stripe view × (stripe < start.config.stripes)
+AtMark start before batch marks view look (Refusing refused) =
     IsAtBody start before batch marks view × AtPoint start view (IsMarkRefusedAt start.config batch.layer (current marks) refused)
+
+-- once a look has ended, how it was is of no matter
+abbrev pub PastLook : View → List Batch → Batch → Marks → View → MarkStage → Type 0
+PastLook start before batch marks view stage = AtMark start before batch marks view (looking_of start.config (current marks) Write ItsPhase) stage
 
 -- ---- the operation
 
@@ -141,7 +154,7 @@ pub record GoesOnFrom (start : View) (operation : Marking) (view : View) : Type 
   pub batch : Batch
   pub room : length operation.bodies.items ≡ length operation.ids.items
   pub begun : IsBegunFor operation.layer operation.slot start before batch (marks_of operation)
-  pub at : AtMark start before batch (marks_of operation) view operation.stage
+  pub at : AtMark start before batch (marks_of operation) view operation.look operation.stage
 
 -- it marks the bodies of the ids with which it was begun, for the same batch
 pub record IsMarking (first : Marking) (start : View) (operation : Marking) (view : View) : Type 0 where
@@ -166,20 +179,16 @@ pub record HasMadeMarks (first : Marking) (start : View) (last : Marking) (next 
 -- ---- turns
 
 -- how many turns are left for this body, and for each later one
-abbrev pub stage_left : MarkStage → ℕ
-stage_left (Taking taking) = 11 + turns_left taking
-stage_left Striped = 11
-stage_left Live = 10
-stage_left (Joining phase) = 3
-stage_left (Placed phase layer) = 2
-stage_left Outside = 9
-stage_left (Sides words loaded) = 2 + (6 - loaded)
-stage_left (Boxed bounds) = 2
-stage_left (Leaving stripe) = 1
-stage_left (Refusing refused) = 1
+abbrev pub stage_left : LookOp → MarkStage → ℕ
+stage_left look Looking = 9 + look_left look
+stage_left look Outside = 9
+stage_left look (Sides words loaded) = 2 + (6 - loaded)
+stage_left look (Boxed bounds) = 2
+stage_left look (Leaving stripe) = 1
+stage_left look (Refusing refused) = 1
 
 abbrev pub turns_each : ℕ
-turns_each = 13
+turns_each = 15
 
 -- how many bodies come after this one
 abbrev pub bodies_left : ℕ → ℕ → MarkStage → ℕ
@@ -187,15 +196,15 @@ bodies_left all marked (Leaving stripe) = all - marked
 bodies_left all marked stage = all - suc marked
 
 abbrev pub mark_left : Marking → ℕ
-mark_left operation = stage_left operation.stage + turns_each * bodies_left (length operation.ids.items) operation.marked operation.stage
+mark_left operation = stage_left operation.look operation.stage + turns_each * bodies_left (length operation.ids.items) operation.marked operation.stage
 
 -- the lock that it takes
-abbrev pub takes_at : MarkStage → Option TakeOp
-takes_at (Taking taking) = Some taking
-takes_at _ = None
+abbrev pub takes_at : LookOp → MarkStage → Option TakeOp
+takes_at look Looking = look_takes look
+takes_at look _ = None
 
 abbrev pub mark_takes : Marking → Option TakeOp
-mark_takes operation = takes_at operation.stage
+mark_takes operation = takes_at operation.look operation.stage
 
 abbrev pub IsMarkTurn : Turn (Result (Unit {0}) MarkRefused) → Marking → Marking → View → View → Type 0
 IsMarkTurn turn before after view next = IsTurn IsMarking (λ first start end answer. HasMadeMarks first start after end answer) mark_left (λ operation. operation.made) mark_takes turn before after view next

@@ -289,7 +289,7 @@ pub record BeginsMarks (before after : PrepareOp) (view : View) : Type 0 where
   pub slot : marking.slot ≡ before.slot
   pub ids : marking.ids.items ≡ ids_of before
   pub made : marking.made ≡ None
-  pub left : mark_left marking ≤ 13 * count_of before
+  pub left : mark_left marking ≤ 15 * count_of before
   pub goes : IsMarking marking view marking view
   pub unloaded : LoadedNone (mark_takes marking)
 
@@ -363,8 +363,8 @@ part_left left (Some part) = left part
 
 abbrev pub stage_left : PrepareOp → PrepareStage → ℕ
 stage_left operation Empty = 1
-stage_left operation Searching = search_left operation.search + (3 * need_of operation + 6 + (13 * count_of operation + left_after (count_of operation) (need_of operation)))
-stage_left operation TakingNodes = nodes_left operation.taking + (13 * count_of operation + left_after (count_of operation) (need_of operation))
+stage_left operation Searching = search_left operation.search + (3 * need_of operation + 6 + (15 * count_of operation + left_after (count_of operation) (need_of operation)))
+stage_left operation TakingNodes = nodes_left operation.taking + (15 * count_of operation + left_after (count_of operation) (need_of operation))
 stage_left operation MarkingStage = mark_left operation.marking + left_after (count_of operation) (need_of operation)
 stage_left operation Drawing = part_left draw_left operation.drawing
 stage_left operation (GivingUpStage undone) = part_left give_left operation.giving

@@ -1,7 +1,7 @@
 //! What marking the bodies of a batch by turns keeps.
 use body_ident::BodyId;
+use body_look::LookOp;
 use fixed_box::FixBox;
-use pass_table::TakeOp;
 use scene_model::Made;
 
 /// Why a body was not marked, with the word that says so.
@@ -20,16 +20,8 @@ pub(crate) enum MarkRefused {
 /// How far the marks are.
 #[derive(Clone, Copy)]
 pub(crate) enum MarkStage {
-    /// The stripe of the next body is being taken.
-    Taking { taking: TakeOp },
-    /// It is held.
-    Striped,
-    /// The body is live.
-    Live,
-    /// Its phase word is this, which names a slot.
-    Joining { phase: u64 },
-    /// It is that slot of this layer.
-    Placed { phase: u64, layer: u32 },
+    /// The next body is being looked at, under its stripe.
+    Looking,
     /// The body is out of the broad phase, and no batch holds it.
     Outside,
     /// It is in the layer of the batch, and so many sides of its box are loaded.
@@ -53,6 +45,8 @@ pub(crate) struct Marking {
     pub(crate) bodies: Vec<(u32, FixBox)>,
     /// So many are marked.
     pub(crate) marked: u32,
+    /// The look at the next body; while that body is marked, the one that has ended.
+    pub(crate) look: LookOp,
     pub(crate) stage: MarkStage,
     /// The entry that the last turn made.
     pub(crate) made: Option<Made>,

@@ -7,16 +7,19 @@ ghost use Rattle.pass_table.specs.Holding.{IsAtRest};
 ghost use Rattle.pass_table.specs.Passes.{view_of, IsOf};
 ghost use Rattle.pass_table.specs.Turning.{IsUnderWay};
 ghost use Rattle.pass_table.specs.TakeTurns.{LoadedNone};
-ghost use Rattle.batch_add.specs.declared.mark_op.MarkStage.TheVariants.{Taking, Striped, Live, Joining, Placed, Outside, Sides, Boxed, Leaving, Refusing};
-ghost use Rattle.batch_add.specs.Marking.{marks_of, current, IsForNewest, IsMarking, IsMarkTurn, Notes, mark_left, mark_takes};
+ghost use Rattle.batch_add.specs.declared.mark_op.MarkStage.TheVariants.{Looking, Outside, Sides, Boxed, Leaving, Refusing};
+ghost use Rattle.body_look.specs.declared.look_op.LookDepth.TheVariants.{Phase as ItsPhase};
+ghost use Rattle.body_look.specs.Found.{IsAsked};
+ghost use Rattle.batch_add.specs.Marking.{marks_of, after_look, current, IsForNewest, IsMarking, IsMarkTurn, Notes, mark_left, mark_takes};
 
 use crate::mark_op::{MarkRefused, MarkStage, Marking};
 use body_ident::BodyId;
+use body_look::{BodyFound, LookDepth, LookOp, load_layer, load_side};
 use core_state::Mode;
 use fixed_box::FixBox;
-use pass_table::{Label, Operation, Pass, TakeOp, Turn, World, release, step_15, step_17, step_19};
+use pass_table::{Label, Operation, Pass, Turn, World, release, step_19};
 use scene_model::{Entry, Made};
-use word_map::{Name, PhaseWord, SlotWord, StateWord};
+use word_map::{Name, PhaseWord};
 
 impl Operation for Marking {
     ghost use Rattle.batch_add.specs.Marking.{IsMarking, HasMadeMarks, mark_left, mark_takes};
@@ -57,6 +60,26 @@ impl Operation for Marking {
     ghost may_look = { marking-later };
 }
 
+/// The stage after a look at a body that has found this: where the body is out, its layer is loaded next.
+fn stage_of(found: BodyFound) -> MarkStage
+    requires asked { IsAsked ItsPhase found }
+    ensures { result ≡ after_look found }
+{
+    let refused = match found {
+        BodyFound::Gone { state } => MarkRefused::Gone { state },
+        BodyFound::Live => unreachable!(),
+        BodyFound::Out => return MarkStage::Outside,
+        BodyFound::In => MarkRefused::AlreadyIn {
+            phase: PhaseWord::In.to_word(),
+        },
+        BodyFound::Held { word, .. } => MarkRefused::Held { slot: word },
+        BodyFound::Joined { slot, .. } => MarkRefused::AlreadyIn {
+            phase: PhaseWord::Joined { slot }.to_word(),
+        },
+    };
+    MarkStage::Refusing { refused }
+}
+
 impl Marking {
     /// Begins to mark the bodies of some ids for the newest batch; no step is made yet.
     pub(crate) fn new(
@@ -78,19 +101,19 @@ impl Marking {
         ensures slot { result.slot ≡ slot }
         ensures ids { result.ids.items ≡ ids.items }
         ensures made { result.made ≡ None }
-        ensures left { mark_left result ≤ 13 * length ids.items }
+        ensures left { mark_left result ≤ 15 * length ids.items }
         ensures unloaded { LoadedNone (mark_takes result) }
         ensures under_way { IsMarking result (view_of pass.old) result (view_of pass.new) }
     {
-        let stripe = world.stripe_of(ids[0].index());
-        let taking = TakeOp::new(world, pass, stripe, Mode::Write);
+        let look = LookOp::new(world, pass, ids[0], Mode::Write, LookDepth::Phase);
         Marking {
             layer,
             slot,
             ids,
             bodies,
             marked: 0,
-            stage: MarkStage::Taking { taking },
+            look,
+            stage: MarkStage::Looking,
             made: None,
         }
     }
@@ -103,11 +126,7 @@ impl Marking {
         ensures turn { IsMarkTurn result self.old self.new (view_of pass.old) (view_of pass.new) }
     {
         match self.stage {
-            MarkStage::Taking { taking } => self.take_stripe(world, pass, taking),
-            MarkStage::Striped => self.load_state(world, pass),
-            MarkStage::Live => self.load_phase(world, pass),
-            MarkStage::Joining { phase } => self.load_its_layer(world, pass, phase),
-            MarkStage::Placed { phase, layer } => self.load_slot(world, pass, phase, layer),
+            MarkStage::Looking => self.look(world, pass),
             MarkStage::Outside => self.load_layer(world, pass),
             MarkStage::Sides { words, loaded } => self.load_side(world, pass, words, loaded),
             MarkStage::Boxed { bounds } => self.mark(world, pass, bounds),
@@ -143,112 +162,26 @@ impl Marking {
         Turn::More
     }
 
-    /// A turn of taking the stripe.
-    fn take_stripe(
-        &mut self,
-        world: &World,
-        pass: &mut Pass,
-        taking: TakeOp,
-    ) -> Turn<Result<(), MarkRefused>>
+    /// A turn of looking at the next body. Where it is out, its layer comes next, and else it is refused.
+    #[inline(always)]
+    fn look(&mut self, world: &World, pass: &mut Pass) -> Turn<Result<(), MarkRefused>>
         requires of { IsOf world.now pass.old }
         requires under_way { IsUnderWay IsMarking self.old (view_of pass.old) }
-        requires stage { self.old.stage ≡ Taking taking }
+        requires stage { self.old.stage ≡ Looking }
         ensures of { IsOf world.now pass.new }
         ensures turn { IsMarkTurn result self.old self.new (view_of pass.old) (view_of pass.new) }
     {
-        let mut taking = taking;
-        match taking.turn(world, pass) {
-            Turn::Done(()) => self.go_on(MarkStage::Striped),
-            Turn::More => self.go_on(MarkStage::Taking { taking }),
+        match self.look.turn(world, pass) {
+            Turn::Done(found) => self.go_on(stage_of(found)),
+            Turn::More => {
+                self.made = None;
+                Turn::More
+            }
             Turn::Again { lock, word } => {
-                self.go_on(MarkStage::Taking { taking });
+                self.made = None;
                 Turn::Again { lock, word }
             }
         }
-    }
-
-    /// The turn that loads the state word: it tells whether the id's body is live.
-    fn load_state(&mut self, world: &World, pass: &mut Pass) -> Turn<Result<(), MarkRefused>>
-        requires of { IsOf world.now pass.old }
-        requires under_way { IsUnderWay IsMarking self.old (view_of pass.old) }
-        requires stage { self.old.stage ≡ Striped }
-        ensures of { IsOf world.now pass.new }
-        ensures turn { IsMarkTurn result self.old self.new (view_of pass.old) (view_of pass.new) }
-    {
-        let id = self.id();
-        let state = step_15(world, pass, Name::State(id.index()));
-        let live = StateWord::Live { sequence: id.seq() };
-        if state == live.to_word() {
-            return self.go_on(MarkStage::Live);
-        }
-        self.go_on(MarkStage::Refusing {
-            refused: MarkRefused::Gone { state },
-        })
-    }
-
-    /// The turn that loads the phase word.
-    fn load_phase(&mut self, world: &World, pass: &mut Pass) -> Turn<Result<(), MarkRefused>>
-        requires of { IsOf world.now pass.old }
-        requires under_way { IsUnderWay IsMarking self.old (view_of pass.old) }
-        requires stage { self.old.stage ≡ Live }
-        ensures of { IsOf world.now pass.new }
-        ensures turn { IsMarkTurn result self.old self.new (view_of pass.old) (view_of pass.new) }
-    {
-        let phase = step_15(world, pass, Name::Phase(self.id().index()));
-        if phase == 0 {
-            return self.go_on(MarkStage::Outside);
-        }
-        if phase == 1 {
-            return self.go_on(MarkStage::Refusing {
-                refused: MarkRefused::AlreadyIn { phase },
-            });
-        }
-        self.go_on(MarkStage::Joining { phase })
-    }
-
-    /// The turn that loads the layer of a body whose phase word names a slot.
-    fn load_its_layer(
-        &mut self,
-        world: &World,
-        pass: &mut Pass,
-        phase: u64,
-    ) -> Turn<Result<(), MarkRefused>>
-        requires of { IsOf world.now pass.old }
-        requires under_way { IsUnderWay IsMarking self.old (view_of pass.old) }
-        requires stage { self.old.stage ≡ Joining phase }
-        ensures of { IsOf world.now pass.new }
-        ensures turn { IsMarkTurn result self.old self.new (view_of pass.old) (view_of pass.new) }
-    {
-        let layer = step_15(world, pass, Name::Layer(self.id().index()));
-        self.go_on(MarkStage::Placed {
-            phase,
-            layer: layer as u32,
-        })
-    }
-
-    /// The turn that loads the slot word: a slot that holds no tree yet is one for whose batch the body is held.
-    fn load_slot(
-        &mut self,
-        world: &World,
-        pass: &mut Pass,
-        phase: u64,
-        layer: u32,
-    ) -> Turn<Result<(), MarkRefused>>
-        requires of { IsOf world.now pass.old }
-        requires under_way { IsUnderWay IsMarking self.old (view_of pass.old) }
-        requires stage { self.old.stage ≡ Placed phase layer }
-        ensures of { IsOf world.now pass.new }
-        ensures turn { IsMarkTurn result self.old self.new (view_of pass.old) (view_of pass.new) }
-    {
-        let slot = step_17(world, pass, Name::Slot(layer, (phase - 2) as u32));
-        if SlotWord::names_tree(slot) {
-            return self.go_on(MarkStage::Refusing {
-                refused: MarkRefused::AlreadyIn { phase },
-            });
-        }
-        self.go_on(MarkStage::Refusing {
-            refused: MarkRefused::Held { slot },
-        })
     }
 
     /// The turn that loads the layer of a body that is out.
@@ -259,15 +192,17 @@ impl Marking {
         ensures of { IsOf world.now pass.new }
         ensures turn { IsMarkTurn result self.old self.new (view_of pass.old) (view_of pass.new) }
     {
-        let layer = step_15(world, pass, Name::Layer(self.id().index()));
-        if layer == u64::from(self.layer) {
+        let layer = load_layer(world, pass, self.id());
+        if layer == self.layer {
             return self.go_on(MarkStage::Sides {
                 words: [0; 6],
                 loaded: 0,
             });
         }
         self.go_on(MarkStage::Refusing {
-            refused: MarkRefused::WrongLayer { layer },
+            refused: MarkRefused::WrongLayer {
+                layer: u64::from(layer),
+            },
         })
     }
 
@@ -286,7 +221,7 @@ impl Marking {
         ensures turn { IsMarkTurn result self.old self.new (view_of pass.old) (view_of pass.new) }
     {
         let mut words = words;
-        words[loaded as usize] = step_15(world, pass, Name::BoxWord(self.id().index(), loaded));
+        words[loaded as usize] = load_side(world, pass, self.id(), loaded);
         if loaded < 5 {
             return self.go_on(MarkStage::Sides {
                 words,
@@ -354,9 +289,8 @@ impl Marking {
             self.made = None;
             return Turn::Done(Ok(()));
         }
-        let next = self.stripe(world);
-        let taking = TakeOp::new(world, pass, next, Mode::Write);
-        self.go_on(MarkStage::Taking { taking })
+        self.look = LookOp::new(world, pass, self.id(), Mode::Write, LookDepth::Phase);
+        self.go_on(MarkStage::Looking)
     }
 
     /// The turn that lets the stripe of a body go that is not marked.

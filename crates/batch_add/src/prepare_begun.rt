@@ -10,6 +10,8 @@ use crate::node_taking::{NodeStage, NodeTaking};
 use crate::prepare_op::{Plans, PrepareOp, PrepareStage};
 use crate::slot_search::SlotSearch;
 use body_ident::BodyId;
+use body_look::{LookDepth, LookOp};
+use core_state::Mode;
 use fixed_box::{Coord, FixBox};
 use pass_table::{Pass, World};
 use std::alloc::{AllocError, Global};
@@ -36,10 +38,12 @@ impl PrepareOp {
         let count = ids.len() as u32;
         let words = vec![in alloc; 0; world.config().slots as usize]?;
         let taking = nodes_to_take(alloc, need(count))?;
-        let marking = bodies_to_mark(alloc, layer, ids)?;
         let plans = room_to_plan(alloc, count)?;
         let indexes = indexes_of(alloc, ids)?;
         let search = SlotSearch::new(world, pass, layer, words);
+        let first = BodyId::new(0, 0);
+        let look = LookOp::new(world, pass, first, Mode::Write, LookDepth::Phase);
+        let marking = bodies_to_mark(alloc, layer, ids, look)?;
         Ok(PrepareOp {
             alloc,
             layer,
@@ -73,8 +77,13 @@ fn nodes_to_take(alloc: Global, count: u32) -> Result<NodeTaking, AllocError>
     })
 }
 
-/// The ids, and room for their bodies. None is marked yet.
-fn bodies_to_mark(alloc: Global, layer: u32, ids: &[BodyId]) -> Result<Marking, AllocError>
+/// The ids, and room for their bodies. None is marked yet, and the look stands there until the marks are begun.
+fn bodies_to_mark(
+    alloc: Global,
+    layer: u32,
+    ids: &[BodyId],
+    look: LookOp,
+) -> Result<Marking, AllocError>
     ensures { IfOk result (λ marking. (marking.ids.items ≡ ids.now) × (length marking.bodies.items ≡ length ids.now) × (marking.made ≡ None)) }
 {
     let corner = [Coord { value: 0 }; 3];
@@ -88,7 +97,8 @@ fn bodies_to_mark(alloc: Global, layer: u32, ids: &[BodyId]) -> Result<Marking, 
         ids: own_ids(alloc, ids)?,
         bodies: vec![in alloc; (0, bounds); ids.len()]?,
         marked: 0,
-        stage: MarkStage::Striped,
+        look,
+        stage: MarkStage::Outside,
         made: None,
     })
 }

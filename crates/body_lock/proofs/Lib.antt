@@ -1,5 +1,4 @@
 pub mod Standing
-pub mod Boxes
 pub mod Seeing
 pub mod Letting
 pub mod Locking

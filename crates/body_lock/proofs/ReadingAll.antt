@@ -18,14 +18,11 @@ use Rattle.core_state.specs.declared.view.Task.TheVariants.{Nothing}
 use Rattle.core_state.specs.declared.view.View.{View}
 use Rattle.core_state.specs.View.{Holds, IsPass, number_of, mode_of}
 use Rattle.core_state.specs.Lives.{MayLoadBody, under_stripe, load_body}
-use Rattle.core_state.specs.Event.{loads_body, of_bodies}
 use Rattle.pass_table.specs.declared.take_op.TakeOp.{TakeOp}
 use Rattle.pass_table.specs.TakeTurns.{taking_of, IsTaking}
 use Rattle.pass_table.specs.Stepping.{Stepped}
-use Rattle.pass_table.specs.Turning.{AtMostOneStep}
 use Rattle.pass_table.specs.Holding.{IsAtRest}
 use Rattle.pass_table.specs.Knowing.{KnowsMore}
-use Rattle.pass_table.proofs.Turning.{one-step}
 use Rattle.body_lock.specs.declared.multi_guard.MultiEntry.{MultiEntry}
 use Rattle.body_lock.specs.declared.multi_guard.MultiEntry.TheVariants.{Reached, Gone}
 use Rattle.body_lock.specs.declared.multi_guard.LockedBody.{LockedBody}
@@ -107,9 +104,6 @@ all-begun wanted mode stripes bodies ids view next stripe number taking pass res
 
 pub entry-asks : (id : Id) (view : View) (index : ℕ) → index ≡ id.index → MayLoadState id view → MayLoadBody view (State index) 0 0
 entry-asks id view index same may = subst (λ (i : ℕ). MayLoadBody view (State i) 0 0) (sym same) (under_stripe id.index may.mode refl may.stripe)
-
-pub entry-step : (view next : View) (index state : ℕ) → Stepped MayLoadBody load_body view (State index) 0 0 state next → AtMostOneStep view next
-entry-step view next index state step = one-step MayLoadBody load_body view next (State index) 0 0 state step (λ before after steps. of_bodies (loads_body steps))
 
 pub entry-reads : (id wanted : Id) (view next : View) (index state : ℕ) (entry : MultiEntry) → id ≡ wanted → index ≡ id.index → Stepped MayLoadBody load_body view (State index) 0 0 state next
     → SaysEntry id.seq state entry → ReadsEntry wanted view next (record { id = id; entry = entry })

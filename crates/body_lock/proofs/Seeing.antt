@@ -1,6 +1,5 @@
 -- What is read of a guarded body is the body at one point.
-use Rattle.std.proofs.Common.{◌≡◌, ℕ, cond, ◌+◌, ◌%◌, ◌<◌, ◌≤◌, List, ◌++◌, Option, Some, slice_index, refl, ap, sym, ◌∙◌, subst, arith}
-use Rattle.std.specs.Prelude.{IsSomeAnd}
+use Rattle.std.proofs.Common.{◌≡◌, ℕ, cond, ◌+◌, ◌%◌, ◌<◌, ◌≤◌, List, ◌++◌, slice_index, refl, ap, sym, ◌∙◌, subst, arith}
 use Rattle.std.proofs.lemmas.Option.{same_Some}
 use Rattle.std.proofs.lemmas.List.Elements.{filter_map-append}
 use Rattle.std.proofs.lemmas.List.Sums.{sum_by-append}
@@ -10,7 +9,7 @@ use Rattle.body_ident.specs.Id.{Id, id_of}
 use Rattle.scene_model.specs.declared.body_view.BodyView.{BodyView}
 use Rattle.scene_model.specs.declared.body_view.Phase.{Phase}
 use Rattle.scene_model.specs.declared.entry.Made.{Made}
-use Rattle.scene_model.specs.Scene.{Record, record_at}
+use Rattle.scene_model.specs.Scene.{record_at}
 use Rattle.scene_model.specs.History.{creates, creations_in}
 use Rattle.scene_model.specs.Query.{view_of}
 use Rattle.word_map.specs.declared.config.Config.{Config}
@@ -23,7 +22,7 @@ use Rattle.core_state.specs.Guards.{scene_at}
 use Rattle.core_state.proofs.Boxes.{box_of-words}
 use Rattle.pass_table.specs.Knowing.{KnowsMore}
 use Rattle.pass_table.specs.Calls.{AtPoint}
-use Rattle.pass_table.specs.Bodies.{IsGuarded, HasKnownBody, IsTold}
+use Rattle.pass_table.specs.Bodies.{IsGuarded, IsTold}
 use Rattle.body_lock.specs.Seeing.{IsSeenAt}
 use Rattle.pass_table.proofs.LockedBodies.{word-stays}
 
@@ -47,16 +46,12 @@ creations-more index first since =
 same-boxes : (a b : FixBox) (sides : ℕ → ℕ) → ((k : ℕ) → k < 6 → sides k ≡ slice_index (words_of a) k) → ((k : ℕ) → k < 6 → sides k ≡ slice_index (words_of b) k) → a ≡ b
 same-boxes a b sides one two = same_Some a b (sym (box_of-words a sides one) ∙ box_of-words b sides two)
 
--- what holds of the body that is live holds of its record
-of-record : (o : Option Record) (r : Record) (P : Record → Type 0) → o ≡ Some r → IsSomeAnd o P → P r
-of-record o r P e h = subst (λ (p : Option Record). IsSomeAnd p P) e h
-
 -- ---- a view
 
 module _ (id : Id) (start view next : View) (more : KnowsMore start view) (later : KnowsMore view next) (guarded : IsGuarded id view) (told : IsTold id view)
     (layer user : ℕ) (bounds : FixBox) (phase : Phase) (lies : known_word view (Layer id.index) ≡ layer) (has_user : known_word next (User id.index) ≡ user)
     (has_box : (mid : View) × KnowsMore view mid × ((k : ℕ) → k < 6 → known_word mid (BoxWord id.index k) ≡ slice_index (words_of bounds) k))
-    (has_phase : HasKnownBody id view (λ r. r.phase ≡ phase)) where
+    (has_phase : told.body.phase ≡ phase) where
   abbrev shown : BodyView
   shown = record { id = id; layer = layer; bounds = bounds; user = user; phase = phase }
 
@@ -70,9 +65,8 @@ module _ (id : Id) (start view next : View) (more : KnowsMore start view) (later
 
   shows-body : view_of id.index told.body ≡ shown
   shows-body =
-      let phases = (of-record (record_at (scene_at view.config view.known) id.index) told.body (λ r. (r.generation % 256 ≡ id.seq) × (r.phase ≡ phase)) told.live has_phase).1 in
       let layers : told.body.layer ≡ layer = sym told.layer ∙ lies in
-      λ i. record { id = record { index = id.index; seq = told.sequence i }; layer = layers i; bounds = same-bounds i; user = same-user i; phase = phases i }
+      λ i. record { id = record { index = id.index; seq = told.sequence i }; layer = layers i; bounds = same-bounds i; user = same-user i; phase = has_phase i }
 
   -- it is the body that was created as the g-th
   seen-generation : (g : ℕ) → id ≡ id_of id.index g → g ≤ creations_in id.index (history start.known) → creations_in id.index (history view.known) < g + 256 → told.body.generation ≡ g

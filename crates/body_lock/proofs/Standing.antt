@@ -3,7 +3,6 @@ use Rattle.std.proofs.Common.{◌≡◌, ℕ, ◌<◌, List, [], ◌∷◌, ◌+
 use Rattle.std.proofs.lemmas.Option.{same_Some}
 use Rattle.body_ident.specs.Id.{Id}
 use Rattle.word_map.specs.declared.config.Config.{Config}
-use Rattle.word_map.specs.declared.name.Name.{Name}
 use Rattle.word_map.specs.declared.name.Name.TheVariants.{State, User}
 use Rattle.word_map.specs.Names.{stripe_of}
 use Rattle.scene_model.specs.declared.entry.Entry.TheVariants.{SetUser}
@@ -12,14 +11,15 @@ use Rattle.core_state.specs.declared.view.Mode.TheVariants.{Write}
 use Rattle.core_state.specs.declared.view.Mode.{Mode}
 use Rattle.core_state.specs.declared.view.View.{View}
 use Rattle.core_state.specs.View.{IsPass, mode_of, number_of}
-use Rattle.core_state.specs.Lives.{IsOfBody, MayLoadBody, under_stripe, MaySetUser, set_user}
+use Rattle.core_state.specs.Lives.{MaySetUser, set_user}
 use Rattle.core_state.proofs.Quiet.{in_first, in_second, append_cut, one_cut}
 use Rattle.pass_table.specs.Knowing.{KnowsMore, StoresAlone}
 use Rattle.pass_table.specs.Stepping.{Stepped}
 use Rattle.pass_table.specs.Calls.{Adds, Advances}
 use Rattle.pass_table.proofs.Turning.{made-entry}
 use Rattle.pass_table.proofs.Calling.{Adds-refl, adds-more, adds-made, stored-steady, stepped-stores}
-use Rattle.pass_table.specs.Bodies.{IsAlone, IsGuarding}
+use Rattle.pass_table.specs.Bodies.{IsAlone}
+use Rattle.pass_table.specs.Bodies.{IsGuarding}
 use Rattle.pass_table.proofs.LockedBodies.{live-steady, guarding-more}
 use Rattle.pass_table.proofs.Bodies.{stepped-current}
 use Rattle.pass_table.proofs.WorkLater.{tells-alone, tells-more}
@@ -35,10 +35,6 @@ module _ (number : ℕ) (id : Id) (mode : Mode) (view : View) (guarding : IsGuar
 
   pub guarding-tells : (next : View) → KnowsMore view next → Tells view next []
   guarding-tells next more = tells-more view view next [] refl (tells-refl view number guarding.pass) more
-
-  -- a word of the body may be loaded
-  pub may-load : (name : Name) → IsOfBody id.index name → MayLoadBody view name 0 0
-  may-load name of_body = under_stripe id.index mode of_body guarding.stripe
 
 -- and all that the pass has beside its locks and its task is as it was
 pub more-keeps : (view next : View) → KnowsMore view next → belongings_of next ≡ belongings_of view

@@ -4,7 +4,7 @@
 //! changes only by the holder, but that a batch which holds it may bring it into the broad phase. A guard tells what was
 //! locked, and is spent where it is unlocked. Many readers may hold a stripe, or one writer. No call takes memory.
 //!
-//! It stands on the typed steps. The layers above use that a view which a guard gives is the body as the scene has it.
+//! It stands on looks at bodies. The layers above use that a view which a guard gives is the body as the scene has it.
 #![tactic(auto)]
 
 mod body_read;

@@ -2,17 +2,17 @@
 ghost use Rattle.std.specs.Prelude.{◌≡◌, ◌<◌, None, ⊤};
 ghost use Rattle.pass_table.specs.Turning.{IsUnderWay};
 ghost use Rattle.pass_table.specs.Passes.{view_of, IsOf, IsIdle};
-ghost use Rattle.body_lock.specs.declared.lock_op.LockStage.TheVariants.{Taking, Held, Leaving};
+ghost use Rattle.body_lock.specs.declared.lock_op.LockStage.TheVariants.{Looking, Leaving};
 ghost use Rattle.body_lock.specs.Locking.{locking_of, lock_left, lock_takes, IsLocking, LockAnswers, IsLockTurn};
 
 use crate::gone::Gone;
 use crate::lock_op::{LockOp, LockStage};
 use crate::words::unlock;
 use body_ident::BodyId;
+use body_look::{BodyFound, LookDepth, LookOp};
 use core_state::Mode;
-use pass_table::{Label, Operation, Pass, TakeOp, Turn, World, step_15};
+use pass_table::{Label, Operation, Pass, Turn, World};
 use scene_model::Made;
-use word_map::{Name, StateWord};
 
 impl Operation for LockOp {
     ghost use Rattle.body_lock.specs.Locking.{locking-later};
@@ -40,8 +40,7 @@ impl Operation for LockOp {
     #[inline(always)]
     fn turn(&mut self, world: &World, pass: &mut Pass) -> Turn<Result<(), Gone>> {
         match self.stage {
-            LockStage::Taking { taking } => self.take(world, pass, taking),
-            LockStage::Held => self.load_state(world, pass),
+            LockStage::Looking => self.look(world, pass),
             LockStage::Leaving { state } => self.leave(world, pass, state),
         }
     }
@@ -66,59 +65,35 @@ impl LockOp {
         ensures begun { result ≡ locking_of world.now.map id mode }
         ensures under_way { IsLocking result (view_of pass.old) result (view_of pass.new) }
     {
-        let stripe = world.stripe_of(id.index());
-        let taking = TakeOp::new(world, pass, stripe, mode);
+        let look = LookOp::new(world, pass, id, mode, LookDepth::Life);
         LockOp {
             id,
             mode,
-            stage: LockStage::Taking { taking },
+            look,
+            stage: LockStage::Looking,
         }
     }
 
-    /// A turn of taking the stripe.
+    /// A turn of the look. Once the body is seen to be live it is locked.
     #[inline(always)]
-    fn take(&mut self, world: &World, pass: &mut Pass, taking: TakeOp) -> Turn<Result<(), Gone>>
+    fn look(&mut self, world: &World, pass: &mut Pass) -> Turn<Result<(), Gone>>
         requires of { IsOf world.now pass.old }
         requires under_way { IsUnderWay IsLocking self.old (view_of pass.old) }
-        requires stage { self.old.stage ≡ Taking taking }
+        requires stage { self.old.stage ≡ Looking }
         ensures of { IsOf world.now pass.new }
         ensures turn { IsLockTurn result self.old self.new (view_of pass.old) (view_of pass.new) }
     {
-        let mut taking = taking;
-        match taking.turn(world, pass) {
-            Turn::Done(()) => {
-                self.stage = LockStage::Held;
-                Turn::More
-            }
-            Turn::More => {
-                self.stage = LockStage::Taking { taking };
-                Turn::More
-            }
-            Turn::Again { lock, word } => {
-                self.stage = LockStage::Taking { taking };
-                Turn::Again { lock, word }
-            }
+        match self.look.turn(world, pass) {
+            Turn::Done(found) => match found {
+                BodyFound::Gone { state } => {
+                    self.stage = LockStage::Leaving { state };
+                    Turn::More
+                }
+                _ => Turn::Done(Ok(())),
+            },
+            Turn::More => Turn::More,
+            Turn::Again { lock, word } => Turn::Again { lock, word },
         }
-    }
-
-    /// The turn that loads the state word: it tells whether the body of the id is live.
-    #[inline(always)]
-    fn load_state(&mut self, world: &World, pass: &mut Pass) -> Turn<Result<(), Gone>>
-        requires of { IsOf world.now pass.old }
-        requires under_way { IsUnderWay IsLocking self.old (view_of pass.old) }
-        requires stage { self.old.stage ≡ Held }
-        ensures of { IsOf world.now pass.new }
-        ensures turn { IsLockTurn result self.old self.new (view_of pass.old) (view_of pass.new) }
-    {
-        let state = step_15(world, pass, Name::State(self.id.index()));
-        let live = StateWord::Live {
-            sequence: self.id.seq(),
-        };
-        if state == live.to_word() {
-            return Turn::Done(Ok(()));
-        }
-        self.stage = LockStage::Leaving { state };
-        Turn::More
     }
 
     /// The turn that lets the stripe go again.

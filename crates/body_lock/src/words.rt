@@ -1,31 +1,16 @@
-//! Loads of the words of a body whose lock is held.
+//! Steps on the words of a body whose lock is held.
 ghost use Rattle.std.specs.Prelude.{◌<◌, ℕ};
-ghost use Rattle.word_map.specs.Names.{IsName, stripe_of};
+ghost use Rattle.word_map.specs.Names.{stripe_of};
 ghost use Rattle.core_state.specs.declared.view.Mode.TheVariants.{Write};
 ghost use Rattle.core_state.specs.View.{IsPass};
-ghost use Rattle.core_state.specs.Lives.{IsOfBody};
 ghost use Rattle.pass_table.specs.Holding.{MayLetGo, LetGo};
 ghost use Rattle.pass_table.specs.Passes.{view_of, IsOf};
-ghost use Rattle.pass_table.specs.Bodies.{IsGuarding, IsGuarded, Loaded};
+ghost use Rattle.pass_table.specs.Bodies.{IsGuarding};
 ghost use Rattle.body_lock.specs.Seeing.{HasSetUser};
 
 use body_ident::BodyId;
-use pass_table::{Pass, World, release, step_15, step_16};
+use pass_table::{Pass, World, release, step_16};
 use word_map::Name;
-
-/// Loads a word of the body, in one step.
-#[inline(always)]
-pub(crate) fn load_word(world: &World, pass: &mut Pass, id: BodyId, name: Name) -> u64
-    requires of { IsOf world.now pass.old }
-    requires guarded { IsGuarded id (view_of pass.old) }
-    requires named { IsName world.now.map name }
-    requires of_body { IsOfBody id.index name }
-    ensures of { IsOf world.now pass.new }
-    ensures guarded { IsGuarded id (view_of pass.new) }
-    ensures loaded { Loaded (view_of pass.old) (view_of pass.new) name result }
-{
-    step_15(world, pass, name)
-}
 
 /// Stores the user number of the body, in one step.
 pub(crate) fn store_user(world: &World, pass: &mut Pass, id: BodyId, user: u32)

@@ -1,5 +1,5 @@
 -- What the answer of a look gives the operation that looked.
-use Rattle.std.proofs.Common.{◌≡◌, ◌≢◌, ℕ, List, [], ◌∷◌, ◌++◌, Bool, Option, Some, None, cond, append_assoc, refl, ap, sym, ◌∙◌, subst}
+use Rattle.std.proofs.Common.{◌≡◌, ◌≢◌, ℕ, ◌<◌, List, [], ◌∷◌, ◌++◌, Bool, Option, Some, None, cond, append_assoc, refl, ap, sym, ◌∙◌, subst, arith}
 use Rattle.std.proofs.lemmas.Bool.{ne_eqb}
 use Rattle.std.proofs.lemmas.Option.{none-some, same_Some}
 use Rattle.std.proofs.lemmas.List.{append-nil}
@@ -22,30 +22,46 @@ use Rattle.core_state.specs.Guards.{scene_at}
 use Rattle.pass_table.specs.Holding.{IsAtRest}
 use Rattle.pass_table.specs.Calls.{Adds, AtPoint}
 use Rattle.pass_table.specs.Work.{Work, begun, with_lock, HasWorked}
-use Rattle.pass_table.specs.Bodies.{IsGoneAt, IsTold, HasKnownBody}
-use Rattle.pass_table.proofs.Calling.{point-now}
+use Rattle.pass_table.specs.Bodies.{IsGoneAt, IsTold}
+use Rattle.pass_table.proofs.Calling.{point-now, some-left}
 use Rattle.pass_table.proofs.LockedBodies.{told-body}
 use Rattle.pass_table.proofs.WorkLater.{tells-alone, worked-role, worked-sizes, worked-mode}
 use Rattle.pass_table.proofs.Working.{adds-then}
 use Rattle.body_look.specs.declared.body_found.BodyFound.{BodyFound}
-use Rattle.body_look.specs.declared.body_found.BodyFound.TheVariants.{Gone, Live, Out, In, Held, Joined}
+use Rattle.body_look.specs.declared.body_found.BodyFound.TheVariants.{Gone, Live as FoundLive, Out, In, Held, Joined}
 use Rattle.body_look.specs.Found.{phase_found, IsFound}
-use Rattle.body_look.specs.Looking.{HasStripe}
+use Rattle.body_look.specs.declared.look_op.LookDepth.{LookDepth}
+use Rattle.body_look.specs.declared.look_op.LookDepth.TheVariants.{Life, Phase as ItsPhase}
+use Rattle.body_look.specs.declared.look_op.LookStage.{LookStage}
+use Rattle.body_look.specs.declared.look_op.LookStage.TheVariants.{Taking, Striped, Live, Joining, Placed}
+use Rattle.body_look.specs.declared.look_op.LookOp.{LookOp}
+use Rattle.body_look.specs.Looking.{HasStripe, left_at, look_left}
 use Rattle.body_look.specs.LookLater.{only-sizes}
+
+-- ---- turns left
+
+-- a look that is under way has a turn left
+pub turn-left : (look : LookOp) → 0 < look_left look
+turn-left look = go look.depth look.stage
+  where
+    go : (depth : LookDepth) (stage : LookStage) → 0 < left_at depth look.taking stage
+    go depth Taking = let some = some-left look.taking in omega arith
+    go Life Striped = omega arith
+    go ItsPhase Striped = omega arith
+    go depth Live = omega arith
+    go depth (Joining slot) = omega arith
+    go depth (Placed slot layer) = omega arith
 
 -- ---- the phase
 
 -- the body is live, and in the phase that was found
 pub phase-told : (id : Id) (view : View) (found : BodyFound) (phase : BodyPhase) → phase_found found ≡ Some phase → IsFound id view found → (told : IsTold id view) × (told.body.phase ≡ phase)
 phase-told id view (Gone state) phase same is = absurd (none-some phase same)
-phase-told id view Live phase same is = absurd (none-some phase same)
+phase-told id view FoundLive phase same is = absurd (none-some phase same)
 phase-told id view Out phase same is = (is.told, is.is ∙ same_Some OutPhase phase same)
 phase-told id view In phase same is = (is.told, is.is ∙ same_Some InPhase phase same)
 phase-told id view (Held layer slot word) phase same is = (is.0.told, is.0.is ∙ same_Some HeldPhase phase same)
 phase-told id view (Joined layer slot word) phase same is = (is.0.told, is.0.is ∙ same_Some InPhase phase same)
-
-pub phase-known : (id : Id) (view : View) (found : BodyFound) (phase : BodyPhase) → phase_found found ≡ Some phase → IsFound id view found → HasKnownBody id view (λ r. r.phase ≡ phase)
-phase-known id view found phase same is = let t = phase-told id view found phase same is in told-body id view t.0 (λ r. r.phase ≡ phase) t.1
 
 -- ---- the point at which it is so
 

@@ -1,5 +1,5 @@
 -- The turns of a look at a body.
-use Rattle.std.proofs.Common.{◌≡◌, ◌≢◌, inl, inr, ℕ, ◌<◌, ◌≤◌, [], ◌∷◌, Some, None, refl, sym, ◌∙◌, subst, arith}
+use Rattle.std.proofs.Common.{◌≡◌, ◌≢◌, inl, ℕ, ◌<◌, ◌≤◌, [], ◌∷◌, Some, None, refl, sym, ◌∙◌, subst, arith}
 use Rattle.body_ident.specs.Id.{Id}
 use Rattle.word_map.specs.declared.config.Config.{Config}
 use Rattle.word_map.specs.declared.name.Name.{Name}
@@ -13,6 +13,7 @@ use Rattle.core_state.specs.Encoding.{phase_join}
 use Rattle.core_state.specs.Lives.{MayLoadBody, load_body, under_stripe}
 use Rattle.core_state.proofs.Quiet.{KnowsQuietly-refl}
 use Rattle.pass_table.specs.declared.take_op.TakeOp.{TakeOp}
+use Rattle.pass_table.specs.declared.turn.Turn.{Turn}
 use Rattle.pass_table.specs.declared.turn.Turn.TheVariants.{Done, More, Again}
 use Rattle.pass_table.specs.Stepping.{Stepped}
 use Rattle.pass_table.specs.Knowing.{alone-refl, alone-trans}
@@ -21,7 +22,7 @@ use Rattle.pass_table.specs.Turning.{IsUnderWay, AtMostOneStep, MadeBy, Turned, 
 use Rattle.pass_table.specs.TakeTurns.{taking_of, IsTaking, HasTaken, turns_left}
 use Rattle.pass_table.specs.Bodies.{IsGuarded, Loaded, live_state, KnowsLive}
 use Rattle.pass_table.proofs.Bodies.{loaded-body, body-load-step, body-load-made, gone-now}
-use Rattle.pass_table.proofs.Calling.{some-left}
+use Rattle.pass_table.proofs.Calling.{some-left, turned-more, turned-again}
 use Rattle.pass_table.proofs.Working.{worked-begun, worked-taken, worked-waited}
 use Rattle.pass_table.proofs.TakingTurns.{taking-anew}
 use Rattle.pass_table.proofs.Between.{more-refl}
@@ -34,7 +35,7 @@ use Rattle.body_look.specs.declared.look_op.LookStage.{LookStage}
 use Rattle.body_look.specs.declared.look_op.LookStage.TheVariants.{Taking, Striped, Live, Joining, Placed}
 use Rattle.body_look.specs.declared.look_op.LookOp.{LookOp}
 use Rattle.body_look.specs.Found.{IsAsked, IsFound}
-use Rattle.body_look.specs.Looking.{left_at, HasStripe, Guards, AtLive, AtLook, IsLooking, GuardsFound, HasLooked, takes_at, IsLookTurn}
+use Rattle.body_look.specs.Looking.{loads_of, left_at, look_left, HasStripe, Guards, AtLive, AtLook, IsLooking, GuardsFound, HasLooked, takes_at, IsLookTurn}
 use Rattle.body_look.specs.LookLater.{only-role, only-sizes, only-quiet, only-more, stripe-mode, is-guarded, live-more, join-more, guarded}
 use Rattle.body_look.proofs.Finding.{finds-out, finds-in, names-slot, finds-held, finds-joined}
 
@@ -43,12 +44,16 @@ use Rattle.body_look.proofs.Finding.{finds-out, finds-in, names-slot, finds-held
 -- a turn at a stage that made no entry
 module _ (before : LookOp) (stage : LookStage) (view next : View) (at : before.stage ≡ stage) (step : AtMostOneStep view next) (made : MadeBy view next None) where
   -- what holds at the stage
-  pub now-at : (first : LookOp) (start : View) → IsLooking first start before view → AtLook before.id before.mode before.depth start stage view
-  now-at first start looking = subst (λ (s : LookStage). AtLook before.id before.mode before.depth start s view) at looking.stage
+  pub now-at : (first : LookOp) (start : View) → IsLooking first start before view → AtLook before.id before.mode before.depth start before.taking stage view
+  now-at first start looking = subst (λ (s : LookStage). AtLook before.id before.mode before.depth start before.taking s view) at looking.stage
 
   -- it goes on to another one
-  module _ (after : LookStage) (loads : LoadsNow view next (takes_at after)) (keeps : (start : View) → IsAtRest start → before.id.index < start.config.bodies → AtLook before.id before.mode before.depth start stage view → AtLook before.id before.mode before.depth start after next) where
-    goes_on : (first : LookOp) (start : View) → IsLooking first start before view → IsLooking first start (record before { stage = after }) next
+  module _ (taken : TakeOp) (after : LookStage) (loads : LoadsNow view next (takes_at taken after))
+      (keeps : (start : View) → IsAtRest start → before.id.index < start.config.bodies → AtLook before.id before.mode before.depth start before.taking stage view → AtLook before.id before.mode before.depth start taken after next) where
+    abbrev then : LookOp
+    then = record before { taking = taken; stage = after }
+
+    goes_on : (first : LookOp) (start : View) → IsLooking first start before view → IsLooking first start then next
     goes_on first start looking = record {
       id = looking.id;
       mode = looking.mode;
@@ -58,29 +63,29 @@ module _ (before : LookOp) (stage : LookStage) (view next : View) (at : before.s
       stage = keeps start looking.rest looking.below (now-at first start looking);
     }
 
-    pub goes-more : Turned {T = BodyFound} More view next (takes_at stage) (left_at before.depth stage) (left_at before.depth after) → IsLookTurn More before (record before { stage = after }) view next
+    pub goes-more : Turned {T = BodyFound} More view next (takes_at before.taking stage) (left_at before.depth before.taking stage) (look_left then) → IsLookTurn More before then view next
     goes-more turned = record {
       step = step;
       made = made;
-      turned = subst (λ (s : LookStage). Turned {T = BodyFound} More view next (takes_at s) (left_at before.depth s) (left_at before.depth after)) (sym at) turned;
+      turned = subst (λ (s : LookStage). Turned {T = BodyFound} More view next (takes_at before.taking s) (left_at before.depth before.taking s) (look_left then)) (sym at) turned;
       loads = loads;
       keeps = goes_on;
       answered = λ first start looking. tt;
     }
 
-    pub goes-again : (lock word : ℕ) → Turned {T = BodyFound} (Again lock word) view next (takes_at stage) (left_at before.depth stage) (left_at before.depth after)
-        → IsLookTurn (Again lock word) before (record before { stage = after }) view next
+    pub goes-again : (lock word : ℕ) → Turned {T = BodyFound} (Again lock word) view next (takes_at before.taking stage) (left_at before.depth before.taking stage) (look_left then)
+        → IsLookTurn (Again lock word) before then view next
     goes-again lock word turned = record {
       step = step;
       made = made;
-      turned = subst (λ (s : LookStage). Turned {T = BodyFound} (Again lock word) view next (takes_at s) (left_at before.depth s) (left_at before.depth after)) (sym at) turned;
+      turned = subst (λ (s : LookStage). Turned {T = BodyFound} (Again lock word) view next (takes_at before.taking s) (left_at before.depth before.taking s) (look_left then)) (sym at) turned;
       loads = loads;
       keeps = goes_on;
       answered = λ first start looking. tt;
     }
 
   -- or it is done
-  pub answers : (found : BodyFound) → ((start : View) → IsAtRest start → before.id.index < start.config.bodies → AtLook before.id before.mode before.depth start stage view → HasLooked before.id before.mode before.depth start next found)
+  pub answers : (found : BodyFound) → ((start : View) → IsAtRest start → before.id.index < start.config.bodies → AtLook before.id before.mode before.depth start before.taking stage view → HasLooked before.id before.mode before.depth start next found)
       → IsLookTurn (Done found) before before view next
   answers found tells = record {
     step = step;
@@ -99,7 +104,7 @@ module _ (before : LookOp) (stage : LookStage) (view next : View) (at : before.s
 -- a look that is begun
 pub looking-begun : (id : Id) (mode : Mode) (depth : LookDepth) (view next : View) (taking : TakeOp) (lock number : ℕ) → lock ≡ stripe_of view.config id.index → IsPass view number → id.index < view.config.bodies
     → IsAtRest view → next ≡ view → IsTaking (taking_of lock mode) view taking next
-    → IsLooking (record { id = id; mode = mode; depth = depth; stage = Taking taking }) view (record { id = id; mode = mode; depth = depth; stage = Taking taking }) next
+    → IsLooking (record { id = id; mode = mode; depth = depth; taking = taking; stage = Taking }) view (record { id = id; mode = mode; depth = depth; taking = taking; stage = Taking }) next
 looking-begun id mode depth view next taking lock number same pass below rest still goes =
     subst (λ (v : View). IsLooking op view op v) (sym still) (record {
       id = refl;
@@ -114,9 +119,9 @@ looking-begun id mode depth view next taking lock number same pass below rest st
     })
   where
     op : LookOp
-    op = record { id = id; mode = mode; depth = depth; stage = Taking taking }
+    op = record { id = id; mode = mode; depth = depth; taking = taking; stage = Taking }
 
-module _ (id : Id) (mode : Mode) (depth : LookDepth) (start view next : View) (rest : IsAtRest start) (taking : TakeOp) (made : MadeBy view next None) (at : AtLook id mode depth start (Taking taking) view) where
+module _ (id : Id) (mode : Mode) (depth : LookDepth) (start view next : View) (rest : IsAtRest start) (taking : TakeOp) (made : MadeBy view next None) (at : AtLook id mode depth start taking Taking view) where
   -- it was taken
   pub stripe-taken : HasTaken (taking_of (stripe_of start.config id.index) mode) view next → HasStripe id mode start next
   stripe-taken taken = record {
@@ -126,7 +131,7 @@ module _ (id : Id) (mode : Mode) (depth : LookDepth) (start view next : View) (r
   }
 
   -- or not yet
-  pub stripe-tried : (after : TakeOp) → IsTaking (taking_of (stripe_of start.config id.index) mode) view after next → AtLook id mode depth start (Taking after) next
+  pub stripe-tried : (after : TakeOp) → IsTaking (taking_of (stripe_of start.config id.index) mode) view after next → AtLook id mode depth start after Taking next
   stripe-tried after goes = record {
     only = record {
       worked = worked-waited start view next _ at.only.worked (stripe_of start.config id.index) goes.waited made goes.alone;
@@ -137,29 +142,33 @@ module _ (id : Id) (mode : Mode) (depth : LookDepth) (start view next : View) (r
   }
 
 -- a turn of taking it
-module _ (before : LookOp) (taking : TakeOp) (view next : View) (at : before.stage ≡ Taking taking) (step : AtMostOneStep view next) (made : MadeBy view next None) where
-  pub take-done : ((first : TakeOp) (start : View) → IsTaking first start taking view → HasTaken first start next) → IsLookTurn More before (record before { stage = Striped }) view next
+module _ (before : LookOp) (view next : View) (after : TakeOp) (at : before.stage ≡ Taking) (step : AtMostOneStep view next) (made : MadeBy view next None) where
+  pub take-done : ((first : TakeOp) (start : View) → IsTaking first start before.taking view → HasTaken first start next) → IsLookTurn More before (record before { taking = after; stage = Striped }) view next
   take-done taken =
-      goes-more before (Taking taking) view next at step made Striped tt
-      (λ start rest below now. stripe-taken before.id before.mode before.depth start view next rest taking made now (taken (taking_of (stripe_of start.config before.id.index) before.mode) view now.goes))
-      (inl (let some = some-left taking in omega arith))
+      goes-more before Taking view next at step made after Striped tt
+      (λ start rest below now. stripe-taken before.id before.mode before.depth start view next rest before.taking made now (taken (taking_of (stripe_of start.config before.id.index) before.mode) view now.goes))
+      (inl (let some = some-left before.taking in omega arith))
 
-  module _ (after : TakeOp) (loads : LoadsNow view next (Some after)) (keeps : (first : TakeOp) (start : View) → IsTaking first start taking view → IsTaking first start after next) where
-    tried : (start : View) → IsAtRest start → before.id.index < start.config.bodies → AtLook before.id before.mode before.depth start (Taking taking) view → AtLook before.id before.mode before.depth start (Taking after) next
-    tried start rest below now = stripe-tried before.id before.mode before.depth start view next rest taking made now after (keeps (taking_of (stripe_of start.config before.id.index) before.mode) view now.goes)
+  module _ (loads : LoadsNow view next (Some after)) (keeps : (first : TakeOp) (start : View) → IsTaking first start before.taking view → IsTaking first start after next) where
+    tried : (start : View) → IsAtRest start → before.id.index < start.config.bodies → AtLook before.id before.mode before.depth start before.taking Taking view → AtLook before.id before.mode before.depth start after Taking next
+    tried start rest below now = stripe-tried before.id before.mode before.depth start view next rest before.taking made now after (keeps (taking_of (stripe_of start.config before.id.index) before.mode) view now.goes)
 
-    pub take-more : Turned {T = Unit {0}} More view next (Some taking) (turns_left taking) (turns_left after) → IsLookTurn More before (record before { stage = Taking after }) view next
+    -- it stays at this stage
+    stays : (turn : Turn BodyFound) → IsLookTurn turn before (record before { taking = after; stage = Taking }) view next → IsLookTurn turn before (record before { taking = after }) view next
+    stays turn is = subst (λ (s : LookStage). IsLookTurn turn before (record before { taking = after; stage = s }) view next) (sym at) is
+
+    pub take-more : Turned {T = Unit {0}} More view next (Some before.taking) (turns_left before.taking) (turns_left after) → IsLookTurn More before (record before { taking = after }) view next
     take-more turned =
-        goes-more before (Taking taking) view next at step made (Taking after) loads tried
-        (elim turned [
-          | inl less ↦ inl (omega arith)
-          | inr lost ↦ inr (let one = lost.0 in omega arith, lost.1)
-        ])
+        stays More
+        (goes-more before Taking view next at step made after Taking loads tried
+        (turned-more (Unit {0}) BodyFound (loads_of before.depth) view next (Some before.taking) (turns_left before.taking) (turns_left after) turned))
 
-    pub take-again : (lock word : ℕ) → Turned {T = Unit {0}} (Again lock word) view next (Some taking) (turns_left taking) (turns_left after) → IsLookTurn (Again lock word) before (record before { stage = Taking after }) view next
+    pub take-again : (lock word : ℕ) → Turned {T = Unit {0}} (Again lock word) view next (Some before.taking) (turns_left before.taking) (turns_left after)
+        → IsLookTurn (Again lock word) before (record before { taking = after }) view next
     take-again lock word turned =
-        goes-again before (Taking taking) view next at step made (Taking after) loads tried lock word
-        (let same = turned.0 in omega arith, turned.1)
+        stays (Again lock word)
+        (goes-again before Taking view next at step made after Taking loads tried lock word
+        (turned-again (Unit {0}) BodyFound (loads_of before.depth) view next (Some before.taking) (turns_left before.taking) (turns_left after) lock word turned))
 
 -- ---- the state word
 
@@ -168,7 +177,7 @@ pub state-asks : (before : LookOp) (view : View) (index : ℕ) → before.stage 
 state-asks before view index at names way =
     let looking = way.goes in
     under_stripe before.id.index before.mode names
-    (stripe-mode before.id before.mode way.start view looking.rest (subst (λ (s : LookStage). AtLook before.id before.mode before.depth way.start s view) at looking.stage))
+    (stripe-mode before.id before.mode way.start view looking.rest (subst (λ (s : LookStage). AtLook before.id before.mode before.depth way.start before.taking s view) at looking.stage))
 
 -- who holds the stripe and knows the body as live guards it
 pub guards-live : (id : Id) (mode : Mode) (start view : View) → IsAtRest start → id.index < start.config.bodies → HasStripe id mode start view → KnowsLive id view → Guards id mode view
@@ -227,17 +236,17 @@ module _ (before : LookOp) (view next : View) (index state : ℕ) (at : before.s
     -- or its phase is
     pub state-goes : before.depth ≡ ItsPhase → IsLookTurn More before (record before { stage = Live }) view next
     state-goes so =
-        goes-more before Striped view next at (body-load-step view next (State index) state stepped) (body-load-made view next (State index) state stepped) Live tt
+        goes-more before Striped view next at (body-load-step view next (State index) state stepped) (body-load-made view next (State index) state stepped) before.taking Live tt
         (λ start rest below stripe. record { stripe = stripe_then start rest stripe; deep = so; guards = guards_then start rest below stripe })
-        (inl (subst (λ (d : LookDepth). 3 < left_at d Striped) (sym so) (omega arith)))
+        (inl (subst (λ (d : LookDepth). 3 < left_at d before.taking Striped) (sym so) (omega arith)))
 
 -- ---- a word of the body, or of the slot
 
 -- the body of a look is guarded once it is known as live
 pub live-guarded : (before : LookOp) (stage : LookStage) (view : View) → before.stage ≡ stage → IsUnderWay IsLooking before view
-    → ((start : View) → AtLook before.id before.mode before.depth start stage view → AtLive before.id before.mode before.depth start view) → IsGuarded before.id view
+    → ((start : View) → AtLook before.id before.mode before.depth start before.taking stage view → AtLive before.id before.mode before.depth start view) → IsGuarded before.id view
 live-guarded before stage view at way live =
-    let now = live way.start (subst (λ (s : LookStage). AtLook before.id before.mode before.depth way.start s view) at way.goes.stage) in
+    let now = live way.start (subst (λ (s : LookStage). AtLook before.id before.mode before.depth way.start before.taking s view) at way.goes.stage) in
     is-guarded before.id before.mode way.start view now.stripe now.guards
 
 -- a phase was asked for, and this is the answer
@@ -278,7 +287,7 @@ module _ (before : LookOp) (view next : View) (word : ℕ) (at : before.stage �
 
   pub phase-joins : (slot : ℕ) → phase_join slot ≡ word → IsLookTurn More before (record before { stage = Joining slot }) view next
   phase-joins slot says =
-      goes-more before Live view next at step made (Joining slot) tt
+      goes-more before Live view next at step made before.taking (Joining slot) tt
       (λ start rest below live.
       let so = guards-next before.id before.mode before.depth start view next (Phase before.id.index) word rest live loaded in
       record {
@@ -294,7 +303,7 @@ module _ (before : LookOp) (view next : View) (word : ℕ) (at : before.stage �
 pub layer-placed : (before : LookOp) (view next : View) (slot layer : ℕ) → before.stage ≡ Joining slot → AtMostOneStep view next → MadeBy view next None → Loaded view next (Layer before.id.index) layer
     → IsLookTurn More before (record before { stage = Placed slot layer }) view next
 layer-placed before view next slot layer at step made loaded =
-    goes-more before (Joining slot) view next at step made (Placed slot layer) tt
+    goes-more before (Joining slot) view next at step made before.taking (Placed slot layer) tt
     (λ start rest below now.
     let so = guards-next before.id before.mode before.depth start view next (Layer before.id.index) layer rest now.live loaded in (
       join-more before.id before.mode before.depth start rest view next loaded.more slot now,
@@ -307,12 +316,12 @@ layer-placed before view next slot layer at step made loaded =
 -- the slot that may be loaded is one of the world's
 pub slot-named : (before : LookOp) (view : View) (slot layer : ℕ) → before.stage ≡ Placed slot layer → IsUnderWay IsLooking before view → (layer < view.config.layers) × (slot < view.config.slots)
 slot-named before view slot layer at way =
-    let now = subst (λ (s : LookStage). AtLook before.id before.mode before.depth way.start s view) at way.goes.stage in
+    let now = subst (λ (s : LookStage). AtLook before.id before.mode before.depth way.start before.taking s view) at way.goes.stage in
     subst (λ (c : Config). (layer < c.layers) × (slot < c.slots)) (sym (only-sizes before.id way.start view (Taken (stripe_of way.start.config before.id.index) before.mode ∷ []) now.0.live.stripe)) (now.2, now.0.in_slots)
 
 -- the slot
 module _ (before : LookOp) (view next : View) (slot layer word : ℕ) (at : before.stage ≡ Placed slot layer) (step : AtMostOneStep view next) (made : MadeBy view next None) (loaded : Loaded view next (Slot layer slot) word) where
-  before_it : (start : View) → IsAtRest start → AtLook before.id before.mode before.depth start (Placed slot layer) view → IsGuarded before.id view
+  before_it : (start : View) → IsAtRest start → AtLook before.id before.mode before.depth start before.taking (Placed slot layer) view → IsGuarded before.id view
   before_it start rest now = guarded before.id before.mode before.depth start rest view next loaded.more now.0.live
 
   pub slot-held : word < 1024 → IsLookTurn (Done (Held layer slot word)) before before view next

@@ -19,6 +19,7 @@ use Rattle.core_state.specs.View.{number_of, Holds}
 use Rattle.core_state.specs.Guards.{Owns, by_lock, by_creation, by_batch, by_mark, by_node, by_update, IsQuiet}
 use Rattle.core_state.specs.Quietly.{KnowsQuietly}
 use Rattle.core_state.proofs.Quiet.{append_cut, in_first, in_second}
+use Rattle.pass_table.specs.declared.take_op.TakeOp.{TakeOp}
 use Rattle.pass_table.specs.Knowing.{KnowsMore, alone-trans, more-alone}
 use Rattle.pass_table.specs.Holding.{IsAtRest}
 use Rattle.pass_table.specs.TakeTurns.{taking-later, more-quiet}
@@ -131,15 +132,15 @@ module _ (id : Id) (mode : Mode) (depth : LookDepth) (start : View) (rest : IsAt
   pub join-more : (slot : ℕ) → AtJoin id mode depth start slot view → AtJoin id mode depth start slot next
   join-more slot at = record { live = live-more at.live; joins = phase-stays id view next (guarded at.live) more ∙ at.joins; in_slots = at.in_slots }
 
-  stage-more : (stage : LookStage) → AtLook id mode depth start stage view → AtLook id mode depth start stage next
-  stage-more (Taking taking) at = record {
+  stage-more : (taking : TakeOp) (stage : LookStage) → AtLook id mode depth start taking stage view → AtLook id mode depth start taking stage next
+  stage-more taking Taking at = record {
     only = only-more id start view [] at.only rest next more;
     goes = taking-anew _ view taking next (taking-later _ view taking view next more at.goes);
   }
-  stage-more Striped at = stripe-more at
-  stage-more Live at = live-more at
-  stage-more (Joining slot) at = join-more slot at
-  stage-more (Placed slot layer) at = (join-more slot at.0, layer-stays id view next (guarded at.0.live) more ∙ at.1, at.2)
+  stage-more taking Striped at = stripe-more at
+  stage-more taking Live at = live-more at
+  stage-more taking (Joining slot) at = join-more slot at
+  stage-more taking (Placed slot layer) at = (join-more slot at.0, layer-stays id view next (guarded at.0.live) more ∙ at.1, at.2)
 
 -- ---- a look
 
@@ -150,5 +151,5 @@ looking-later first start operation view next more looking = record {
   depth = looking.depth;
   below = looking.below;
   rest = looking.rest;
-  stage = stage-more operation.id operation.mode operation.depth start looking.rest view next more operation.stage looking.stage;
+  stage = stage-more operation.id operation.mode operation.depth start looking.rest view next more operation.taking operation.stage looking.stage;
 }

@@ -30,7 +30,7 @@ use Rattle.body_look.specs.Found.{IsAsked, IsFound}
 
 -- the operation before its first turn, in a world of these sizes
 abbrev pub looking_of : Config → Id → Mode → LookDepth → LookOp
-looking_of c id mode depth = record { id = id; mode = mode; depth = depth; stage = Taking (taking_of (stripe_of c id.index) mode) }
+looking_of c id mode depth = record { id = id; mode = mode; depth = depth; taking = taking_of (stripe_of c id.index) mode; stage = Taking }
 
 -- ---- turns left
 
@@ -39,15 +39,15 @@ abbrev pub loads_of : LookDepth → ℕ
 loads_of Life = 1
 loads_of ItsPhase = 4
 
-abbrev pub left_at : LookDepth → LookStage → ℕ
-left_at depth (Taking taking) = loads_of depth + turns_left taking
-left_at depth Striped = loads_of depth
-left_at depth Live = 3
-left_at depth (Joining slot) = 2
-left_at depth (Placed slot layer) = 1
+abbrev pub left_at : LookDepth → TakeOp → LookStage → ℕ
+left_at depth taking Taking = loads_of depth + turns_left taking
+left_at depth taking Striped = loads_of depth
+left_at depth taking Live = 3
+left_at depth taking (Joining slot) = 2
+left_at depth taking (Placed slot layer) = 1
 
 abbrev pub look_left : LookOp → ℕ
-look_left operation = left_at operation.depth operation.stage
+look_left operation = left_at operation.depth operation.taking operation.stage
 
 -- ---- stages
 
@@ -83,13 +83,13 @@ pub record AtJoin (id : Id) (mode : Mode) (depth : LookDepth) (start : View) (sl
   pub joins : known_word view (Phase id.index) ≡ phase_join slot
   pub in_slots : slot < start.config.slots
 
--- what holds at a stage
-abbrev pub AtLook : Id → Mode → LookDepth → View → LookStage → View → Type 0
-AtLook id mode depth start (Taking taking) view = TakesStripe id mode start taking view
-AtLook id mode depth start Striped view = HasStripe id mode start view
-AtLook id mode depth start Live view = AtLive id mode depth start view
-AtLook id mode depth start (Joining slot) view = AtJoin id mode depth start slot view
-AtLook id mode depth start (Placed slot layer) view = AtJoin id mode depth start slot view × (known_word view (Layer id.index) ≡ layer) × (layer < start.config.layers)
+-- what holds at a stage, where the stripe is taken so
+abbrev pub AtLook : Id → Mode → LookDepth → View → TakeOp → LookStage → View → Type 0
+AtLook id mode depth start taking Taking view = TakesStripe id mode start taking view
+AtLook id mode depth start taking Striped view = HasStripe id mode start view
+AtLook id mode depth start taking Live view = AtLive id mode depth start view
+AtLook id mode depth start taking (Joining slot) view = AtJoin id mode depth start slot view
+AtLook id mode depth start taking (Placed slot layer) view = AtJoin id mode depth start slot view × (known_word view (Layer id.index) ≡ layer) × (layer < start.config.layers)
 
 -- it looks at the body with which it was begun, in that mode and as far, for a pass that was at rest
 pub record IsLooking (first : LookOp) (start : View) (operation : LookOp) (view : View) : Type 0 where
@@ -98,7 +98,7 @@ pub record IsLooking (first : LookOp) (start : View) (operation : LookOp) (view 
   pub depth : operation.depth ≡ first.depth
   pub below : operation.id.index < start.config.bodies
   pub rest : IsAtRest start
-  pub stage : AtLook operation.id operation.mode operation.depth start operation.stage view
+  pub stage : AtLook operation.id operation.mode operation.depth start operation.taking operation.stage view
 
 -- ---- the answer
 
@@ -116,12 +116,12 @@ pub record HasLooked (id : Id) (mode : Mode) (depth : LookDepth) (start next : V
   pub is : IsFound id next found
 
 -- the lock that it takes
-abbrev pub takes_at : LookStage → Option TakeOp
-takes_at (Taking taking) = Some taking
-takes_at _ = None
+abbrev pub takes_at : TakeOp → LookStage → Option TakeOp
+takes_at taking Taking = Some taking
+takes_at taking _ = None
 
 abbrev pub look_takes : LookOp → Option TakeOp
-look_takes operation = takes_at operation.stage
+look_takes operation = takes_at operation.taking operation.stage
 
 -- what a turn of it owes
 abbrev pub IsLookTurn : Turn BodyFound → LookOp → LookOp → View → View → Type 0

@@ -17,8 +17,5 @@ mod word_loads;
 
 pub use body_found::BodyFound;
 pub use look_op::{LookDepth, LookOp};
-pub use looking_guarded::{look_guarded, tell_phase};
-pub use word_loads::{
-    load_box, load_first_location, load_layer, load_phase, load_second_location, load_side,
-    load_slot, load_user,
-};
+pub use looking_guarded::look_guarded;
+pub use word_loads::{load_box, load_layer, load_side, load_user};

@@ -16,7 +16,7 @@ pub enum LookDepth {
 #[derive(Clone, Copy)]
 pub(crate) enum LookStage {
     /// The stripe of the body is being taken.
-    Taking { taking: TakeOp },
+    Taking,
     /// The stripe is held.
     Striped,
     /// The body is live, and its phase is asked for.
@@ -28,10 +28,13 @@ pub(crate) enum LookStage {
 }
 
 /// A look at a body by turns: its stripe is taken, and then its words tell what it is.
+///
+/// Each turn changes it in place: what it takes the stripe by stays where it is when the stripe is held.
 #[derive(Clone, Copy)]
 pub struct LookOp {
     pub(crate) id: BodyId,
     pub(crate) mode: Mode,
     pub(crate) depth: LookDepth,
+    pub(crate) taking: TakeOp,
     pub(crate) stage: LookStage,
 }

@@ -42,7 +42,7 @@ impl Operation for LookOp {
     #[inline(always)]
     fn turn(&mut self, world: &World, pass: &mut Pass) -> Turn<BodyFound> {
         match self.stage {
-            LookStage::Taking { taking } => self.take(world, pass, taking),
+            LookStage::Taking => self.take(world, pass),
             LookStage::Striped => self.load_state(world, pass),
             LookStage::Live => self.load_phase(world, pass),
             LookStage::Joining { slot } => self.load_layer(world, pass, slot),
@@ -76,33 +76,27 @@ impl LookOp {
             id,
             mode,
             depth,
-            stage: LookStage::Taking { taking },
+            taking,
+            stage: LookStage::Taking,
         }
     }
 
     /// A turn of taking the stripe.
     #[inline(always)]
-    fn take(&mut self, world: &World, pass: &mut Pass, taking: TakeOp) -> Turn<BodyFound>
+    fn take(&mut self, world: &World, pass: &mut Pass) -> Turn<BodyFound>
         requires of { IsOf world.now pass.old }
         requires under_way { IsUnderWay IsLooking self.old (view_of pass.old) }
-        requires stage { self.old.stage ≡ Taking taking }
+        requires stage { self.old.stage ≡ Taking }
         ensures of { IsOf world.now pass.new }
         ensures turn { IsLookTurn result self.old self.new (view_of pass.old) (view_of pass.new) }
     {
-        let mut taking = taking;
-        match taking.turn(world, pass) {
+        match self.taking.turn(world, pass) {
             Turn::Done(()) => {
                 self.stage = LookStage::Striped;
                 Turn::More
             }
-            Turn::More => {
-                self.stage = LookStage::Taking { taking };
-                Turn::More
-            }
-            Turn::Again { lock, word } => {
-                self.stage = LookStage::Taking { taking };
-                Turn::Again { lock, word }
-            }
+            Turn::More => Turn::More,
+            Turn::Again { lock, word } => Turn::Again { lock, word },
         }
     }
 
@@ -132,6 +126,7 @@ impl LookOp {
     }
 
     /// The turn that loads the phase word.
+    #[inline(always)]
     fn load_phase(&mut self, world: &World, pass: &mut Pass) -> Turn<BodyFound>
         requires of { IsOf world.now pass.old }
         requires under_way { IsUnderWay IsLooking self.old (view_of pass.old) }
@@ -150,6 +145,7 @@ impl LookOp {
     }
 
     /// The turn that loads the layer.
+    #[inline(always)]
     fn load_layer(&mut self, world: &World, pass: &mut Pass, slot: u32) -> Turn<BodyFound>
         requires of { IsOf world.now pass.old }
         requires under_way { IsUnderWay IsLooking self.old (view_of pass.old) }
@@ -163,6 +159,7 @@ impl LookOp {
     }
 
     /// The turn that loads the slot word: a slot that names no tree yet is one for whose batch the body is held.
+    #[inline(always)]
     fn load_slot(
         &mut self,
         world: &World,

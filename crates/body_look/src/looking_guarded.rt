@@ -1,8 +1,7 @@
 //! A look at a body whose stripe is held already.
-ghost use Rattle.std.specs.Prelude.{◌≡◌};
 ghost use Rattle.pass_table.specs.Knowing.{KnowsMore};
 ghost use Rattle.pass_table.specs.Passes.{view_of, IsOf};
-ghost use Rattle.pass_table.specs.Bodies.{IsGuarded, IsCurrent, HasKnownBody};
+ghost use Rattle.pass_table.specs.Bodies.{IsGuarded, IsCurrent};
 ghost use Rattle.body_look.specs.declared.look_op.LookDepth.TheVariants.{Phase as ItsPhase};
 ghost use Rattle.body_look.specs.Found.{IsFound, IsAsked};
 
@@ -10,11 +9,11 @@ use crate::body_found::BodyFound;
 use crate::word_loads::{load_layer, load_phase, load_slot};
 use body_ident::BodyId;
 use pass_table::{Pass, World};
-use scene_model::Phase;
 use word_map::{PhaseWord, SlotWord};
 
 /// Tells the phase of a guarded body, by one to three steps: its phase word, and where that names a slot its layer and the
 /// word of the slot. What it answers is so at the last of them. Where it is `Held`, others may attach the batch at once.
+#[inline]
 pub fn look_guarded(world: &World, pass: &mut Pass, id: BodyId) -> BodyFound
     requires of { IsOf world.now pass.old }
     requires guarded { IsGuarded id (view_of pass.old) }
@@ -37,24 +36,5 @@ pub fn look_guarded(world: &World, pass: &mut Pass, id: BodyId) -> BodyFound
                 BodyFound::Held { layer, slot, word }
             }
         }
-    }
-}
-
-/// The phase alone, by as many steps.
-pub fn tell_phase(world: &World, pass: &mut Pass, id: BodyId) -> Phase
-    requires of { IsOf world.now pass.old }
-    requires guarded { IsGuarded id (view_of pass.old) }
-    ensures of { IsOf world.now pass.new }
-    ensures guarded { IsGuarded id (view_of pass.new) }
-    ensures now { IsCurrent (view_of pass.new) }
-    ensures more { KnowsMore (view_of pass.old) (view_of pass.new) }
-    ensures tells { HasKnownBody id (view_of pass.new) (λ r. r.phase ≡ result) }
-{
-    match look_guarded(world, pass, id) {
-        BodyFound::Out => Phase::Out,
-        BodyFound::In => Phase::In,
-        BodyFound::Held { .. } => Phase::Held,
-        BodyFound::Joined { .. } => Phase::In,
-        BodyFound::Gone { .. } | BodyFound::Live => unreachable!(),
     }
 }

@@ -1,10 +1,10 @@
 //! Loads of the words of a body whose stripe is held, one step each; and its box, in six.
 //!
-//! Others may act meanwhile, and so the word of a slot or of the first location may be another at once.
+//! Others may act meanwhile, and so the word of a slot may be another at once.
 ghost use Rattle.std.specs.Prelude.{◌≡◌, ◌<◌, ℕ, None, slice_index};
 ghost use Rattle.fixed_box.specs.FixBox.{words_of};
 ghost use Rattle.word_map.specs.Names.{IsName};
-ghost use Rattle.word_map.specs.declared.name.Name.TheVariants.{Phase, Layer, BoxWord, User, LocA, LocB, Slot};
+ghost use Rattle.word_map.specs.declared.name.Name.TheVariants.{Phase, Layer, BoxWord, User, Slot};
 ghost use Rattle.core_state.specs.View.{known_word};
 ghost use Rattle.core_state.specs.Lives.{IsOfBody};
 ghost use Rattle.pass_table.specs.Knowing.{KnowsMore};
@@ -34,7 +34,8 @@ fn load_word(world: &World, pass: &mut Pass, id: BodyId, name: Name) -> u64
 }
 
 /// Loads the phase word.
-pub fn load_phase(world: &World, pass: &mut Pass, id: BodyId) -> u64
+#[inline(always)]
+pub(crate) fn load_phase(world: &World, pass: &mut Pass, id: BodyId) -> u64
     requires of { IsOf world.now pass.old }
     requires guarded { IsGuarded id (view_of pass.old) }
     ensures of { IsOf world.now pass.new }
@@ -47,6 +48,7 @@ pub fn load_phase(world: &World, pass: &mut Pass, id: BodyId) -> u64
 }
 
 /// Loads the layer.
+#[inline(always)]
 pub fn load_layer(world: &World, pass: &mut Pass, id: BodyId) -> u32
     requires of { IsOf world.now pass.old }
     requires guarded { IsGuarded id (view_of pass.old) }
@@ -60,6 +62,7 @@ pub fn load_layer(world: &World, pass: &mut Pass, id: BodyId) -> u32
 }
 
 /// Loads the user number.
+#[inline(always)]
 pub fn load_user(world: &World, pass: &mut Pass, id: BodyId) -> u32
     requires of { IsOf world.now pass.old }
     requires guarded { IsGuarded id (view_of pass.old) }
@@ -72,33 +75,8 @@ pub fn load_user(world: &World, pass: &mut Pass, id: BodyId) -> u32
     load_word(world, pass, id, Name::User(id.index())) as u32
 }
 
-/// Loads the word of the first location.
-pub fn load_first_location(world: &World, pass: &mut Pass, id: BodyId) -> u64
-    requires of { IsOf world.now pass.old }
-    requires guarded { IsGuarded id (view_of pass.old) }
-    ensures of { IsOf world.now pass.new }
-    ensures guarded { IsGuarded id (view_of pass.new) }
-    ensures loaded { Loaded (view_of pass.old) (view_of pass.new) (LocA id.index) result }
-    ensures step { AtMostOneStep (view_of pass.old) (view_of pass.new) }
-    ensures made { MadeBy (view_of pass.old) (view_of pass.new) None }
-{
-    load_word(world, pass, id, Name::LocA(id.index()))
-}
-
-/// Loads the word of the second location.
-pub fn load_second_location(world: &World, pass: &mut Pass, id: BodyId) -> u64
-    requires of { IsOf world.now pass.old }
-    requires guarded { IsGuarded id (view_of pass.old) }
-    ensures of { IsOf world.now pass.new }
-    ensures guarded { IsGuarded id (view_of pass.new) }
-    ensures loaded { Loaded (view_of pass.old) (view_of pass.new) (LocB id.index) result }
-    ensures step { AtMostOneStep (view_of pass.old) (view_of pass.new) }
-    ensures made { MadeBy (view_of pass.old) (view_of pass.new) None }
-{
-    load_word(world, pass, id, Name::LocB(id.index()))
-}
-
 /// Loads a side of the box: 0 to 2 are the low ones, 3 to 5 the high ones.
+#[inline(always)]
 pub fn load_side(world: &World, pass: &mut Pass, id: BodyId, side: u32) -> u64
     requires of { IsOf world.now pass.old }
     requires guarded { IsGuarded id (view_of pass.old) }
@@ -113,7 +91,8 @@ pub fn load_side(world: &World, pass: &mut Pass, id: BodyId, side: u32) -> u64
 }
 
 /// Loads the word of a slot, while the body is guarded.
-pub fn load_slot(world: &World, pass: &mut Pass, id: BodyId, layer: u32, slot: u32) -> u64
+#[inline(always)]
+pub(crate) fn load_slot(world: &World, pass: &mut Pass, id: BodyId, layer: u32, slot: u32) -> u64
     requires of { IsOf world.now pass.old }
     requires guarded { IsGuarded id (view_of pass.old) }
     requires layers { layer < world.now.map.layers }
@@ -128,6 +107,7 @@ pub fn load_slot(world: &World, pass: &mut Pass, id: BodyId, layer: u32, slot: u
 }
 
 /// Loads the box, in six steps. Its words are those that the pass then knows.
+#[inline]
 pub fn load_box(world: &World, pass: &mut Pass, id: BodyId) -> FixBox
     requires of { IsOf world.now pass.old }
     requires guarded { IsGuarded id (view_of pass.old) }

@@ -46,7 +46,7 @@ stripe-first c index limits = let range = stripes-range c.stripes limits.stripes
 
 module _ (id : Id) (view next : View) (look : LookOp) where
   abbrev BegunFor : DestroyOp
-  BegunFor = record { id = id; stage = Looking look; made = None }
+  BegunFor = record { id = id; look = look; stage = Looking; made = None }
 
   pub destroying-begun : IsConfig view.config → id.index < view.config.bodies → IsAtRest view → look ≡ looking_of view.config id Write ItsPhase → IsLooking look view look next → IsUnmaking BegunFor view BegunFor next
   destroying-begun limits below rest is looking = (

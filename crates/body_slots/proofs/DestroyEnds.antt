@@ -49,7 +49,7 @@ use Rattle.body_slots.specs.declared.answers.DestroyRefused.{DestroyRefused}
 use Rattle.body_slots.specs.declared.destroy_op.DestroyStage.{DestroyStage}
 use Rattle.body_slots.specs.declared.destroy_op.DestroyStage.TheVariants.{Locked, Headed, Linked, InFront, Destroyed, Leaving}
 use Rattle.body_slots.specs.declared.destroy_op.DestroyOp.{DestroyOp}
-use Rattle.body_slots.specs.Destroying.{HasDestroyed, both_taken, KnowsOut, HasStripeAlone, AtDestroy, IsBegunFor, IsUnmaking, HasUnmade, stage_left, IsDestroyTurn}
+use Rattle.body_slots.specs.Destroying.{HasDestroyed, both_taken, KnowsOut, HasStripeAlone, AtDestroy, PastLook, IsBegunFor, IsUnmaking, HasUnmade, stage_left, IsDestroyTurn}
 use Rattle.body_slots.specs.DestroyLater.{first-taken, both-stripe, both-list, out-more, destroyed-later, answer-later}
 use Rattle.body_slots.proofs.CreateTurns.{doing-left}
 use Rattle.body_slots.proofs.DestroyTurns.{has-list, has-out}
@@ -67,7 +67,7 @@ module _ (id : Id) (start view : View) (task : Task) (entries : List Entry) (beg
 
 -- ---- the list
 
-pub head-loaded : (id : Id) (start view next : View) (head : ℕ) → IsBegunFor id start → LoadedHead view next head → AtDestroy id start view Locked → AtDestroy id start next (Headed head)
+pub head-loaded : (id : Id) (start view next : View) (head : ℕ) → IsBegunFor id start → LoadedHead view next head → PastLook id start view Locked → PastLook id start next (Headed head)
 head-loaded id start view next head begun loaded at =
     (worked-more start view next _ at.0 loaded.more, out-more id view next loaded.more (both-stripe id start view _ _ begun.rest at.0) at.1, loaded.is)
 
@@ -78,7 +78,7 @@ module _ (view next : View) (index head : ℕ) (linked : LinkedTo view next inde
   pub linked-made : (number : ℕ) → IsPass view number → MadeBy view next None
   linked-made number pass = stored-made MayStoreLink store_link view next (SlotNext index) head refl linked.step number pass
 
-pub link-stored : (id : Id) (start view next : View) (head : ℕ) → IsBegunFor id start → LinkedTo view next id.index head → AtDestroy id start view (Headed head) → AtDestroy id start next Linked
+pub link-stored : (id : Id) (start view next : View) (head : ℕ) → IsBegunFor id start → LinkedTo view next id.index head → PastLook id start view (Headed head) → PastLook id start next Linked
 link-stored id start view next head begun linked at = (
   worked-made start view next _ at.0 (SlotNext id.index) _ Nothing refl (step-alone MayStoreLink store_link view next (SlotNext id.index) head 0 linked.step.0 linked.step.1)
       (linked-made view next id.index head linked at.0.adds.number (worked-pass start view _ at.0))
@@ -95,7 +95,7 @@ module _ (view next : View) (index : ℕ) (put : PutInFront view next index) whe
   pub put-made : (number : ℕ) → IsPass view number → MadeBy view next None
   put-made number pass = stored-made MayStoreHead store_head view next SlotHead (suc index) refl put.step number pass
 
-pub put-first : (id : Id) (start view next : View) → IsBegunFor id start → PutInFront view next id.index → AtDestroy id start view Linked → AtDestroy id start next InFront
+pub put-first : (id : Id) (start view next : View) → IsBegunFor id start → PutInFront view next id.index → PastLook id start view Linked → PastLook id start next InFront
 put-first id start view next begun put at = (
   worked-made start view next _ at.0 SlotHead _ (Destroying id.index) refl (step-alone MayStoreHead store_head view next SlotHead (suc id.index) 0 put.step.0 put.step.1)
       (put-made view next id.index put at.0.adds.number (worked-pass start view _ at.0))
@@ -105,7 +105,7 @@ put-first id start view next begun put at = (
 
 -- ---- destroying the body
 
-module _ (id : Id) (start view : View) (value : ℕ) (begun : IsBegunFor id start) (at : AtDestroy id start view InFront) (is : value ≡ id.seq) where
+module _ (id : Id) (start view : View) (value : ℕ) (begun : IsBegunFor id start) (at : PastLook id start view InFront) (is : value ≡ id.seq) where
   abbrev pub asks_destroy : MayDestroy view (State id.index) value 0
   asks_destroy = record {
     index = id.index;
@@ -177,22 +177,22 @@ module _ (id : Id) (start view : View) (value : ℕ) (begun : IsBegunFor id star
 
 -- the store of the state word may be made
 pub may-destroy : (before first : DestroyOp) (start view : View) (value : ℕ) → IsUnmaking first start before view → before.stage ≡ InFront → value ≡ first.id.seq → MayDestroy view (State first.id.index) value 0
-may-destroy before first start view value making at is = asks_destroy first.id start view value making.1 (subst (AtDestroy first.id start view) at making.2) is
+may-destroy before first start view value making at is = asks_destroy first.id start view value making.1 (subst (AtDestroy first.id start view before.look) at making.2) is
 
 -- and it is the turn that destroys the body
 pub destroy-turn : (before first : DestroyOp) (start view next : View) (number value : ℕ) → IsUnmaking first start before view → IsPass view number → before.stage ≡ InFront → value ≡ before.id.seq
     → Stored MayDestroy destroy view (State before.id.index) value next
     → IsDestroyTurn More before (record before { stage = Destroyed; made = Some (record { pass = number; entry = Destroy before.id.index }) }) view next
 destroy-turn before first start view next number value making pass at is stored =
-    let here : AtDestroy before.id start view InFront = subst (λ (i : Id). AtDestroy i start view InFront) (sym making.0) (subst (AtDestroy first.id start view) at making.2) in
+    let here : PastLook before.id start view InFront = subst (λ (i : Id). PastLook i start view InFront) (sym making.0) (subst (AtDestroy first.id start view before.look) at making.2) in
     let begun : IsBegunFor before.id start = subst (λ (i : Id). IsBegunFor i start) (sym making.0) making.1 in
     record {
       step = destruction-step before.id start view value begun here is next stored;
       made = destruction-made before.id start view value begun here is next stored number pass;
-      turned = inl (subst (λ (s : DestroyStage). 2 < stage_left s) (sym at) (omega arith));
+      turned = inl (subst (λ (s : DestroyStage). 2 < stage_left before.look s) (sym at) (omega arith));
       loads = tt;
       keeps = λ other begin goes.
-          let there = subst (AtDestroy other.id begin view) at goes.2 in
+          let there = subst (AtDestroy other.id begin view before.look) at goes.2 in
           let named : Stored MayDestroy destroy view (State other.id.index) value next = subst (λ (i : Id). Stored MayDestroy destroy view (State i.index) value next) goes.0 stored in
           let sequence : value ≡ other.id.seq = is ∙ ap (λ (i : Id). i.seq) goes.0 in (
             goes.0,
@@ -218,7 +218,7 @@ first-alone c id apart = record {
     go false true = refl
     go false false = refl
 
-module _ (id : Id) (start view : View) (begun : IsBegunFor id start) (at : AtDestroy id start view Destroyed) where
+module _ (id : Id) (start view : View) (begun : IsBegunFor id start) (at : PastLook id start view Destroyed) where
   pub may-leave_list : MayLetGo view (index_lock start.config)
   may-leave_list = record {
     mode = Write;
@@ -226,7 +226,7 @@ module _ (id : Id) (start view : View) (begun : IsBegunFor id start) (at : AtDes
     done = at.0.doing;
   }
 
-  pub left-list : (next : View) (found : ℕ) → LetGo view (index_lock start.config) found next → AtDestroy id start next (Leaving (Ok tt))
+  pub left-list : (next : View) (found : ℕ) → LetGo view (index_lock start.config) found next → PastLook id start next (Leaving (Ok tt))
   left-list next found go =
       let lock = index_lock start.config in
       let by = released-made view next lock found go at.0.adds.number (worked-pass start view _ at.0) in (
@@ -239,11 +239,11 @@ module _ (id : Id) (start view : View) (begun : IsBegunFor id start) (at : AtDes
 
 -- ---- letting the stripe go
 
-module _ (id : Id) (start view : View) (answer : Result (Unit {0}) DestroyRefused) (begun : IsBegunFor id start) (at : AtDestroy id start view (Leaving answer)) where
+module _ (id : Id) (start view : View) (answer : Result (Unit {0}) DestroyRefused) (begun : IsBegunFor id start) (at : PastLook id start view (Leaving answer)) where
   pub may-leave : MayLetGo view (stripe_of start.config id.index)
   may-leave = record { mode = Write; holds = worked-mode start view _ at.2 begun.rest (stripe_of start.config id.index) ∙ at.3.held; done = at.2.doing }
 
-module _ (first : DestroyOp) (start view : View) (answer : Result (Unit {0}) DestroyRefused) (begun : IsBegunFor first.id start) (at : AtDestroy first.id start view (Leaving answer)) where
+module _ (first : DestroyOp) (start view : View) (answer : Result (Unit {0}) DestroyRefused) (begun : IsBegunFor first.id start) (at : PastLook first.id start view (Leaving answer)) where
   has_left : (next : View) (found : ℕ) → LetGo view (stripe_of start.config first.id.index) found next → HasUnmade first start next answer
   has_left next found go =
       let lock = stripe_of start.config first.id.index in
@@ -263,7 +263,7 @@ leave-turn before answer view next number lock found pass at same go = record {
   loads = tt;
   keeps = λ first start making. tt;
   answered = λ first start making.
-      let there = subst (AtDestroy first.id start view) at making.2 in
+      let there = subst (AtDestroy first.id start view before.look) at making.2 in
       has_left first start view answer making.1 there next found
       (subst (λ (l : ℕ). LetGo view l found next) (same ∙ (λ i. stripe_of (worked-sizes start view _ there.2 i) (making.0 i).index)) go);
 }
@@ -271,11 +271,11 @@ leave-turn before answer view next number lock found pass at same go = record {
 -- both locks may be let go, each in its turn
 pub may-leave-list : (before : DestroyOp) (view : View) (lock : ℕ) → IsUnderWay IsUnmaking before view → before.stage ≡ Destroyed → lock ≡ index_lock view.config → MayLetGo view lock
 may-leave-list before view lock way at same =
-    let there = subst (AtDestroy way.first.id way.start view) at way.goes.2 in
+    let there = subst (AtDestroy way.first.id way.start view before.look) at way.goes.2 in
     subst (MayLetGo view) (sym (same ∙ ap (λ (c : Config). index_lock c) (worked-sizes way.start view _ there.0))) (may-leave_list way.first.id way.start view way.goes.1 there)
 
 pub may-leave-stripe : (before : DestroyOp) (answer : Result (Unit {0}) DestroyRefused) (view : View) (lock : ℕ) → IsUnderWay IsUnmaking before view → before.stage ≡ Leaving answer
     → lock ≡ stripe_of view.config before.id.index → MayLetGo view lock
 may-leave-stripe before answer view lock way at same =
-    let there = subst (AtDestroy way.first.id way.start view) at way.goes.2 in
+    let there = subst (AtDestroy way.first.id way.start view before.look) at way.goes.2 in
     subst (MayLetGo view) (sym (same ∙ (λ i. stripe_of (worked-sizes way.start view _ there.2 i) (way.goes.0 i).index))) (may-leave way.first.id way.start view answer way.goes.1 there)

@@ -23,11 +23,10 @@ use Rattle.pass_table.specs.TakeTurns.{taking_of, IsTaking, HasTaken}
 use Rattle.pass_table.specs.Turning.{AtMostOneStep, MadeBy, Turned, LoadsNow}
 use Rattle.pass_table.specs.Holding.{IsAtRest}
 use Rattle.pass_table.proofs.TakingTurns.{taking-anew}
-use Rattle.pass_table.proofs.Calling.{turned-more, turned-again}
 use Rattle.pass_table.proofs.LockedBodies.{live-steady, phase-steady, told-body}
 use Rattle.pass_table.proofs.WorkLater.{worked-sizes}
 use Rattle.pass_table.proofs.Working.{worked-taken, worked-waited}
-use Rattle.pass_table.proofs.Stages.{Staged, went-on}
+use Rattle.pass_table.proofs.Stages.{Staged, went-on, inner-more, inner-again}
 use Rattle.pass_table.specs.Work.{IsCalling}
 use Rattle.body_look.specs.declared.body_found.BodyFound.{BodyFound}
 use Rattle.body_look.specs.declared.body_found.BodyFound.TheVariants.{Gone as FoundGone, Out as FoundOut}
@@ -42,27 +41,35 @@ use Rattle.body_slots.specs.declared.answers.DestroyRefused.TheVariants.{Gone, I
 use Rattle.body_slots.specs.declared.destroy_op.DestroyStage.{DestroyStage}
 use Rattle.body_slots.specs.declared.destroy_op.DestroyStage.TheVariants.{Looking, TakingList, Locked, Leaving}
 use Rattle.body_slots.specs.declared.destroy_op.DestroyOp.{DestroyOp}
-use Rattle.body_slots.specs.Destroying.{IsDestroyAnswer, IsInUseAt, stripe_taken, both_taken, KnowsOut, HasStripeAlone, AtDestroy, IsBegunFor, IsUnmaking, HasUnmade, stage_left, takes_at, IsDestroyTurn}
+use Rattle.body_slots.specs.Destroying.{IsDestroyAnswer, IsInUseAt, stripe_taken, both_taken, KnowsOut, HasStripeAlone, AtDestroy, PastLook, IsBegunFor, IsUnmaking, HasUnmade, stage_left, takes_at, IsDestroyTurn}
 use Rattle.body_slots.specs.DestroyLater.{one-taken, stripe-held, both-stripe, both-list}
 
 -- ---- stages
 
--- a destruction goes from stage to stage
-abbrev pub destroy_stages : Staged (Result (Unit {0}) DestroyRefused) DestroyOp DestroyStage
+-- a destruction goes from stage to stage, with the look as it is there
+abbrev pub destroy_stages : Staged (Result (Unit {0}) DestroyRefused) DestroyOp (LookOp × DestroyStage)
 destroy_stages = record {
   under_way = IsUnmaking;
   answers = HasUnmade;
   made = λ operation. operation.made;
-  stage = λ operation. operation.stage;
-  left = stage_left;
-  takes = takes_at;
-  at = λ first start view stage. AtDestroy first.id start view stage;
-  to = λ operation after. record operation { stage = after; made = None };
+  stage = λ operation. (operation.look, operation.stage);
+  left = λ at. stage_left at.0 at.1;
+  takes = λ at. takes_at at.0 at.1;
+  at = λ first start view at. AtDestroy first.id start view at.0 at.1;
+  to = λ operation after. record operation { look = after.0; stage = after.1; made = None };
   reached = λ operation after. refl;
   unmade = λ operation after. refl;
   holds = λ first start operation view making. making.2;
   goes = λ first start operation after view next making at. (making.0, making.1, at);
 }
+
+-- one that has looked goes on, and the look stays as it is
+pub destroy-on : (turn : Turn (Result (Unit {0}) DestroyRefused)) (before new : DestroyOp) (stage after : DestroyStage) (view next : View) → turn ≡ More → new ≡ record before { stage = after; made = None }
+    → before.stage ≡ stage → AtMostOneStep view next → MadeBy view next None → stage_left before.look after < stage_left before.look stage → LoadsNow view next (takes_at before.look after)
+    → ((first : DestroyOp) (start : View) → IsUnmaking first start before view → AtDestroy first.id start view before.look stage → AtDestroy first.id start next before.look after)
+    → IsDestroyTurn turn before new view next
+destroy-on turn before new stage after view next more is at step made less loads keeps =
+    went-on destroy_stages turn before new (before.look, stage) (before.look, after) view next more is (λ i. (before.look, at i)) step made less loads keeps
 
 -- ---- what the steps on the list ask
 
@@ -99,14 +106,14 @@ out-quiet id view next quiet sizes holds out = (
 )
 
 pub list-done : (id : Id) (start view next : View) (taking : TakeOp) → IsAtRest start → HasTaken (taking_of (index_lock start.config) Write) view next → MadeBy view next None
-    → AtDestroy id start view (TakingList taking) → AtDestroy id start next Locked
+    → PastLook id start view (TakingList taking) → PastLook id start next Locked
 list-done id start view next taking rest taken by at = (
   worked-taken start view next _ at.0 (index_lock start.config) Write taken by,
   out-quiet id view next taken.quiet (ap (λ (v : View). v.config) taken.left.rest) (stripe-held id start view _ _ rest at.0) at.1,
 )
 
 pub list-on : (id : Id) (start view next : View) (taking after : TakeOp) → IsAtRest start → IsTaking (taking_of (index_lock start.config) Write) view after next → MadeBy view next None
-    → AtDestroy id start view (TakingList taking) → AtDestroy id start next (TakingList after)
+    → PastLook id start view (TakingList taking) → PastLook id start next (TakingList after)
 list-on id start view next taking after rest goes by at = (
   worked-waited start view next _ at.0 (index_lock start.config) goes.waited by goes.alone,
   out-quiet id view next goes.quiet (ap (λ (v : View). v.config) goes.waited.rest) (stripe-held id start view _ _ rest at.0) at.1,
@@ -124,53 +131,36 @@ stripe-alone c id = record { held = one-taken (stripe_of c id.index); alone = λ
     go false = refl
 
 -- so it is left to let the stripe go, and to answer this
-leaving : (id : Id) (start next : View) (answer : Result (Unit {0}) DestroyRefused) → IsCalling start next (stripe_taken start.config id) Nothing [] → IsDestroyAnswer id start next answer → AtDestroy id start next (Leaving answer)
+leaving : (id : Id) (start next : View) (answer : Result (Unit {0}) DestroyRefused) → IsCalling start next (stripe_taken start.config id) Nothing [] → IsDestroyAnswer id start next answer → PastLook id start next (Leaving answer)
 leaving id start next answer calling right = (stripe_taken start.config id, [], calling, stripe-alone start.config id, right)
 
 -- ---- the look
 
--- a turn after which it goes on
-module _ (before new : DestroyOp) (look after : LookOp) (view next : View) (at : before.stage ≡ Looking look) (is : new ≡ record before { stage = Looking after; made = None })
+-- a turn of the look, after which it goes on
+module _ (before new : DestroyOp) (after : LookOp) (view next : View) (at : before.stage ≡ Looking) (is : new ≡ record before { look = after; made = None })
     (step : AtMostOneStep view next) (made : MadeBy view next None) (loads : LoadsNow view next (look_takes after))
-    (keeps : (first : LookOp) (start : View) → IsLooking first start look view → IsLooking first start after next) where
-  goes_on : (first : DestroyOp) (start : View) → IsUnmaking first start before view → IsUnmaking first start (record before { stage = Looking after; made = None }) next
-  goes_on first start making = (making.0, making.1, keeps (looking_of start.config first.id Write ItsPhase) start (subst (AtDestroy first.id start view) at making.2))
+    (keeps : (first : LookOp) (start : View) → IsLooking first start before.look view → IsLooking first start after next) where
+  still : new ≡ record before { look = after; stage = Looking; made = None }
+  still = is ∙ (λ i. record before { look = after; stage = at i; made = None })
 
-  pub look-more : (turn : Turn (Result (Unit {0}) DestroyRefused)) → turn ≡ More → Turned {T = BodyFound} More view next (look_takes look) (look_left look) (look_left after) → IsDestroyTurn turn before new view next
-  look-more turn more turned =
-      subst (λ (t : Turn (Result (Unit {0}) DestroyRefused)). IsDestroyTurn t before new view next) (sym more)
-      (subst (λ (operation : DestroyOp). IsDestroyTurn More before operation view next) (sym is) (record {
-        step = step;
-        made = made;
-        turned =
-            subst (λ (s : DestroyStage). Turned {T = Result (Unit {0}) DestroyRefused} More view next (takes_at s) (stage_left s) (10 + look_left after)) (sym at)
-            (turned-more BodyFound (Result (Unit {0}) DestroyRefused) 10 view next (look_takes look) (look_left look) (look_left after) turned);
-        loads = loads;
-        keeps = goes_on;
-        answered = λ first start making. tt;
-      }))
+  pub look-more : Turned {T = BodyFound} More view next (look_takes before.look) (look_left before.look) (look_left after) → IsDestroyTurn More before new view next
+  look-more turned =
+      inner-more BodyFound destroy_stages (λ look. (look, Looking)) look_left look_takes 10 (λ look. refl) (λ look. refl) before new before.look after view next still (λ i. (before.look, at i)) step made loads
+      (λ first start making now. keeps (looking_of start.config first.id Write ItsPhase) start now) More refl turned
 
-  pub look-again : (lock word : ℕ) → Turned {T = BodyFound} (Again lock word) view next (look_takes look) (look_left look) (look_left after) → IsDestroyTurn (Again lock word) before new view next
+  pub look-again : (lock word : ℕ) → Turned {T = BodyFound} (Again lock word) view next (look_takes before.look) (look_left before.look) (look_left after) → IsDestroyTurn (Again lock word) before new view next
   look-again lock word turned =
-      subst (λ (operation : DestroyOp). IsDestroyTurn (Again lock word) before operation view next) (sym is) (record {
-        step = step;
-        made = made;
-        turned =
-            subst (λ (s : DestroyStage). Turned {T = Result (Unit {0}) DestroyRefused} (Again lock word) view next (takes_at s) (stage_left s) (10 + look_left after)) (sym at)
-            (turned-again BodyFound (Result (Unit {0}) DestroyRefused) 10 view next (look_takes look) (look_left look) (look_left after) lock word turned);
-        loads = loads;
-        keeps = goes_on;
-        answered = λ first start making. tt;
-      })
+      inner-again BodyFound destroy_stages (λ look. (look, Looking)) look_left look_takes 10 (λ look. refl) (λ look. refl) before new before.look after view next still (λ i. (before.look, at i)) step made loads
+      (λ first start making now. keeps (looking_of start.config first.id Write ItsPhase) start now) lock word turned
 
 -- or it is done
 pub look-done : (before new : DestroyOp) (look : LookOp) (found : BodyFound) (after : DestroyStage) (view next : View) (turn : Turn (Result (Unit {0}) DestroyRefused)) → turn ≡ More
-    → new ≡ record before { stage = after; made = None } → before.stage ≡ Looking look → AtMostOneStep view next → MadeBy view next None
-    → ((first : LookOp) (start : View) → IsLooking first start look view → HasLooked first.id first.mode first.depth start next found) → stage_left after < 10 → LoadsNow view next (takes_at after)
-    → ((id : Id) (start : View) → HasLooked id Write ItsPhase start next found → AtDestroy id start next after) → IsDestroyTurn turn before new view next
+    → new ≡ record before { look = look; stage = after; made = None } → before.stage ≡ Looking → AtMostOneStep view next → MadeBy view next None
+    → ((first : LookOp) (start : View) → IsLooking first start before.look view → HasLooked first.id first.mode first.depth start next found) → stage_left look after < 10 → LoadsNow view next (takes_at look after)
+    → ((id : Id) (start : View) → HasLooked id Write ItsPhase start next found → AtDestroy id start next look after) → IsDestroyTurn turn before new view next
 look-done before new look found after view next turn more is at step made looked less loads keeps =
-    let fewer : stage_left after < stage_left (Looking look) = omega arith in
-    went-on destroy_stages turn before new (Looking look) after view next more is at step made fewer loads
+    let fewer : stage_left look after < stage_left before.look Looking = omega arith in
+    went-on destroy_stages turn before new (before.look, Looking) (look, after) view next more is (λ i. (before.look, at i)) step made fewer loads
     (λ first start making now. keeps first.id start (looked (looking_of start.config first.id Write ItsPhase) start now))
 
 -- ---- what it finds
@@ -181,14 +171,14 @@ found-out id start next found is looked =
     let out = subst (HasLooked id Write ItsPhase start next) is looked in ((is-guarded id Write start next out.stripe out.guards).2.state, out.is.says)
 
 -- or it is gone
-pub found-gone : (id : Id) (start next : View) (found : BodyFound) (state : ℕ) → found ≡ FoundGone state → HasLooked id Write ItsPhase start next found → AtDestroy id start next (Leaving (Err (Gone state)))
+pub found-gone : (id : Id) (start next : View) (found : BodyFound) (state : ℕ) → found ≡ FoundGone state → HasLooked id Write ItsPhase start next found → PastLook id start next (Leaving (Err (Gone state)))
 found-gone id start next found state is looked =
     leaving id start next (Err (Gone state)) looked.stripe.worked
     (record { adds = looked.stripe.worked.adds; at = gone-point id Write start next looked.stripe state (subst (IsFound id next) is looked.is) })
 
 -- or it is held or in the broad phase
 pub found-used : (id : Id) (start next : View) (found : BodyFound) (phase : BodyPhase) → phase_found found ≡ Some phase → (phase ≡ Held) ⊎ (phase ≡ In) → HasLooked id Write ItsPhase start next found
-    → AtDestroy id start next (Leaving (Err (InUse phase)))
+    → PastLook id start next (Leaving (Err (InUse phase)))
 found-used id start next found phase same used looked =
     let told = phase-told id next found phase same looked.is in
     leaving id start next (Err (InUse phase)) looked.stripe.worked

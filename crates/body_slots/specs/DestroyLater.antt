@@ -23,6 +23,7 @@ use Rattle.pass_table.proofs.TakingTurns.{taking-anew}
 use Rattle.pass_table.proofs.LockedBodies.{phase-steady, live-more}
 use Rattle.pass_table.proofs.WorkLater.{worked-role, worked-sizes, worked-mode, worked-more}
 use Rattle.pass_table.specs.Work.{IsCalling}
+use Rattle.body_look.specs.declared.look_op.LookOp.{LookOp}
 use Rattle.body_look.specs.LookLater.{looking-later}
 use Rattle.body_slots.specs.declared.answers.DestroyRefused.{DestroyRefused}
 use Rattle.body_slots.specs.declared.answers.DestroyRefused.TheVariants.{Gone, InUse}
@@ -85,32 +86,32 @@ answer-later id start view next (Err (InUse phase)) later adds was = record { ad
 -- ---- a destruction
 
 module _ (id : Id) (start view next : View) (rest : IsAtRest start) (more : KnowsMore view next) where
-  stage-later : (stage : DestroyStage) → AtDestroy id start view stage → AtDestroy id start next stage
-  stage-later (Looking look) h = looking-later _ start look view next more h
-  stage-later (TakingList taking) h = (
+  stage-later : (look : LookOp) (stage : DestroyStage) → AtDestroy id start view look stage → AtDestroy id start next look stage
+  stage-later look Looking h = looking-later _ start look view next more h
+  stage-later look (TakingList taking) h = (
     worked-more start view next _ h.0 more,
     out-more id view next more (stripe-held id start view _ _ rest h.0) h.1,
     taking-anew _ view taking next (taking-later _ view taking view next more h.2),
   )
-  stage-later Locked h = (worked-more start view next _ h.0 more, out-more id view next more (both-stripe id start view _ _ rest h.0) h.1)
-  stage-later (Headed head) h = (
+  stage-later look Locked h = (worked-more start view next _ h.0 more, out-more id view next more (both-stripe id start view _ _ rest h.0) h.1)
+  stage-later look (Headed head) h = (
     worked-more start view next _ h.0 more,
     out-more id view next more (both-stripe id start view _ _ rest h.0) h.1,
     steady-more view next SlotHead more (listed-steady view SlotHead (both-list id start view _ _ rest h.0) refl) ∙ h.2,
   )
-  stage-later Linked h =
+  stage-later look Linked h =
       let held = both-list id start view _ _ rest h.0 in (
         worked-more start view next _ h.0 more,
         out-more id view next more (both-stripe id start view _ _ rest h.0) h.1,
         steady-more view next (SlotNext id.index) more (listed-steady view (SlotNext id.index) held refl)
             ∙ (h.2 ∙ sym (steady-more view next SlotHead more (listed-steady view SlotHead held refl))),
       )
-  stage-later InFront h = (worked-more start view next _ h.0 more, out-more id view next more (both-stripe id start view _ _ rest h.0) h.1)
-  stage-later Destroyed h = (
+  stage-later look InFront h = (worked-more start view next _ h.0 more, out-more id view next more (both-stripe id start view _ _ rest h.0) h.1)
+  stage-later look Destroyed h = (
     worked-more start view next _ h.0 more,
     destroyed-later id start view next (more.since, more.known) (λ entries adds. adds-more start view next entries (worked-role start view _ h.0) adds more) h.1,
   )
-  stage-later (Leaving answer) h = (
+  stage-later look (Leaving answer) h = (
     h.0,
     h.1,
     worked-more start view next _ h.2 more,
@@ -119,4 +120,4 @@ module _ (id : Id) (start view next : View) (rest : IsAtRest start) (more : Know
   )
 
 pub destroying-later : (first : DestroyOp) (start : View) (operation : DestroyOp) (view next : View) → KnowsMore view next → IsUnmaking first start operation view → IsUnmaking first start operation next
-destroying-later first start operation view next more making = (making.0, making.1, stage-later first.id start view next making.1.rest more operation.stage making.2)
+destroying-later first start operation view next more making = (making.0, making.1, stage-later first.id start view next making.1.rest more operation.look operation.stage making.2)

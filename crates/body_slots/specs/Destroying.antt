@@ -26,6 +26,7 @@ use Rattle.pass_table.specs.Calls.{Adds, AtPoint, MakesAt, IsTurn}
 use Rattle.pass_table.specs.Bodies.{KnowsLive, IsGoneAt}
 use Rattle.pass_table.specs.Work.{IsCalling}
 use Rattle.body_look.specs.declared.look_op.LookDepth.TheVariants.{Phase as ItsPhase}
+use Rattle.body_look.specs.declared.look_op.LookOp.{LookOp}
 use Rattle.body_look.specs.Looking.{looking_of, IsLooking, look_left, look_takes}
 use Rattle.body_slots.specs.declared.answers.DestroyRefused.{DestroyRefused}
 use Rattle.body_slots.specs.declared.answers.DestroyRefused.TheVariants.{Gone, InUse}
@@ -82,19 +83,23 @@ pub record HasStripeAlone (c : Config) (id : Id) (steps : List LockStep) : Type 
   pub held : mode_of steps (stripe_of c id.index) ≡ Some Write
   pub alone : (lock : ℕ) → mode_of (steps ++ Released (stripe_of c id.index) ∷ []) lock ≡ None
 
--- what holds at a stage, of a destruction of this id's body that was begun at this view
-abbrev pub AtDestroy : Id → View → View → DestroyStage → Type 0
-AtDestroy id start view (Looking look) = IsLooking (looking_of start.config id Write ItsPhase) start look view
-AtDestroy id start view (TakingList taking) =
+-- what holds at a stage, of a destruction of this id's body that was begun at this view and looks so
+abbrev pub AtDestroy : Id → View → View → LookOp → DestroyStage → Type 0
+AtDestroy id start view look Looking = IsLooking (looking_of start.config id Write ItsPhase) start look view
+AtDestroy id start view look (TakingList taking) =
     IsCalling start view (stripe_taken start.config id) Nothing [] × KnowsOut id view × IsTaking (taking_of (index_lock start.config) Write) view taking view
-AtDestroy id start view Locked = IsCalling start view (both_taken start.config id) Nothing [] × KnowsOut id view
-AtDestroy id start view (Headed head) = IsCalling start view (both_taken start.config id) Nothing [] × KnowsOut id view × (known_word view SlotHead ≡ head)
-AtDestroy id start view Linked =
+AtDestroy id start view look Locked = IsCalling start view (both_taken start.config id) Nothing [] × KnowsOut id view
+AtDestroy id start view look (Headed head) = IsCalling start view (both_taken start.config id) Nothing [] × KnowsOut id view × (known_word view SlotHead ≡ head)
+AtDestroy id start view look Linked =
     IsCalling start view (both_taken start.config id) Nothing [] × KnowsOut id view × (known_word view (SlotNext id.index) ≡ known_word view SlotHead)
-AtDestroy id start view InFront = IsCalling start view (both_taken start.config id) (Destroying id.index) [] × KnowsOut id view
-AtDestroy id start view Destroyed = IsCalling start view (both_taken start.config id) Nothing (Destroy id.index ∷ []) × HasDestroyed id start view
-AtDestroy id start view (Leaving answer) =
+AtDestroy id start view look InFront = IsCalling start view (both_taken start.config id) (Destroying id.index) [] × KnowsOut id view
+AtDestroy id start view look Destroyed = IsCalling start view (both_taken start.config id) Nothing (Destroy id.index ∷ []) × HasDestroyed id start view
+AtDestroy id start view look (Leaving answer) =
     (steps : List LockStep) × (entries : List Entry) × IsCalling start view steps Nothing entries × HasStripeAlone start.config id steps × IsDestroyAnswer id start view answer
+
+-- once the look has ended, how it was is of no matter
+abbrev pub PastLook : Id → View → View → DestroyStage → Type 0
+PastLook id start view stage = AtDestroy id start view (looking_of start.config id Write ItsPhase) stage
 
 -- the destruction was begun so, by a pass at rest
 pub record IsBegunFor (id : Id) (start : View) : Type 0 where
@@ -103,7 +108,7 @@ pub record IsBegunFor (id : Id) (start : View) : Type 0 where
   pub rest : IsAtRest start
 
 abbrev pub IsUnmaking : DestroyOp → View → DestroyOp → View → Type 0
-IsUnmaking first start operation view = (operation.id ≡ first.id) × IsBegunFor first.id start × AtDestroy first.id start view operation.stage
+IsUnmaking first start operation view = (operation.id ≡ first.id) × IsBegunFor first.id start × AtDestroy first.id start view operation.look operation.stage
 
 -- at its end
 abbrev pub HasUnmade : DestroyOp → View → View → Result (Unit {0}) DestroyRefused → Type 0
@@ -111,27 +116,27 @@ HasUnmade first start next answer = HasEnded start next × IsDestroyAnswer first
 
 -- ---- turns
 
-abbrev pub stage_left : DestroyStage → ℕ
-stage_left (Looking look) = 10 + look_left look
-stage_left (TakingList taking) = 7 + turns_left taking
-stage_left Locked = 7
-stage_left (Headed head) = 6
-stage_left Linked = 5
-stage_left InFront = 4
-stage_left Destroyed = 2
-stage_left (Leaving answer) = 1
+abbrev pub stage_left : LookOp → DestroyStage → ℕ
+stage_left look Looking = 10 + look_left look
+stage_left look (TakingList taking) = 7 + turns_left taking
+stage_left look Locked = 7
+stage_left look (Headed head) = 6
+stage_left look Linked = 5
+stage_left look InFront = 4
+stage_left look Destroyed = 2
+stage_left look (Leaving answer) = 1
 
 abbrev pub destroy_left : DestroyOp → ℕ
-destroy_left operation = stage_left operation.stage
+destroy_left operation = stage_left operation.look operation.stage
 
 -- the lock that it takes
-abbrev pub takes_at : DestroyStage → Option TakeOp
-takes_at (Looking look) = look_takes look
-takes_at (TakingList taking) = Some taking
-takes_at _ = None
+abbrev pub takes_at : LookOp → DestroyStage → Option TakeOp
+takes_at look Looking = look_takes look
+takes_at look (TakingList taking) = Some taking
+takes_at look _ = None
 
 abbrev pub destroy_takes : DestroyOp → Option TakeOp
-destroy_takes operation = takes_at operation.stage
+destroy_takes operation = takes_at operation.look operation.stage
 
 abbrev pub IsDestroyTurn : Turn (Result (Unit {0}) DestroyRefused) → DestroyOp → DestroyOp → View → View → Type 0
 IsDestroyTurn turn before after view next = IsTurn IsUnmaking HasUnmade destroy_left (λ operation. operation.made) destroy_takes turn before after view next

@@ -9,7 +9,7 @@ use scene_model::Made;
 #[derive(Clone, Copy)]
 pub(crate) enum DestroyStage {
     /// The body is being looked at, under its stripe.
-    Looking { look: LookOp },
+    Looking,
     /// The body is out, and the lock of the list is being taken.
     TakingList { taking: TakeOp },
     /// Both locks are held.
@@ -26,10 +26,11 @@ pub(crate) enum DestroyStage {
     Leaving { answer: Result<(), DestroyRefused> },
 }
 
-/// Destroying a body by turns.
+/// Destroying a body by turns. The look at the body is made in place, and stays as it ended.
 #[derive(Drop)]
 pub struct DestroyOp {
     pub(crate) id: BodyId,
+    pub(crate) look: LookOp,
     pub(crate) stage: DestroyStage,
     /// The entry that the last turn made.
     pub(crate) made: Option<Made>,

@@ -68,7 +68,8 @@ impl DestroyOp {
         let look = LookOp::new(world, pass, id, Mode::Write, LookDepth::Phase);
         DestroyOp {
             id,
-            stage: DestroyStage::Looking { look },
+            look,
+            stage: DestroyStage::Looking,
             made: None,
         }
     }
@@ -81,7 +82,7 @@ impl DestroyOp {
         ensures turn { IsDestroyTurn result self.old self.new (view_of pass.old) (view_of pass.new) }
     {
         match self.stage {
-            DestroyStage::Looking { look } => self.look(world, pass, look),
+            DestroyStage::Looking => self.look(world, pass),
             DestroyStage::TakingList { taking } => self.take_list(world, pass, taking),
             DestroyStage::Locked => self.load_head(world, pass),
             DestroyStage::Headed { head } => self.store_link(world, pass, head),
@@ -113,20 +114,15 @@ impl DestroyOp {
     }
 
     /// A turn of looking at the body. Where it is out, the lock of the list is taken next, and else the stripe let go.
-    fn look(
-        &mut self,
-        world: &World,
-        pass: &mut Pass,
-        look: LookOp,
-    ) -> Turn<Result<(), DestroyRefused>>
+    #[inline(always)]
+    fn look(&mut self, world: &World, pass: &mut Pass) -> Turn<Result<(), DestroyRefused>>
         requires of { IsOf world.now pass.old }
         requires under_way { IsUnderWay IsUnmaking self.old (view_of pass.old) }
-        requires stage { self.old.stage ≡ Looking look }
+        requires stage { self.old.stage ≡ Looking }
         ensures of { IsOf world.now pass.new }
         ensures turn { IsDestroyTurn result self.old self.new (view_of pass.old) (view_of pass.new) }
     {
-        let mut look = look;
-        match look.turn(world, pass) {
+        match self.look.turn(world, pass) {
             Turn::Done(BodyFound::Gone { state }) => self.go_on(DestroyStage::Leaving {
                 answer: Err(DestroyRefused::Gone { state }),
             }),
@@ -139,9 +135,12 @@ impl DestroyOp {
             Turn::Done(BodyFound::In) => self.refuse(Phase::In),
             Turn::Done(BodyFound::Held { .. }) => self.refuse(Phase::Held),
             Turn::Done(BodyFound::Joined { .. }) => self.refuse(Phase::In),
-            Turn::More => self.go_on(DestroyStage::Looking { look }),
+            Turn::More => {
+                self.made = None;
+                Turn::More
+            }
             Turn::Again { lock, word } => {
-                self.go_on(DestroyStage::Looking { look });
+                self.made = None;
                 Turn::Again { lock, word }
             }
         }

@@ -63,30 +63,43 @@ pub went-on : {T S G : Type 0} (staged : Staged T S G) (turn : Turn T) (before n
     → IsTurnOf staged turn before new view next
 went-on staged turn before new stage after view next more is at step made less loads keeps = more-to staged before new stage after view next is at step made loads keeps turn more (inl less)
 
--- A turn of taking a lock, which is a stage for each step of the taking, with so many turns to make afterwards: there is
--- more to do, or it is to be made again
+-- A turn of an inner operation, each state of which is a stage, with so many turns to make afterwards: there is more to
+-- do, or it is to be made again
+module _ {T S G I : Type 0} (D : Type 0) (staged : Staged T S G) (stage_of : I → G) (inner_left : I → ℕ) (inner_takes : I → Option TakeOp) (later : ℕ)
+    (lefts : (inner : I) → staged.left (stage_of inner) ≡ later + inner_left inner) (takes : (inner : I) → staged.takes (stage_of inner) ≡ inner_takes inner)
+    (before new : S) (inner after : I) (view next : View) (is : new ≡ staged.to before (stage_of after)) (at : staged.stage before ≡ stage_of inner)
+    (step : AtMostOneStep view next) (made : MadeBy view next None) (loads : LoadsNow view next (inner_takes after))
+    (keeps : (first : S) (start : View) → staged.under_way first start before view → staged.at first start view (stage_of inner) → staged.at first start next (stage_of after)) where
+  by-stages : (turn : Turn T) → Turned turn view next (inner_takes inner) (later + inner_left inner) (later + inner_left after)
+      → Turned turn view next (staged.takes (stage_of inner)) (staged.left (stage_of inner)) (staged.left (stage_of after))
+  by-stages turn turned =
+      subst (λ (t : Option TakeOp). Turned turn view next t (staged.left (stage_of inner)) (staged.left (stage_of after))) (sym (takes inner))
+      (subst (λ (n : ℕ). Turned turn view next (inner_takes inner) n (staged.left (stage_of after))) (sym (lefts inner))
+      (subst (λ (n : ℕ). Turned turn view next (inner_takes inner) (later + inner_left inner) n) (sym (lefts after)) turned))
+
+  loads_after : LoadsNow view next (staged.takes (stage_of after))
+  loads_after = subst (LoadsNow view next) (sym (takes after)) loads
+
+  pub inner-more : (turn : Turn T) → turn ≡ More → Turned {T = D} More view next (inner_takes inner) (inner_left inner) (inner_left after) → IsTurnOf staged turn before new view next
+  inner-more turn more turned =
+      more-to staged before new (stage_of inner) (stage_of after) view next is at step made loads_after keeps turn more
+      (by-stages More (turned-more D T later view next (inner_takes inner) (inner_left inner) (inner_left after) turned))
+
+  pub inner-again : (lock found : ℕ) → Turned {T = D} (Again lock found) view next (inner_takes inner) (inner_left inner) (inner_left after)
+      → IsTurnOf staged (Again lock found) before new view next
+  inner-again lock found turned =
+      turn-to staged before new (stage_of inner) (stage_of after) view next is at step made loads_after keeps (Again lock found)
+      (by-stages (Again lock found) (turned-again D T later view next (inner_takes inner) (inner_left inner) (inner_left after) lock found turned)) (λ l. l) (λ first start way. way) (λ first start. tt)
+
+-- so of taking a lock
 module _ {T S G : Type 0} (staged : Staged T S G) (stage_of : TakeOp → G) (later : ℕ) (lefts : (taking : TakeOp) → staged.left (stage_of taking) ≡ later + turns_left taking)
     (takes : (taking : TakeOp) → staged.takes (stage_of taking) ≡ Some taking)
     (before new : S) (taking after : TakeOp) (view next : View) (is : new ≡ staged.to before (stage_of after)) (at : staged.stage before ≡ stage_of taking)
     (step : AtMostOneStep view next) (made : MadeBy view next None) (loads : LoadsNow view next (Some after))
     (keeps : (first : S) (start : View) → staged.under_way first start before view → staged.at first start view (stage_of taking) → staged.at first start next (stage_of after)) where
-  by-stages : (turn : Turn T) → Turned turn view next (Some taking) (later + turns_left taking) (later + turns_left after)
-      → Turned turn view next (staged.takes (stage_of taking)) (staged.left (stage_of taking)) (staged.left (stage_of after))
-  by-stages turn turned =
-      subst (λ (t : Option TakeOp). Turned turn view next t (staged.left (stage_of taking)) (staged.left (stage_of after))) (sym (takes taking))
-      (subst (λ (n : ℕ). Turned turn view next (Some taking) n (staged.left (stage_of after))) (sym (lefts taking))
-      (subst (λ (n : ℕ). Turned turn view next (Some taking) (later + turns_left taking) n) (sym (lefts after)) turned))
-
-  loads_after : LoadsNow view next (staged.takes (stage_of after))
-  loads_after = subst (LoadsNow view next) (sym (takes after)) loads
-
   pub take-more : (turn : Turn T) → turn ≡ More → Turned {T = Unit {0}} More view next (Some taking) (turns_left taking) (turns_left after) → IsTurnOf staged turn before new view next
-  take-more turn more turned =
-      more-to staged before new (stage_of taking) (stage_of after) view next is at step made loads_after keeps turn more
-      (by-stages More (turned-more (Unit {0}) T later view next (Some taking) (turns_left taking) (turns_left after) turned))
+  take-more = inner-more (Unit {0}) staged stage_of turns_left Some later lefts takes before new taking after view next is at step made loads keeps
 
   pub take-again : (lock found : ℕ) → Turned {T = Unit {0}} (Again lock found) view next (Some taking) (turns_left taking) (turns_left after)
       → IsTurnOf staged (Again lock found) before new view next
-  take-again lock found turned =
-      turn-to staged before new (stage_of taking) (stage_of after) view next is at step made loads_after keeps (Again lock found)
-      (by-stages (Again lock found) (turned-again (Unit {0}) T later view next (Some taking) (turns_left taking) (turns_left after) lock found turned)) (λ l. l) (λ first start way. way) (λ first start. tt)
+  take-again = inner-again (Unit {0}) staged stage_of turns_left Some later lefts takes before new taking after view next is at step made loads keeps

@@ -15,7 +15,7 @@ returns-clause-begins c =
       slot = c.new-3.ensures.slot;
       ids = c.new-3.ensures.ids ∙ ids;
       made = c.new-3.ensures.made;
-      left = subst (λ (l : List Id). mark_left c.new-3.result ≤ 13 * length l) ids c.new-3.ensures.left;
+      left = subst (λ (l : List Id). mark_left c.new-3.result ≤ 15 * length l) ids c.new-3.ensures.left;
       goes = subst (λ (v : View). IsMarking c.new-3.result (view_of c.args.pass.now) c.new-3.result v) (ap view_of c.new-3.ensures.pass) c.new-3.ensures.under_way;
       unloaded = c.new-3.ensures.unloaded;
     }

@@ -31,5 +31,5 @@ returns-clause-begun c =
       preparing-begun _ view c.args.pass.now.number c.args.pass.now.numbered c.requires.idle.rest c.args.pass.now.current (subst (λ (s : Config). c.args.layer < s.layers) (sym c.requires.idle.of.sizes) c.requires.in_layers)
           (subst (λ (l : List Id). All (λ id. id.index < view.config.bodies) l) (sym ids) (subst (λ (s : Config). All (λ id. id.index < s.bodies) all) (sym c.requires.idle.of.sizes) c.requires.below)) few c.new-search.ensures.layer
           c.new-search.ensures.under_way wanted (c.in_ok-taking.ensures.1 ∙ (c.need.ensures.exact ∙ ap need (sym many))) (c.in_ok-marking.ensures.1 ∙ sym many)
-          (planner, bounds) (c.in_ok-indexes.ensures ∙ ap (map (λ (id : Id). id.index)) (sym ids)) stage,
+          (planner, bounds) (c.in_ok-indexes.ensures ∙ ap (map (λ (id : Id). id.index)) (sym ids)) stage _ (ap view_of c.new-look.ensures.pass),
     )

@@ -6,8 +6,7 @@ use Rattle.pass_table.specs.Passes.{view_of}
 use Rattle.pass_table.proofs.Calling.{released-step, released-made}
 use Rattle.pass_table.proofs.WorkLater.{worked-sizes}
 use Rattle.body_slots.specs.declared.destroy_op.DestroyStage.TheVariants.{Destroyed, Leaving}
-use Rattle.pass_table.proofs.Stages.{went-on}
-use Rattle.body_slots.proofs.DestroyTurns.{destroy_stages}
+use Rattle.body_slots.proofs.DestroyTurns.{destroy-on}
 use Rattle.body_slots.proofs.DestroyEnds.{left-list, may-leave-list}
 use Rattle.body_slots.proofs.destroy_op.DestroyOp.leave_list.Goals as goal
 
@@ -17,7 +16,7 @@ returns-clause-turn c =
     let next = view_of c.release.new.pass in
     let lock = c.index_lock.result in
     let go = c.release.ensures.step in
-    went-on destroy_stages c.go_on.result c.args.self.now c.go_on.new.self Destroyed (Leaving (Ok tt)) view next c.go_on.ensures.more c.go_on.ensures.stage c.requires.stage
+    destroy-on c.go_on.result c.args.self.now c.go_on.new.self Destroyed (Leaving (Ok tt)) view next c.go_on.ensures.more c.go_on.ensures.stage c.requires.stage
     (released-step view next lock go.0 go.1) (released-made view next lock go.0 go.1 c.args.pass.now.number c.args.pass.now.numbered) (omega arith) tt
     (λ first start making at.
     let named = c.index_lock.ensures ∙ ap (λ (sizes : Config). index_lock sizes) (sym c.requires.of.sizes ∙ worked-sizes start view _ at.0) in

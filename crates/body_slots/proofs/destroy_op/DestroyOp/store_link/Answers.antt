@@ -5,8 +5,7 @@ use Rattle.free_list.specs.Heads.{LinkedTo}
 use Rattle.core_state.specs.Lists.{IsLiveAndOut}
 use Rattle.body_slots.specs.Destroying.{AtDestroy}
 use Rattle.body_slots.specs.declared.destroy_op.DestroyStage.TheVariants.{Headed, Linked}
-use Rattle.pass_table.proofs.Stages.{went-on}
-use Rattle.body_slots.proofs.DestroyTurns.{destroy_stages, has-list, has-out}
+use Rattle.body_slots.proofs.DestroyTurns.{destroy-on, has-list, has-out}
 use Rattle.body_slots.proofs.DestroyEnds.{linked-step, linked-made, link-stored}
 use Rattle.body_slots.proofs.destroy_op.DestroyOp.store_link.Goals as goal
 
@@ -16,7 +15,7 @@ returns-clause-turn c =
     let next = view_of c.store_link.new.pass in
     let head = c.args.head in
     let linked = c.store_link.ensures.linked in
-    went-on destroy_stages c.go_on.result c.args.self.now c.go_on.new.self (Headed head) Linked view next c.go_on.ensures.more c.go_on.ensures.stage c.requires.stage
+    destroy-on c.go_on.result c.args.self.now c.go_on.new.self (Headed head) Linked view next c.go_on.ensures.more c.go_on.ensures.stage c.requires.stage
     (linked-step view next c.index.result head linked) (linked-made view next c.index.result head linked c.args.pass.now.number c.args.pass.now.numbered) (omega arith) tt
     (λ first start making at.
     link-stored first.id start view next head making.1 (subst (λ (n : ℕ). LinkedTo view next n head) (c.index.ensures.value ∙ ap (λ (i : Id). i.index) making.0) linked) at)
@@ -26,7 +25,7 @@ store_link-requires-clause-list c =
     let view = view_of c.args.pass.now in
     let way = c.requires.under_way in
     let id = way.first.id in
-    let at = subst (AtDestroy id way.start view) c.requires.stage way.goes.2 in
+    let at = subst (AtDestroy id way.start view c.args.self.now.look) c.requires.stage way.goes.2 in
     has-list id way.start view way.goes.1.rest at.0
 
 pub store_link-requires-clause-body : goal.store_link-requires-clause-body
@@ -34,7 +33,7 @@ store_link-requires-clause-body c =
     let view = view_of c.args.pass.now in
     let way = c.requires.under_way in
     let id = way.first.id in
-    let at = subst (AtDestroy id way.start view) c.requires.stage way.goes.2 in
+    let at = subst (AtDestroy id way.start view c.args.self.now.look) c.requires.stage way.goes.2 in
     let same : c.index.result ≡ id.index = c.index.ensures.value ∙ ap (λ (i : Id). i.index) way.goes.0 in
     subst (λ (n : ℕ). IsLiveAndOut view n) (sym same) (has-out id way.start view _ _ way.goes.1 at.0 at.1)
 
@@ -43,5 +42,5 @@ store_link-requires-clause-head c =
     let view = view_of c.args.pass.now in
     let way = c.requires.under_way in
     let id = way.first.id in
-    let at = subst (AtDestroy id way.start view) c.requires.stage way.goes.2 in
+    let at = subst (AtDestroy id way.start view c.args.self.now.look) c.requires.stage way.goes.2 in
     sym at.2

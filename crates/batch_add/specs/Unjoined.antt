@@ -1,18 +1,8 @@
 -- Marks and joins of a body in a history.
-use Rattle.std.specs.Prelude.{◌≡◌, ℕ, List, ◌∷◌, ◌++◌, All, Contains}
-use Rattle.scene_model.specs.declared.entry.Entry.{Entry}
-use Rattle.scene_model.specs.declared.entry.Entry.TheVariants.{Mark, Unmark, Join}
+use Rattle.std.specs.Prelude.{◌≡◌, ℕ, List, ◌∷◌, ◌++◌, All}
+use Rattle.scene_model.specs.declared.entry.Entry.TheVariants.{Mark, Unmark}
 use Rattle.scene_model.specs.declared.entry.Made.{Made}
-
--- the entry marks the body at an index
-abbrev pub MarksBody : ℕ → Entry → Type 0
-MarksBody i (Mark j) = i ≡ j
-MarksBody i _ = ⊥
-
--- the body at an index comes into the broad phase by it
-abbrev pub JoinsBody : ℕ → Entry → Type 0
-JoinsBody i (Join layer indexes) = Contains indexes i
-JoinsBody i _ = ⊥
+use Rattle.pass_table.specs.OwnMarks.{MarksBody, JoinsBody}
 
 -- by none of these entries, whoever made them, the body comes into the broad phase
 abbrev pub NoneJoins : ℕ → List Made → Type 0

@@ -1,6 +1,6 @@
 -- A body that is unmarked was held since it was marked, so it did not come into the broad phase between.
-use Rattle.std.proofs.Common.{◌≡◌, inl, inr, ℕ, List, [], ◌∷◌, ◌++◌, All, refl, ap, sym, ◌∙◌, subst, append_assoc}
-use Rattle.std.proofs.lemmas.List.{append-nil}
+use Rattle.std.proofs.Common.{◌≡◌, inl, inr, ℕ, List, [], ◌∷◌, ◌++◌, drop, All, refl, ap, sym, ◌∙◌, subst, append_assoc}
+use Rattle.std.proofs.lemmas.List.{append-nil, append_cancel_left}
 use Rattle.std.proofs.lemmas.List.Elements.{All-head, All-tail, All-nil, All-cons, All-append}
 use Rattle.scene_model.specs.declared.entry.Entry.{Entry}
 use Rattle.scene_model.specs.declared.entry.Entry.TheVariants.{Mark, Unmark}
@@ -10,9 +10,16 @@ use Rattle.scene_model.specs.Step.{after_entry}
 use Rattle.scene_model.specs.History.{scene_from, IsLawfulFrom, IsLawfulHistory}
 use Rattle.scene_model.specs.Consistent.{IsConsistent}
 use Rattle.scene_model.proofs.Histories.{IsConsistent-empty, IsConsistent-after_entry, IsConsistent-scene_from, lawful_parts}
-use Rattle.pass_table.specs.OwnMarks.{MarksBody, JoinsBody}
+use mathlib.Core.Logic.{∥∥₁_elim}
+use Rattle.std.proofs.Props.{props}
+use Rattle.core_state.specs.declared.view.View.{View}
+use Rattle.core_state.specs.Log.{history}
+use Rattle.core_state.proofs.Quiet.{append_cut, in_first, in_second}
+use Rattle.pass_table.specs.Bodies.{IsCurrent}
+use Rattle.pass_table.specs.OwnMarks.{MarksBody, JoinsBody, IsMarkedBy}
+use Rattle.pass_table.proofs.Keeping.{All-second}
 use Rattle.pass_table.proofs.HeldEntries.{IsHeldAt, held-before}
-use Rattle.batch_add.specs.Unjoined.{NoneJoins, IsUndone, IsMarkedSince}
+use Rattle.batch_add.specs.Unjoined.{NoneJoins, NoneMarks, IsUndone, IsUndoneBy, IsMarkedSince}
 
 -- ---- entries
 
@@ -101,3 +108,52 @@ pub unmarked-marked : (layers bodies : ℕ) (past later : List Made) (i pass : �
 unmarked-marked layers bodies past later i pass lawful =
     let parts = lawful_parts layers (empty_scene bodies) past ((record { pass = pass; entry = Unmark i }) ∷ later) lawful in
     held-marked layers i (empty_scene bodies) [] past (IsConsistent-empty layers bodies) parts.0 (λ h. absurd h) parts.1.0.0
+
+-- ---- by one pass
+
+-- a mark since which the pass made no other one is its last mark, and so the last mark of all
+undone-last : (number i : ℕ) (first between : List Made) → IsMarkedBy number (first ++ (record { pass = number; entry = Mark i }) ∷ between) i → All (λ m. m.pass ≡ number → ¬ MarksBody i m.entry) between
+    → NoneJoins i between × NoneMarks i between
+undone-last number i first between by once =
+    let mark : Made = record { pass = number; entry = Mark i } in
+    elim (append_cut first (mark ∷ between) by.first by.since mark by.parts) [
+      | in_first rest p ↦
+          let whole : by.first ++ mark ∷ (rest ++ mark ∷ between) ≡ by.first ++ mark ∷ by.since =
+          sym (append_assoc by.first (mark ∷ rest) (mark ∷ between)) ∙ (ap (λ (l : List Made). l ++ mark ∷ between) (sym p) ∙ by.parts)
+          in
+          let since : rest ++ mark ∷ between ≡ by.since = ap (drop 1) (append_cancel_left by.first (mark ∷ (rest ++ mark ∷ between)) (mark ∷ by.since) whole) in
+          let marks = subst (All (λ (m : Made). ¬ MarksBody i m.entry)) (sym since) by.unmarked in
+          absurd (All-head (λ (m : Made). ¬ MarksBody i m.entry) mark between (All-second (λ (m : Made). ¬ MarksBody i m.entry) rest (mark ∷ between) marks) refl)
+      | in_second front p q ↦ from_front front q
+    ]
+  where
+    from_front : (front : List Made) → (record { pass = number; entry = Mark i }) ∷ between ≡ front ++ (record { pass = number; entry = Mark i }) ∷ by.since → NoneJoins i between × NoneMarks i between
+    from_front [] q =
+        let same : by.since ≡ between = sym (ap (drop 1) q) in
+        (subst (NoneJoins i) same by.unjoined, subst (NoneMarks i) same by.unmarked)
+    from_front (f ∷ front) q =
+        let tail : between ≡ front ++ (record { pass = number; entry = Mark i }) ∷ by.since = ap (drop 1) q in
+        let own = subst (All (λ (m : Made). m.pass ≡ number → ¬ MarksBody i m.entry)) tail once in
+        absurd
+        (All-head (λ (m : Made). m.pass ≡ number → ¬ MarksBody i m.entry) (record { pass = number; entry = Mark i }) by.since
+        (All-second (λ (m : Made). m.pass ≡ number → ¬ MarksBody i m.entry) front ((record { pass = number; entry = Mark i }) ∷ by.since) own) refl refl)
+
+-- who unmarks a body marked it last
+pub unmarked-by : (view : View) (past later : List Made) (i number : ℕ) → IsCurrent view → history view.known ≡ past ++ (record { pass = number; entry = Unmark i }) ∷ later → IsMarkedBy number past i
+unmarked-by view past later i number now parts = now.stands.marks.unmarked past later i number (ap history (sym now.whole) ∙ parts)
+
+pub undone-by : (view : View) (i number : ℕ) (between : List Made) → IsCurrent view → IsUndoneBy number (history view.known) i between → NoneJoins i between × NoneMarks i between
+undone-by view i number between now undone =
+    let mark : Made = record { pass = number; entry = Mark i } in
+    let unmark : Made = record { pass = number; entry = Unmark i } in
+    let parts = undone.parts ∙ sym (append_assoc undone.first (mark ∷ between) (unmark ∷ undone.later)) in
+    undone-last number i undone.first between (unmarked-by view (undone.first ++ mark ∷ between) undone.later i number now parts) undone.once
+
+none-prop : (P : Made → Type 0) (made : List Made) → IsProp (All (λ m. ¬ P m) made)
+none-prop P made = hlevel props
+
+pub undone-known : (view : View) (i number : ℕ) (between : List Made) → ∥ IsCurrent view ∥₁ → IsUndoneBy number (history view.known) i between → NoneJoins i between × NoneMarks i between
+undone-known view i number between current undone = (
+  ∥∥₁_elim current (none-prop (λ m. JoinsBody i m.entry) between) (λ now. (undone-by view i number between now undone).0),
+  ∥∥₁_elim current (none-prop (λ m. MarksBody i m.entry) between) (λ now. (undone-by view i number between now undone).1),
+)

@@ -41,3 +41,4 @@ pub mod Known
 pub mod Staying
 pub mod Unjoined
 pub mod PrepareLabel
+pub mod PreparedLists

@@ -1,112 +1,25 @@
 -- A body that is unmarked was held since it was marked, so it did not come into the broad phase between.
-use Rattle.std.proofs.Common.{◌≡◌, ◌≢◌, ◌⊎◌, inl, inr, ℕ, List, [], ◌∷◌, ◌++◌, All, Option, Some, None, IsSomeAnd, IsSome, option_map, refl, ap, sym, ◌∙◌, subst, append_assoc}
-use Rattle.std.proofs.lemmas.Bool.{cases_eq}
-use Rattle.std.proofs.lemmas.List.{append-nil}
+use Rattle.std.proofs.Common.{◌≡◌, inl, inr, ℕ, List, [], ◌∷◌, ◌++◌, drop, All, refl, ap, sym, ◌∙◌, subst, append_assoc}
+use Rattle.std.proofs.lemmas.List.{append-nil, append_cancel_left}
 use Rattle.std.proofs.lemmas.List.Elements.{All-head, All-tail, All-nil, All-cons, All-append}
-use Rattle.scene_model.specs.declared.body_view.Phase.{Phase}
-use Rattle.scene_model.specs.declared.body_view.Phase.TheVariants.{Out, Held, In}
 use Rattle.scene_model.specs.declared.entry.Entry.{Entry}
-use Rattle.scene_model.specs.declared.entry.Entry.TheVariants.{Create, Destroy, Mark, Unmark, Join, Remove, Move, SetUser}
+use Rattle.scene_model.specs.declared.entry.Entry.TheVariants.{Mark, Unmark}
 use Rattle.scene_model.specs.declared.entry.Made.{Made}
-use Rattle.scene_model.specs.Scene.{Scene, Place, Record, empty_scene, place_at, record_at}
-use Rattle.scene_model.specs.Step.{HasBody, IsLawful, after_entry, created_in, with_change, in_phase}
+use Rattle.scene_model.specs.Scene.{Scene, empty_scene}
+use Rattle.scene_model.specs.Step.{after_entry}
 use Rattle.scene_model.specs.History.{scene_from, IsLawfulFrom, IsLawfulHistory}
 use Rattle.scene_model.specs.Consistent.{IsConsistent}
-use Rattle.scene_model.proofs.Places.{place_at-with_body_other, place_at-with_change_same}
-use Rattle.scene_model.proofs.Batches.{place_at-fold_phase}
 use Rattle.scene_model.proofs.Histories.{IsConsistent-empty, IsConsistent-after_entry, IsConsistent-scene_from, lawful_parts}
-use Rattle.core_guard.proofs.Scenes.{record_live, place_at-created, place_at-created_other, place_at-destroyed, place_at-destroyed_other}
-use Rattle.batch_add.specs.Unjoined.{MarksBody, JoinsBody, NoneJoins, IsUndone, IsMarkedSince}
-
-abbrev IsHeldAt : Scene → ℕ → Type 0
-IsHeldAt scene i = HasBody scene i (λ r. r.phase ≡ Held)
-
--- ---- one entry
-
--- who is held after an entry was marked by it, or was held before and did not join
-abbrev WasHeld : Scene → ℕ → Entry → Type 0
-WasHeld scene i entry = MarksBody i entry ⊎ (IsHeldAt scene i × ¬ JoinsBody i entry)
-
--- a body that is put out, or in, is not held
-not-put : (phase : Phase) (o : Option Record) → phase ≢ Held → ¬ IsSomeAnd (option_map (in_phase phase) o) (λ r. r.phase ≡ Held)
-not-put phase None apart h = h
-not-put phase (Some r) apart h = apart h
-
--- a change that leaves the phase
-put-same : (change : Record → Record) → ((r : Record) → (change r).phase ≡ r.phase) → (o : Option Record) → IsSomeAnd (option_map change o) (λ r. r.phase ≡ Held)
-    → IsSomeAnd o (λ r. r.phase ≡ Held)
-put-same change leaves None h = h
-put-same change leaves (Some r) h = sym (leaves r) ∙ h
-
-some-of : (o : Option Record) (P : Record → Type 0) → IsSomeAnd o P → IsSome o
-some-of None P h = absurd h
-some-of (Some r) P h = record_live (Some r) r refl
-
--- what is held at a place is held at one that is the same
-held-as : (one other : Place) → one ≡ other → IsSomeAnd one.body (λ r. r.phase ≡ Held) → IsSomeAnd other.body (λ r. r.phase ≡ Held)
-held-as one other same h = subst (λ (p : Place). IsSomeAnd p.body (λ r. r.phase ≡ Held)) same h
-
-module _ (layers : ℕ) (scene : Scene) (i : ℕ) where
-  -- where the body at an index was changed, it is this one that is held, or it was held
-  changed-held : (change : Record → Record) (j : ℕ) → IsHeldAt (with_change change scene j) i → ((i ≡ j) × IsSomeAnd (option_map change (record_at scene i)) (λ r. r.phase ≡ Held)) ⊎ IsHeldAt scene i
-  changed-held change j h =
-      elim (cases_eq i j) [
-        | inl same ↦
-            inl (
-              same,
-              held-as _ _ (subst (λ (k : ℕ). place_at (with_change change scene k) i ≡ record (place_at scene i) { body = option_map change (record_at scene i) }) same
-                  (place_at-with_change_same change scene i)) h,
-            )
-        | inr other ↦ inr (held-as _ _ (place_at-with_body_other scene j i _ other) h)
-      ]
-
-  -- an entry that leaves the phases of bodies
-  left-held : (change : Record → Record) → ((r : Record) → (change r).phase ≡ r.phase) → (j : ℕ) → IsHeldAt (with_change change scene j) i → IsHeldAt scene i
-  left-held change leaves j h =
-      elim (changed-held change j h) [
-        | inl t ↦ put-same change leaves (record_at scene i) t.1
-        | inr was ↦ was
-      ]
-
-  -- and one after which a body is out
-  out-held : (j : ℕ) → IsHeldAt (with_change (in_phase Out) scene j) i → IsHeldAt scene i
-  out-held j h =
-      elim (changed-held (in_phase Out) j h) [
-        | inl t ↦ absurd (not-put Out (record_at scene i) (λ e. absurd cc) t.1)
-        | inr was ↦ was
-      ]
-
-  pub held-before : (entry : Entry) → IsConsistent layers scene → IsLawful layers scene entry → IsHeldAt (after_entry scene entry) i → WasHeld scene i entry
-  held-before (Create j layer bounds user) consistent lawful h =
-      elim (cases_eq i j) [
-        | inl same ↦
-            let out = held-as _ _ (subst (λ (k : ℕ). place_at (after_entry scene (Create j layer bounds user)) k ≡ created_in (place_at scene j) layer bounds user) (sym same)
-            (place_at-created layers scene j layer bounds user consistent lawful.0)) h
-            in
-            absurd cc
-        | inr other ↦ inr (held-as _ _ (place_at-created_other scene j layer bounds user i lawful.0 other) h, λ e. e)
-      ]
-  held-before (Destroy j) consistent lawful h =
-      elim (cases_eq i j) [
-        | inl same ↦
-            absurd (held-as _ _ (subst (λ (k : ℕ). place_at (after_entry scene (Destroy j)) k ≡ record (place_at scene j) { body = None }) (sym same)
-            (place_at-destroyed scene j (some-of (record_at scene j) _ lawful.0))) h)
-        | inr other ↦ inr (held-as _ _ (place_at-destroyed_other scene j i other) h, λ e. e)
-      ]
-  held-before (Mark j) consistent lawful h =
-      elim (changed-held (in_phase Held) j h) [
-        | inl t ↦ inl t.0
-        | inr was ↦ inr (was, λ e. e)
-      ]
-  held-before (Unmark j) consistent lawful h = inr (out-held j h, λ e. e)
-  held-before (Join layer indexes) consistent lawful h =
-      elim (place_at-fold_phase In indexes scene i) [
-        | inl t ↦ absurd (not-put In (record_at scene i) (λ e. absurd cc) (held-as _ _ t.1 h))
-        | inr t ↦ inr (held-as _ _ t.1 h, t.0)
-      ]
-  held-before (Remove j) consistent lawful h = inr (out-held j h, λ e. e)
-  held-before (Move j bounds) consistent lawful h = inr (left-held (λ r. record r { bounds = bounds }) (λ r. refl) j h, λ e. e)
-  held-before (SetUser j user) consistent lawful h = inr (left-held (λ r. record r { user = user }) (λ r. refl) j h, λ e. e)
+use mathlib.Core.Logic.{∥∥₁_elim}
+use Rattle.std.proofs.Props.{props}
+use Rattle.core_state.specs.declared.view.View.{View}
+use Rattle.core_state.specs.Log.{history}
+use Rattle.core_state.proofs.Quiet.{append_cut, in_first, in_second}
+use Rattle.pass_table.specs.Bodies.{IsCurrent}
+use Rattle.pass_table.specs.OwnMarks.{MarksBody, JoinsBody, IsMarkedBy}
+use Rattle.pass_table.proofs.Keeping.{All-second}
+use Rattle.pass_table.proofs.HeldEntries.{IsHeldAt, held-before}
+use Rattle.batch_add.specs.Unjoined.{NoneJoins, NoneMarks, IsUndone, IsUndoneBy, IsMarkedSince}
 
 -- ---- entries
 
@@ -195,3 +108,52 @@ pub unmarked-marked : (layers bodies : ℕ) (past later : List Made) (i pass : �
 unmarked-marked layers bodies past later i pass lawful =
     let parts = lawful_parts layers (empty_scene bodies) past ((record { pass = pass; entry = Unmark i }) ∷ later) lawful in
     held-marked layers i (empty_scene bodies) [] past (IsConsistent-empty layers bodies) parts.0 (λ h. absurd h) parts.1.0.0
+
+-- ---- by one pass
+
+-- a mark since which the pass made no other one is its last mark, and so the last mark of all
+undone-last : (number i : ℕ) (first between : List Made) → IsMarkedBy number (first ++ (record { pass = number; entry = Mark i }) ∷ between) i → All (λ m. m.pass ≡ number → ¬ MarksBody i m.entry) between
+    → NoneJoins i between × NoneMarks i between
+undone-last number i first between by once =
+    let mark : Made = record { pass = number; entry = Mark i } in
+    elim (append_cut first (mark ∷ between) by.first by.since mark by.parts) [
+      | in_first rest p ↦
+          let whole : by.first ++ mark ∷ (rest ++ mark ∷ between) ≡ by.first ++ mark ∷ by.since =
+          sym (append_assoc by.first (mark ∷ rest) (mark ∷ between)) ∙ (ap (λ (l : List Made). l ++ mark ∷ between) (sym p) ∙ by.parts)
+          in
+          let since : rest ++ mark ∷ between ≡ by.since = ap (drop 1) (append_cancel_left by.first (mark ∷ (rest ++ mark ∷ between)) (mark ∷ by.since) whole) in
+          let marks = subst (All (λ (m : Made). ¬ MarksBody i m.entry)) (sym since) by.unmarked in
+          absurd (All-head (λ (m : Made). ¬ MarksBody i m.entry) mark between (All-second (λ (m : Made). ¬ MarksBody i m.entry) rest (mark ∷ between) marks) refl)
+      | in_second front p q ↦ from_front front q
+    ]
+  where
+    from_front : (front : List Made) → (record { pass = number; entry = Mark i }) ∷ between ≡ front ++ (record { pass = number; entry = Mark i }) ∷ by.since → NoneJoins i between × NoneMarks i between
+    from_front [] q =
+        let same : by.since ≡ between = sym (ap (drop 1) q) in
+        (subst (NoneJoins i) same by.unjoined, subst (NoneMarks i) same by.unmarked)
+    from_front (f ∷ front) q =
+        let tail : between ≡ front ++ (record { pass = number; entry = Mark i }) ∷ by.since = ap (drop 1) q in
+        let own = subst (All (λ (m : Made). m.pass ≡ number → ¬ MarksBody i m.entry)) tail once in
+        absurd
+        (All-head (λ (m : Made). m.pass ≡ number → ¬ MarksBody i m.entry) (record { pass = number; entry = Mark i }) by.since
+        (All-second (λ (m : Made). m.pass ≡ number → ¬ MarksBody i m.entry) front ((record { pass = number; entry = Mark i }) ∷ by.since) own) refl refl)
+
+-- who unmarks a body marked it last
+pub unmarked-by : (view : View) (past later : List Made) (i number : ℕ) → IsCurrent view → history view.known ≡ past ++ (record { pass = number; entry = Unmark i }) ∷ later → IsMarkedBy number past i
+unmarked-by view past later i number now parts = now.stands.marks.unmarked past later i number (ap history (sym now.whole) ∙ parts)
+
+pub undone-by : (view : View) (i number : ℕ) (between : List Made) → IsCurrent view → IsUndoneBy number (history view.known) i between → NoneJoins i between × NoneMarks i between
+undone-by view i number between now undone =
+    let mark : Made = record { pass = number; entry = Mark i } in
+    let unmark : Made = record { pass = number; entry = Unmark i } in
+    let parts = undone.parts ∙ sym (append_assoc undone.first (mark ∷ between) (unmark ∷ undone.later)) in
+    undone-last number i undone.first between (unmarked-by view (undone.first ++ mark ∷ between) undone.later i number now parts) undone.once
+
+none-prop : (P : Made → Type 0) (made : List Made) → IsProp (All (λ m. ¬ P m) made)
+none-prop P made = hlevel props
+
+pub undone-known : (view : View) (i number : ℕ) (between : List Made) → ∥ IsCurrent view ∥₁ → IsUndoneBy number (history view.known) i between → NoneJoins i between × NoneMarks i between
+undone-known view i number between current undone = (
+  ∥∥₁_elim current (none-prop (λ m. JoinsBody i m.entry) between) (λ now. (undone-by view i number between now undone).0),
+  ∥∥₁_elim current (none-prop (λ m. MarksBody i m.entry) between) (λ now. (undone-by view i number between now undone).1),
+)

@@ -1,18 +1,8 @@
 -- Marks and joins of a body in a history.
-use Rattle.std.specs.Prelude.{◌≡◌, ℕ, List, ◌∷◌, ◌++◌, All, Contains}
-use Rattle.scene_model.specs.declared.entry.Entry.{Entry}
-use Rattle.scene_model.specs.declared.entry.Entry.TheVariants.{Mark, Unmark, Join}
+use Rattle.std.specs.Prelude.{◌≡◌, ℕ, List, ◌∷◌, ◌++◌, All}
+use Rattle.scene_model.specs.declared.entry.Entry.TheVariants.{Mark, Unmark}
 use Rattle.scene_model.specs.declared.entry.Made.{Made}
-
--- the entry marks the body at an index
-abbrev pub MarksBody : ℕ → Entry → Type 0
-MarksBody i (Mark j) = i ≡ j
-MarksBody i _ = ⊥
-
--- the body at an index comes into the broad phase by it
-abbrev pub JoinsBody : ℕ → Entry → Type 0
-JoinsBody i (Join layer indexes) = Contains indexes i
-JoinsBody i _ = ⊥
+use Rattle.pass_table.specs.OwnMarks.{MarksBody, JoinsBody}
 
 -- by none of these entries, whoever made them, the body comes into the broad phase
 abbrev pub NoneJoins : ℕ → List Made → Type 0
@@ -34,3 +24,14 @@ pub record IsMarkedSince (history : List Made) (i : ℕ) : Type 0 where
   pub since : List Made
   pub parts : history ≡ first ++ (record { pass = marker; entry = Mark i }) ∷ since
   pub unjoined : NoneJoins i since
+
+-- A pass marked a body and unmarked it later, and these are the entries between: none of them is a mark of it by this pass
+pub record IsUndoneBy (number : ℕ) (history : List Made) (i : ℕ) (between : List Made) : Type 0 where
+  pub first : List Made
+  pub later : List Made
+  pub parts : history ≡ first ++ (record { pass = number; entry = Mark i }) ∷ (between ++ (record { pass = number; entry = Unmark i }) ∷ later)
+  pub once : All (λ m. m.pass ≡ number → ¬ MarksBody i m.entry) between
+
+-- by none of these entries, whoever made them, the body is marked
+abbrev pub NoneMarks : ℕ → List Made → Type 0
+NoneMarks i made = All (λ m. ¬ MarksBody i m.entry) made

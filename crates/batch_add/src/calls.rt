@@ -3,7 +3,9 @@ ghost use Rattle.std.specs.Prelude.{◌≡◌, ◌<◌, ◌≤◌, length, All, 
 ghost use Rattle.pass_table.specs.Belongings.{belongings_of};
 ghost use Rattle.pass_table.specs.Passes.{view_of, IsIdle};
 ghost use Rattle.batch_add.specs.declared.prepared.Prepared.{Prepared};
+ghost use Rattle.batch_add.specs.declared.prepared_list.PreparedList.{PreparedList};
 ghost use Rattle.batch_add.specs.Prepared.{IsGood, IsApart};
+ghost use Rattle.batch_add.specs.PreparedLists.{AreGood, IsBeside};
 ghost use Rattle.batch_add.specs.Preparing.{PrepareAnswers};
 ghost use Rattle.batch_add.specs.Aborting.{HasAborted};
 
@@ -41,6 +43,8 @@ pub fn prepare<R: Wait>(
     ensures others { (other : Prepared) → IsGood other (view_of pass.old) → IsGood other (view_of pass.new) }
     ensures apart { IfOk result (λ batch. (other : Prepared) → IsGood other (view_of pass.old) → IsApart other batch) }
     ensures beside { IfOk result (λ batch. (other : Prepared) → IsGood other (view_of pass.old) → IsApart batch other) }
+    ensures lists { (list : PreparedList) → AreGood list (view_of pass.old) → AreGood list (view_of pass.new) }
+    ensures listed { IfOk result (λ batch. (list : PreparedList) → AreGood list (view_of pass.old) → IsBeside batch list) }
     ensures keeps { IfErr result (λ refused. belongings_of (view_of pass.new) ≡ belongings_of (view_of pass.old)) }
 {
     match PrepareOp::new(alloc, world, pass, layer, ids) {
@@ -58,6 +62,7 @@ pub fn abort<R: Wait>(rt: &R, world: &World, pass: &mut Pass, batch: Prepared)
     ensures idle { IsIdle world.now pass.new }
     ensures aborted { HasAborted batch (view_of pass.old) (view_of pass.new) }
     ensures others { (other : Prepared) → IsGood other (view_of pass.old) → IsApart other batch → IsGood other (view_of pass.new) }
+    ensures lists { (list : PreparedList) → AreGood list (view_of pass.old) → IsBeside batch list → AreGood list (view_of pass.new) }
 {
     let mut aborting = AbortOp::new(world, pass, batch);
     drive(rt, world, pass, &mut aborting);

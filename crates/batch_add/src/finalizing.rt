@@ -10,7 +10,9 @@ ghost use Rattle.pass_table.specs.Calls.{StoresWord};
 ghost use Rattle.pass_table.specs.Turning.{OneStep};
 ghost use Rattle.batch_add.specs.declared.prepared.Prepared.{Prepared};
 ghost use Rattle.batch_add.specs.Drawing.{node_at};
+ghost use Rattle.batch_add.specs.declared.prepared_list.PreparedList.{PreparedList};
 ghost use Rattle.batch_add.specs.Prepared.{IsGood, IsApart, HasAttached};
+ghost use Rattle.batch_add.specs.PreparedLists.{AreGood, IsBeside};
 
 use crate::prepared::Prepared;
 use pass_table::{Pass, World, step_24};
@@ -32,6 +34,7 @@ pub fn finalize(world: &World, pass: &mut Pass, batch: Prepared)
     ensures guards { (number : ℕ) (id : Id) (mode : Mode) → IsGuarding number id mode (view_of pass.old) → IsGuarding number id mode (view_of pass.new) }
     ensures alone { (number : ℕ) (id : Id) (mode : Mode) → IsAlone number id mode (view_of pass.old) → IsAlone number id mode (view_of pass.new) }
     ensures others { (other : Prepared) → IsGood other (view_of pass.old) → IsApart other batch → IsGood other (view_of pass.new) }
+    ensures lists { (list : PreparedList) → AreGood list (view_of pass.old) → IsBeside batch list → AreGood list (view_of pass.new) }
 {
     let Prepared {
         number: _number,

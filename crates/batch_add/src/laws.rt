@@ -10,14 +10,16 @@ ghost use Rattle.tree_plan.specs.Plan.{Plan};
 ghost use Rattle.word_map.specs.declared.name.Name.{Name};
 ghost use Rattle.core_state.specs.declared.view.Batch.{Batch};
 ghost use Rattle.core_state.specs.declared.view.View.{View};
+ghost use Rattle.core_state.specs.Log.{history};
 ghost use Rattle.core_state.specs.View.{known_word};
 ghost use Rattle.core_state.specs.Batches.{IsWholeTree};
 ghost use Rattle.pass_table.specs.Bodies.{IsCurrent};
+ghost use Rattle.pass_table.specs.OwnMarks.{IsMarkedBy};
 ghost use Rattle.batch_add.specs.declared.prepared.Prepared.{Prepared};
 ghost use Rattle.batch_add.specs.Drawing.{node_at, IsDrawn};
 ghost use Rattle.batch_add.specs.Prepared.{IsGood};
 ghost use Rattle.batch_add.specs.Shape.{tree_at};
-ghost use Rattle.batch_add.specs.Unjoined.{NoneJoins, IsUndone, IsMarkedSince};
+ghost use Rattle.batch_add.specs.Unjoined.{NoneJoins, NoneMarks, IsUndone, IsUndoneBy, IsMarkedSince};
 
 /// A batch whose nodes are drawn by the plan over its bodies is one whole tree, so it may be attached; and the tree that is
 /// read from its root is the stated tree over these bodies, wherever it is read ten levels deep or further.
@@ -37,9 +39,16 @@ pub fn good_batches_are_drawn()
 
 /// A mark of a batch that is given up or refused is followed by its unmark, and in a lawful history no join of the body is
 /// between, by whichever pass. And before each unmark of a body is the mark of it, since which it did not join.
+///
+/// In the history that a pass has seen that mark is by the pass that made the unmark. So between a mark of a pass and its
+/// unmark nobody else marks the body, and it does not join.
 pub fn undone_marks_did_not_join()
     ensures between { (layers bodies : ℕ) (history : List Made) (i : ℕ) (between : List Made) → IsLawfulHistory layers bodies history → IsUndone history i between
         → NoneJoins i between }
     ensures before { (layers bodies : ℕ) (history later : List Made) (i pass : ℕ)
         → IsLawfulHistory layers bodies (history ++ (record { pass = pass; entry = Unmark i }) ∷ later) → IsMarkedSince history i }
+    ensures own { (view : View) (past later : List Made) (i number : ℕ) → IsCurrent view → history view.known ≡ past ++ (record { pass = number; entry = Unmark i }) ∷ later
+        → IsMarkedBy number past i }
+    ensures undone { (view : View) (i number : ℕ) (between : List Made) → ∥ IsCurrent view ∥₁ → IsUndoneBy number (history view.known) i between
+        → NoneJoins i between × NoneMarks i between }
 {}

@@ -1,6 +1,6 @@
 -- Every event keeps what stands.
 use Rattle.std.proofs.Common.{◌≡◌, ◌≢◌, ◌⊎◌, ℕ, suc, List, [], ◌∷◌, ◌++◌, Option, Some, None, length, set, append_assoc, refl, ap, sym, ◌∙◌, subst, inl, inr, arith}
-use Rattle.std.specs.Prelude.{All, IfSome}
+use Rattle.std.specs.Prelude.{All, IfSome, Contains}
 use Rattle.std.proofs.lemmas.List.{append_cancel_left, length-append}
 use Rattle.std.proofs.lemmas.List.Elements.{All-nil, All-cons, All-tail, All-append}
 use Rattle.word_map.specs.declared.config.Config.{Config}
@@ -9,13 +9,15 @@ use Rattle.core_state.specs.declared.item.Item.{Item}
 use Rattle.core_state.specs.declared.view.Role.{Role}
 use Rattle.core_state.specs.declared.view.Role.TheVariants.{Pass, Visitor, Spent}
 use Rattle.core_state.specs.declared.view.Joined.{Joined}
+use Rattle.core_state.specs.declared.view.Batch.{Batch}
 use Rattle.core_state.specs.declared.view.View.{View}
 use Rattle.core_state.specs.Log.{IsPrefix}
-use Rattle.core_state.specs.View.{known_alone, own_known, number_in, IsPass}
+use Rattle.core_state.specs.View.{known_alone, own_known, number_in, number_of, IsPass, blank_view}
 use Rattle.core_state.specs.Core.{Core, IsViewAt, opening}
 use Rattle.core_state.specs.Kind.{Kind, Asking, Step, Steps, left_by, item_of, gained_by, view_after, after_step}
 use Rattle.core_state.specs.Seats.{Opens, Visits, Joins, after_split, visitor_of, joined_view, spent_view}
 use Rattle.core_state.specs.Event.{Event, opens_pass, splits_visitor, joins_visitor, looks, loads_lock, takes_read, takes_write, releases, loads_list, stores_link, stores_head, stores_field, creates, destroys, loads_body, sets_user, loads_slot, reserves, marks, stores_node, places, attaches, takes_back, unmarks, lets_slot_go, stores_pool_link, stores_pool_head, stores_pool_count, of_locks, of_lists, of_bodies, of_batches, of_pool, begins_walk, ends_walk, walks_slot, walks_main, walks_child, walks_bound, of_walks, widens_low, widens_high, loads_parent, stores_side, stores_last_side, of_moves, removes, clears_entry, clears_location, of_removals}
+use Rattle.core_state.specs.BodiesAgree.{BodiesAgree}
 use Rattle.core_state.specs.Formed.{AreApart, IsSoundView, IsFormed}
 use Rattle.core_state.proofs.Lookups.{at_set}
 use Rattle.core_state.proofs.Prefixes.{IsPrefix-refl, IsPrefix-trans}
@@ -24,6 +26,8 @@ use Rattle.core_state.proofs.Forming.{pass_role, unspent_pass, is_left, is_right
 use Rattle.core_state.proofs.Guarding.{GuardsHold-opening}
 use Rattle.core_state.proofs.Opening.{Invariants-opening}
 use Rattle.pass_table.proofs.Events.{Invariants-event, GuardsHold-event}
+use Rattle.pass_table.specs.OwnMarks.{MarksAreOwn}
+use Rattle.pass_table.proofs.OwnMarks.{KeptBatch, MarksAreOwn-step, MarksAreOwn-same, MarksAreOwn-opening}
 use Rattle.pass_table.specs.Standing.{HasNumber, AreForeign, OwnAreKnown, Stands}
 
 -- what holds of all of two lists holds of all of the second
@@ -181,57 +185,121 @@ OwnAreKnown-joins before after joins formed own = subst OwnAreKnown (sym joins.r
 
 -- ---- all events
 
+-- an event opens a pass, splits off a visitor or joins one, or is a step of some kind
+pub event-case : {P : Type 0} (before after : Core) → (Opens before after → P) → (Visits before after → P) → (Joins before after → P) → ((asks : Asking) (kind : Kind) → Steps asks kind before after → P) → Event before after → P
+event-case before after opens visits joins steps (opens_pass e) = opens e
+event-case before after opens visits joins steps (splits_visitor e) = visits e
+event-case before after opens visits joins steps (joins_visitor e) = joins e
+event-case before after opens visits joins steps (looks e) = steps _ _ e
+event-case before after opens visits joins steps (of_locks (loads_lock e)) = steps _ _ e
+event-case before after opens visits joins steps (of_locks (takes_read e)) = steps _ _ e
+event-case before after opens visits joins steps (of_locks (takes_write e)) = steps _ _ e
+event-case before after opens visits joins steps (of_locks (releases e)) = steps _ _ e
+event-case before after opens visits joins steps (of_lists (loads_list e)) = steps _ _ e
+event-case before after opens visits joins steps (of_lists (stores_link e)) = steps _ _ e
+event-case before after opens visits joins steps (of_lists (stores_head e)) = steps _ _ e
+event-case before after opens visits joins steps (of_bodies (stores_field e)) = steps _ _ e
+event-case before after opens visits joins steps (of_bodies (creates e)) = steps _ _ e
+event-case before after opens visits joins steps (of_bodies (destroys e)) = steps _ _ e
+event-case before after opens visits joins steps (of_bodies (loads_body e)) = steps _ _ e
+event-case before after opens visits joins steps (of_bodies (sets_user e)) = steps _ _ e
+event-case before after opens visits joins steps (of_batches (loads_slot e)) = steps _ _ e
+event-case before after opens visits joins steps (of_batches (reserves e)) = steps _ _ e
+event-case before after opens visits joins steps (of_batches (marks e)) = steps _ _ e
+event-case before after opens visits joins steps (of_batches (stores_node e)) = steps _ _ e
+event-case before after opens visits joins steps (of_batches (places e)) = steps _ _ e
+event-case before after opens visits joins steps (of_batches (attaches e)) = steps _ _ e
+event-case before after opens visits joins steps (of_batches (takes_back e)) = steps _ _ e
+event-case before after opens visits joins steps (of_batches (unmarks e)) = steps _ _ e
+event-case before after opens visits joins steps (of_batches (lets_slot_go e)) = steps _ _ e
+event-case before after opens visits joins steps (of_pool (stores_pool_link e)) = steps _ _ e
+event-case before after opens visits joins steps (of_pool (stores_pool_head e)) = steps _ _ e
+event-case before after opens visits joins steps (of_pool (stores_pool_count e)) = steps _ _ e
+event-case before after opens visits joins steps (of_walks (begins_walk e)) = steps _ _ e
+event-case before after opens visits joins steps (of_walks (ends_walk e)) = steps _ _ e
+event-case before after opens visits joins steps (of_walks (walks_slot e)) = steps _ _ e
+event-case before after opens visits joins steps (of_walks (walks_main e)) = steps _ _ e
+event-case before after opens visits joins steps (of_walks (walks_child e)) = steps _ _ e
+event-case before after opens visits joins steps (of_walks (walks_bound e)) = steps _ _ e
+event-case before after opens visits joins steps (of_moves (widens_low index e)) = steps _ _ e
+event-case before after opens visits joins steps (of_moves (widens_high index e)) = steps _ _ e
+event-case before after opens visits joins steps (of_moves (loads_parent index e)) = steps _ _ e
+event-case before after opens visits joins steps (of_moves (stores_side e)) = steps _ _ e
+event-case before after opens visits joins steps (of_moves (stores_last_side e)) = steps _ _ e
+event-case before after opens visits joins steps (of_removals (removes e)) = steps _ _ e
+event-case before after opens visits joins steps (of_removals (clears_entry e)) = steps _ _ e
+event-case before after opens visits joins steps (of_removals (clears_location e)) = steps _ _ e
+
 OwnAreKnown-event : (before after : Core) → Event before after → IsFormed before → OwnAreKnown before → OwnAreKnown after
-OwnAreKnown-event before after (opens_pass e) formed own = OwnAreKnown-opens before after e own
-OwnAreKnown-event before after (splits_visitor e) formed own = OwnAreKnown-visits before after e own
-OwnAreKnown-event before after (joins_visitor e) formed own = OwnAreKnown-joins before after e formed own
-OwnAreKnown-event before after (looks e) formed own = OwnAreKnown-steps _ _ before after e formed own
-OwnAreKnown-event before after (of_locks (loads_lock e)) formed own = OwnAreKnown-steps _ _ before after e formed own
-OwnAreKnown-event before after (of_locks (takes_read e)) formed own = OwnAreKnown-steps _ _ before after e formed own
-OwnAreKnown-event before after (of_locks (takes_write e)) formed own = OwnAreKnown-steps _ _ before after e formed own
-OwnAreKnown-event before after (of_locks (releases e)) formed own = OwnAreKnown-steps _ _ before after e formed own
-OwnAreKnown-event before after (of_lists (loads_list e)) formed own = OwnAreKnown-steps _ _ before after e formed own
-OwnAreKnown-event before after (of_lists (stores_link e)) formed own = OwnAreKnown-steps _ _ before after e formed own
-OwnAreKnown-event before after (of_lists (stores_head e)) formed own = OwnAreKnown-steps _ _ before after e formed own
-OwnAreKnown-event before after (of_bodies (stores_field e)) formed own = OwnAreKnown-steps _ _ before after e formed own
-OwnAreKnown-event before after (of_bodies (creates e)) formed own = OwnAreKnown-steps _ _ before after e formed own
-OwnAreKnown-event before after (of_bodies (destroys e)) formed own = OwnAreKnown-steps _ _ before after e formed own
-OwnAreKnown-event before after (of_bodies (loads_body e)) formed own = OwnAreKnown-steps _ _ before after e formed own
-OwnAreKnown-event before after (of_bodies (sets_user e)) formed own = OwnAreKnown-steps _ _ before after e formed own
-OwnAreKnown-event before after (of_batches (loads_slot e)) formed own = OwnAreKnown-steps _ _ before after e formed own
-OwnAreKnown-event before after (of_batches (reserves e)) formed own = OwnAreKnown-steps _ _ before after e formed own
-OwnAreKnown-event before after (of_batches (marks e)) formed own = OwnAreKnown-steps _ _ before after e formed own
-OwnAreKnown-event before after (of_batches (stores_node e)) formed own = OwnAreKnown-steps _ _ before after e formed own
-OwnAreKnown-event before after (of_batches (places e)) formed own = OwnAreKnown-steps _ _ before after e formed own
-OwnAreKnown-event before after (of_batches (attaches e)) formed own = OwnAreKnown-steps _ _ before after e formed own
-OwnAreKnown-event before after (of_batches (takes_back e)) formed own = OwnAreKnown-steps _ _ before after e formed own
-OwnAreKnown-event before after (of_batches (unmarks e)) formed own = OwnAreKnown-steps _ _ before after e formed own
-OwnAreKnown-event before after (of_batches (lets_slot_go e)) formed own = OwnAreKnown-steps _ _ before after e formed own
-OwnAreKnown-event before after (of_pool (stores_pool_link e)) formed own = OwnAreKnown-steps _ _ before after e formed own
-OwnAreKnown-event before after (of_pool (stores_pool_head e)) formed own = OwnAreKnown-steps _ _ before after e formed own
-OwnAreKnown-event before after (of_pool (stores_pool_count e)) formed own = OwnAreKnown-steps _ _ before after e formed own
-OwnAreKnown-event before after (of_walks (begins_walk e)) formed own = OwnAreKnown-steps _ _ before after e formed own
-OwnAreKnown-event before after (of_walks (ends_walk e)) formed own = OwnAreKnown-steps _ _ before after e formed own
-OwnAreKnown-event before after (of_walks (walks_slot e)) formed own = OwnAreKnown-steps _ _ before after e formed own
-OwnAreKnown-event before after (of_walks (walks_main e)) formed own = OwnAreKnown-steps _ _ before after e formed own
-OwnAreKnown-event before after (of_walks (walks_child e)) formed own = OwnAreKnown-steps _ _ before after e formed own
-OwnAreKnown-event before after (of_walks (walks_bound e)) formed own = OwnAreKnown-steps _ _ before after e formed own
-OwnAreKnown-event before after (of_moves (widens_low index e)) formed own = OwnAreKnown-steps _ _ before after e formed own
-OwnAreKnown-event before after (of_moves (widens_high index e)) formed own = OwnAreKnown-steps _ _ before after e formed own
-OwnAreKnown-event before after (of_moves (loads_parent index e)) formed own = OwnAreKnown-steps _ _ before after e formed own
-OwnAreKnown-event before after (of_moves (stores_side e)) formed own = OwnAreKnown-steps _ _ before after e formed own
-OwnAreKnown-event before after (of_moves (stores_last_side e)) formed own = OwnAreKnown-steps _ _ before after e formed own
-OwnAreKnown-event before after (of_removals (removes e)) formed own = OwnAreKnown-steps _ _ before after e formed own
-OwnAreKnown-event before after (of_removals (clears_entry e)) formed own = OwnAreKnown-steps _ _ before after e formed own
-OwnAreKnown-event before after (of_removals (clears_location e)) formed own = OwnAreKnown-steps _ _ before after e formed own
+OwnAreKnown-event before after event formed own =
+    event-case before after (λ e. OwnAreKnown-opens before after e own) (λ e. OwnAreKnown-visits before after e own) (λ e. OwnAreKnown-joins before after e formed own)
+    (λ asks kind e. OwnAreKnown-steps asks kind before after e formed own) event
+
+-- ---- marks
+
+MarksAreOwn-steps : (asks : Asking) (kind : Kind) (before after : Core) → Steps asks kind before after → BodiesAgree before → BodiesAgree after → IsFormed after → MarksAreOwn before → MarksAreOwn after
+MarksAreOwn-steps asks kind before after steps agree later formed own =
+    subst MarksAreOwn (sym steps.result)
+    (MarksAreOwn-step kind before steps.step steps.allowed.at steps.allowed.pass agree (subst BodiesAgree steps.result later) (subst IsFormed steps.result formed) own)
+
+-- a view that has no batches has none of a pass
+none-kept : (before : Core) (view : View) (number : ℕ) (batch : Batch) → [] ≡ view.batches → Contains view.batches batch → KeptBatch before number batch
+none-kept before view number batch none among = let has = subst (λ (l : List Batch). Contains l batch) (sym none) among in let below = has.1 in absurd (omega arith)
+
+MarksAreOwn-split : (core : Core) (cut number : ℕ) (view left right : View) → IsViewAt core cut view → IsPass view number → number_of left ≡ number_of view → left.batches ≡ view.batches → right.batches ≡ []
+    → MarksAreOwn core → MarksAreOwn (after_split core cut left right)
+MarksAreOwn-split core cut number view left right at pass role same none own =
+    MarksAreOwn-same core (after_split core cut left right) refl
+    (λ seat n u at_u is batch among.
+    elim (at_split core cut left right seat u at_u) [
+      | is_left p e ↦
+          record {
+            seat = cut;
+            view = view;
+            at = at;
+            pass = sym role ∙ (ap number_of e ∙ is);
+            among = subst (λ (l : List Batch). Contains l batch) (ap (λ (v : View). v.batches) (sym e) ∙ same) among;
+          }
+      | is_right p e ↦ none-kept core u n batch (sym none ∙ ap (λ (v : View). v.batches) e) among
+      | is_other p old ↦ record { seat = seat; view = u; at = old; pass = is; among = among }
+    ]) own
+
+MarksAreOwn-joins : (before after : Core) → Joins before after → MarksAreOwn before → MarksAreOwn after
+MarksAreOwn-joins before after joins own =
+    subst MarksAreOwn (sym joins.result)
+    (MarksAreOwn-same before _ refl
+    (λ seat n u at is batch among.
+    elim (at_join before joins.seat joins.other (joined_view joins.view joins.visitor) seat u at) [
+      | is_spent e ↦ none-kept before u n batch (ap (λ (v : View). v.batches) e) among
+      | is_joined p e ↦
+          record {
+            seat = joins.seat;
+            view = joins.view;
+            at = joins.at;
+            pass = ap number_of e ∙ is;
+            among = subst (λ (l : List Batch). Contains l batch) (ap (λ (v : View). v.batches) (sym e)) among;
+          }
+      | is_old old ↦ record { seat = seat; view = u; at = old; pass = is; among = among }
+    ]) own)
+
+MarksAreOwn-event : (before after : Core) → Event before after → BodiesAgree before → BodiesAgree after → IsFormed after → MarksAreOwn before → MarksAreOwn after
+MarksAreOwn-event before after event agree later formed own =
+    event-case before after
+    (λ e. subst MarksAreOwn (sym e.result) (MarksAreOwn-split before e.seat e.number (blank_view before.config (Pass e.number (suc e.further))) _ _ e.at refl refl refl refl own))
+    (λ e. subst MarksAreOwn (sym e.result) (MarksAreOwn-split before e.seat e.number e.view e.view (visitor_of e.view) e.at e.pass refl refl refl own))
+    (λ e. MarksAreOwn-joins before after e own) (λ asks kind e. MarksAreOwn-steps asks kind before after e agree later formed own) event
 
 pub Stands-event : (before after : Core) → Event before after → Stands before → Stands after
-Stands-event before after event stands = record {
-  formed = IsFormed-event before after event stands.formed;
-  laws = Invariants-event before after event stands.formed stands.guards stands.laws;
-  guards = GuardsHold-event before after event stands.formed stands.laws stands.guards;
-  own = OwnAreKnown-event before after event stands.formed stands.own;
-}
+Stands-event before after event stands =
+    let formed = IsFormed-event before after event stands.formed in
+    let laws = Invariants-event before after event stands.formed stands.guards stands.laws in
+    record {
+      formed = formed;
+      laws = laws;
+      guards = GuardsHold-event before after event stands.formed stands.laws stands.guards;
+      own = OwnAreKnown-event before after event stands.formed stands.own;
+      marks = MarksAreOwn-event before after event stands.laws.bodies laws.bodies formed stands.marks;
+    }
 
 pub Stands-opening : (c : Config) → IsConfig c → Stands (opening c)
 Stands-opening c sizes = record {
@@ -239,6 +307,7 @@ Stands-opening c sizes = record {
   laws = Invariants-opening c sizes;
   guards = GuardsHold-opening c;
   own = λ seat view since at e. nothing_since view.role (own_known view) since (sym e);
+  marks = MarksAreOwn-opening c;
 }
   where
     nothing_since : (role : Role) (known since : List Item) → known ++ since ≡ [] → AreForeign role since

@@ -1,5 +1,7 @@
 pub mod Events
 pub mod Widening
+pub mod HeldEntries
+pub mod OwnMarks
 pub mod Keeping
 pub mod LockSets
 pub mod Allowing

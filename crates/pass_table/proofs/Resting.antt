@@ -50,4 +50,4 @@ fresh-idle world number pass fresh = record {
 
 -- and so is each of all its passes
 pub all-idle : (world : World) (passes : List Pass) → AreAll world passes → AreIdle world passes
-all-idle world passes all k d below = fresh-idle world k (get_or passes k d) (all.fresh k d below)
+all-idle world passes all = record { each = λ k d below. fresh-idle world k (get_or passes k d) (all.fresh k d below) }

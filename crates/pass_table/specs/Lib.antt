@@ -1,3 +1,4 @@
+pub mod OwnMarks
 pub mod Standing
 pub mod Stepping
 pub mod Seating

@@ -27,8 +27,8 @@ pub record AreAll (world : World) (passes : List Pass) : Type 0 where
   pub fresh : AreFresh world passes
 
 -- each of these passes is one of the world and idle
-abbrev pub AreIdle : World → List Pass → Type 0
-AreIdle world passes = All (IsIdle world) passes
+pub record AreIdle (world : World) (passes : List Pass) : Type 0 where
+  pub each : All (IsIdle world) passes
 
 -- the seat of the pass that has all numbers from this one on
 pub record IsLast (world : World) (number : ℕ) (seat : Seat (Unit {0}) View) : Type 0 where

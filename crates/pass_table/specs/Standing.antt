@@ -12,6 +12,7 @@ use Rattle.core_state.specs.Core.{Core, IsViewAt}
 use Rattle.core_state.specs.Formed.{IsFormed}
 use Rattle.core_state.specs.Guards.{GuardsHold}
 use Rattle.core_state.specs.Invariants.{Invariants}
+use Rattle.pass_table.specs.OwnMarks.{MarksAreOwn}
 
 -- the number is one of a pass, for itself or to give
 abbrev pub HasNumber : Role → ℕ → Type 0
@@ -33,6 +34,7 @@ pub record Stands (core : Core) : Type 0 where
   pub laws : Invariants core
   pub guards : GuardsHold core
   pub own : OwnAreKnown core
+  pub marks : MarksAreOwn core
 
 abbrev pub core_of : Config → List Item → List View → Core
 core_of c log views = record { config = c; log = log; views = views }

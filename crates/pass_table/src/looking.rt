@@ -4,7 +4,7 @@ ghost use Rattle.pass_table.specs.Belongings.{belongings_of};
 ghost use Rattle.pass_table.specs.Calls.{Adds};
 ghost use Rattle.pass_table.specs.Work.{Tells};
 ghost use Rattle.pass_table.specs.Knowing.{Looked, MeetsWith};
-ghost use Rattle.pass_table.specs.Passes.{view_of, IsOf};
+ghost use Rattle.pass_table.specs.Passes.{view_of, IsOf, IsIdle};
 
 use crate::kind::Look;
 use crate::pass::Pass;
@@ -18,6 +18,7 @@ impl Pass {
     pub fn look(&mut self, world: &World)
         requires of { IsOf world.now self.old }
         ensures of { IsOf world.now self.new }
+        ensures idle { IsIdle world.now self.old → IsIdle world.now self.new }
         ensures looked { Looked (view_of self.old) (view_of self.new) }
         ensures adds { Adds (view_of self.old) (view_of self.new) [] }
         ensures tells { Tells (view_of self.old) (view_of self.new) [] }
@@ -34,7 +35,9 @@ impl Pass {
         requires of { IsOf world.now self.old }
         requires other_of { IsOf world.now other.old }
         ensures of { IsOf world.now self.new }
+        ensures idle { IsIdle world.now self.old → IsIdle world.now self.new }
         ensures other_of { IsOf world.now other.new }
+        ensures other_idle { IsIdle world.now other.old → IsIdle world.now other.new }
         ensures other_view { view_of other.new ≡ view_of other.old }
         ensures meets { MeetsWith (view_of self.old) (view_of other.old) (view_of self.new) }
         ensures adds { Adds (view_of self.old) (view_of self.new) [] }

@@ -52,6 +52,8 @@ impl PassList {
 /// then nothing is left of it.
 pub fn open_world(alloc: Global, config: Config) -> Result<(World, PassList), OpenFault>
     ensures sizes { IfOk result (λ opened. IsConfig config × (opened.0.map ≡ config)) }
+    ensures bodies { IfOk result (λ opened. opened.0.map.bodies ≡ config.bodies) }
+    ensures layers { IfOk result (λ opened. opened.0.map.layers ≡ config.layers) }
     ensures passes { IfOk result (λ opened. AreAll opened.0 opened.1.passes.items) }
     ensures idle { IfOk result (λ opened. AreIdle opened.0 opened.1.passes.items) }
     ensures fault { IfErr result (IsFaultOf config) }

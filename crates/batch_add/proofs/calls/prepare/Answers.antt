@@ -1,11 +1,16 @@
-use Rattle.std.specs.Prelude.{List, Result, Ok, Err}
+use Rattle.std.specs.Prelude.{List, Result, Ok, Err, IfOk}
 use Rattle.std.proofs.Common.{ℕ, subst}
 use Rattle.body_ident.specs.Id.{Id}
 use Rattle.core_state.specs.declared.view.View.{View}
+use Rattle.pass_table.specs.Belongings.{belongings_of}
 use Rattle.pass_table.specs.Passes.{view_of}
 use Rattle.batch_add.specs.declared.prepared.Prepared.{Prepared}
 use Rattle.batch_add.specs.declared.answers.PrepareRefused.{PrepareRefused}
 use Rattle.batch_add.specs.declared.answers.PrepareRefused.TheVariants.{Memory, Empty, NoSlot, NoNodes, Gone, Held, AlreadyIn, WrongLayer}
+use Rattle.batch_add.specs.declared.prepared_list.PreparedList.{PreparedList}
+use Rattle.batch_add.specs.Prepared.{IsGood, IsApart}
+use Rattle.batch_add.specs.PreparedLists.{batches_of, AreGood, IsBeside}
+use Rattle.batch_add.proofs.PreparedLists.{all-kept, all-apart}
 use Rattle.batch_add.specs.Preparing.{IsPrepareAnswer, PrepareAnswers}
 use Rattle.batch_add.proofs.Resting.{prepare-rest, prepare-keeps, prepare-others, prepare-good, prepare-apart, prepare-beside}
 use Rattle.batch_add.proofs.calls.prepare.Goals as goal
@@ -53,3 +58,14 @@ returns-in-Ok-clause-keeps g c = prepare-keeps c.args.layer c.args.ids.now (view
 
 pub returns-in-Ok-clause-beside : goal.returns-in-Ok-clause-beside
 returns-in-Ok-clause-beside g c = prepare-beside c.args.layer c.args.ids.now (view_of c.args.pass.now) (view_of c.drive.new.pass) c.drive.result (returns-in-Ok-clause-answers g c)
+
+pub returns-in-Ok-clause-lists : goal.returns-in-Ok-clause-lists
+returns-in-Ok-clause-lists g c list = all-kept (batches_of list) (belongings_of (view_of c.args.pass.now)) (belongings_of (view_of c.drive.new.pass)) (returns-in-Ok-clause-others g c)
+
+listed : (start : View) (answer : Result Prepared PrepareRefused) → IfOk answer (λ batch. (other : Prepared) → IsGood other start → IsApart other batch)
+    → IfOk answer (λ batch. (list : PreparedList) → AreGood list start → IsBeside batch list)
+listed start (Ok batch) apart = λ list. all-apart batch (batches_of list) (belongings_of start) apart
+listed start (Err refused) apart = tt
+
+pub returns-in-Ok-clause-listed : goal.returns-in-Ok-clause-listed
+returns-in-Ok-clause-listed g c = listed (view_of c.args.pass.now) c.drive.result (returns-in-Ok-clause-apart g c)

@@ -10,6 +10,8 @@ use Rattle.batch_add.specs.Drawing.{node_at}
 use Rattle.batch_add.proofs.Drawn.{root-made}
 use Rattle.batch_add.proofs.Attaching.{may-attach, attached, guards_left, alone_left}
 use Rattle.batch_add.proofs.Resting.{attached-rest}
+use Rattle.batch_add.specs.PreparedLists.{batches_of}
+use Rattle.batch_add.proofs.PreparedLists.{all-others}
 use Rattle.batch_add.proofs.finalizing.finalize.Goals as goal
 
 -- there is a root
@@ -64,3 +66,6 @@ returns-clause-alone c =
 
 pub returns-clause-others : goal.returns-clause-others
 returns-clause-others c = (returns-clause-attached c).others
+
+pub returns-clause-lists : goal.returns-clause-lists
+returns-clause-lists c list = all-others c.args.batch (batches_of list) (belongings_of (view_of c.args.pass.now)) (belongings_of (view_of c.step_24.new.pass)) (returns-clause-attached c).others

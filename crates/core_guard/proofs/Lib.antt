@@ -33,5 +33,6 @@ pub mod Settled
 pub mod BodiesAside
 pub mod Still
 pub mod Light
+pub mod Owners
 pub mod Unowned
 pub mod WidenedBound

@@ -48,7 +48,8 @@ use Rattle.core_guard.proofs.ReadersLeft.{TightSide}
 use Rattle.core_guard.proofs.Seats.{each-seats, seat-has}
 use Rattle.core_guard.proofs.Settled.{StandsStill, settled-still}
 use Rattle.core_guard.proofs.BodiesStep.{words-kept, unstored}
-use Rattle.core_guard.proofs.Unowned.{view-once, stands-unowned}
+use Rattle.core_guard.proofs.Owners.{same-view}
+use Rattle.core_guard.proofs.Unowned.{stands-unowned}
 use Rattle.core_guard.proofs.WidenedBound.{WidensBound, as_it_was, is_widened, side-after, side-widens, widened-leaves, TreesSound-widens, WalksLead-widens}
 use Rattle.core_move.proofs.Standing.{IsInLayerAt, in_tree, in_new_tree, in-layer}
 use Rattle.core_move.proofs.MoveSteps.{under-task, under-target, move-removes, move-places, last-after, IsUnderWay, has_begun, begins_now, IsOfMove, above-home, come-up, under_way-placed, is_move_word, same-call, locations, location-back, LocationsHold-moves, stores-placed, LocksAgree-moves, NodesInOnePlace-moves, cover-part, cover-name}
@@ -263,7 +264,7 @@ module _ (operation : Operation) (index : ℕ) (core : Core) (step : Step) (a : 
         | in_tree still layer ↦ absurd (subst IsLive there still)
         | in_new_tree p ↦
             let number_is : p.number ≡ number = (made-once p.number number body.0.layer l (sym p.home ∙ there)).0 in
-            let view_is : p.view ≡ view = view-once core a.formed p.seat seat number p.view view p.at at (p.pass ∙ ap Some number_is) pass in
+            let view_is : p.view ≡ view = same-view core a.formed p.seat seat number p.view view p.at at (p.pass ∙ ap Some number_is) pass in
             let t = subst (λ (x : Option Rebuild). IsSomeAnd x (λ r. IsNoted r index (λ noted. (noted.place ≡ place up.0 up.1) × IsSameBody Was noted))) (ap (λ (v : View). v.rebuild) view_is ∙ is) p.noted in
             let above = above-forth widens core step a nodes nodes none m Was.word Now.word leads m.parent up.0 up.1 node child (stands up.0 up.1 up.2) up.3 in
             let above_n : Above Now.word up.0 up.1 n k = subst (λ (x : ℕ). Above Now.word up.0 up.1 x k) (sym one) (subst (λ (x : ℕ). Above Now.word up.0 up.1 node x) (sym two) above) in (

@@ -33,6 +33,7 @@ pub mod Settled
 pub mod BodiesAside
 pub mod Still
 pub mod Light
+pub mod Owners
 pub mod Unowned
 pub mod WidenedBound
 pub mod CallsAgree

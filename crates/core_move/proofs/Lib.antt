@@ -5,6 +5,8 @@ pub mod Widening
 pub mod WidenSteps
 pub mod Climbing
 pub mod Reboxed
+pub mod BoxMoves
+pub mod MoveReaders
 pub mod SideStores
 pub mod CoverMoved
 pub mod LastStores

@@ -27,6 +27,7 @@ use Rattle.core_state.specs.Encoding.{place}
 use Rattle.core_state.specs.Parts.{call_at, call_by_task, call_on_places, task_on_pool, task_on_cover, update_on_nodes, update_on_cover}
 use Rattle.core_state.specs.Frame.{IsOutside}
 use Rattle.core_state.specs.Scope.{Sight, sight, bare_view}
+use Rattle.core_state.specs.Space.{IsTarget}
 use Rattle.core_state.specs.Updates.{IsPlacing}
 use Rattle.core_state.specs.Bodies.{MovesBody}
 use Rattle.core_state.specs.LocksAgree.{LocksAgree, lock_scope}
@@ -133,6 +134,15 @@ module _ (nodes : Nodes) (s : Sight) (r : Option Rebuild) (c : Call) (p : PassIs
 pub data IsUnderWay (index : ℕ) (before : Call) : List ℕ → List Load → List Store → Type 0 where
   has_begun : (target : List ℕ) → before.task ≡ Moving index target → IsUnderWay index before target before.loads before.stores
   begins_now : before.task ≡ Nothing → IsUnderWay index before [] [] []
+
+pub under-task : (index : ℕ) (c : Call) (target : List ℕ) (loads : List Load) (stored : List Store) → IsUnderWay index c target loads stored → IsMoveTask index c.task
+under-task index c target loads stored (has_begun t e) = subst (IsMoveTask index) (sym e) refl
+under-task index c target loads stored (begins_now e) = subst (IsMoveTask index) (sym e) tt
+
+-- what the task was about to give, the move under way is
+pub under-target : (index : ℕ) (c : Call) (target : List ℕ) (loads : List Load) (stored : List Store) → IsUnderWay index c target loads stored → (i q side : ℕ) → IsTarget c.task i q side → IsTarget (Moving index target) i q side
+under-target index c target loads stored (has_begun t e) i q side h = subst (λ (task : Task). IsTarget task i q side) e h
+under-target index c target loads stored (begins_now e) i q side h = absurd (subst (λ (task : Task). IsTarget task i q side) e h)
 
 module _ (kind : Kind) (core : Core) (step : Step) (a : Acts core step) (index : ℕ) (call : Call) where
   abbrev nodes : Nodes

@@ -1,6 +1,6 @@
 -- Storing a box word in a move keeps all laws: of a body in the broad phase every bound from its locations up contains the new
 -- box, and contained the old one; one that is out stands in no tree.
-use Rattle.std.proofs.Common.{◌≡◌, ◌≢◌, ◌⊎◌, ℕ, ◌+◌, ◌<◌, ◌≤◌, ◌||◌, List, [], ◌∷◌, ◌++◌, Bool, true, false, length, option_map, Option, Some, None, refl, ap, sym, ◌∙◌, subst, inl, inr}
+use Rattle.std.proofs.Common.{◌≡◌, ◌≢◌, ◌⊎◌, ℕ, ◌+◌, ◌<◌, ◌≤◌, ◌||◌, List, [], ◌∷◌, ◌++◌, Bool, true, false, length, option_map, Option, None, refl, ap, sym, ◌∙◌, subst, inl, inr}
 use Rattle.std.specs.Prelude.{slice_index, IsSomeAnd}
 use Rattle.std.proofs.lemmas.Bool.{cases_eq}
 use Rattle.std.proofs.lemmas.Option.{same_Some}
@@ -14,7 +14,7 @@ use Rattle.word_map.specs.declared.name.Name.TheVariants.{BoxWord, Bound, Layer,
 use Rattle.core_state.specs.declared.item.Load.{Load}
 use Rattle.core_state.specs.declared.item.Store.{Store}
 use Rattle.core_state.specs.declared.view.Task.{Task}
-use Rattle.core_state.specs.declared.view.Task.TheVariants.{Nothing, Moving}
+use Rattle.core_state.specs.declared.view.Task.TheVariants.{Moving}
 use Rattle.core_state.specs.declared.view.Call.{Call}
 use Rattle.core_state.specs.declared.view.View.{View}
 use Rattle.core_state.specs.Log.{history}
@@ -23,38 +23,36 @@ use Rattle.core_state.specs.Kind.{Kind, Step, log_after, learned, after_step}
 use Rattle.core_state.specs.Encoding.{Sides, sides_of, layer_of}
 use Rattle.core_state.specs.Guards.{KeepsGuards}
 use Rattle.core_state.specs.Bodies.{is_box_word, has_box_word, MovesBody, IsBetweenBoxes}
-use Rattle.core_state.specs.Moving.{IsSettled, IsKnownLocation, HasClimbed, IsWidenedFor, IsOutToMove, StoresSide, of_target, of_body_out, MayStoreSide, side_stored_by, store_side}
+use Rattle.core_state.specs.Moving.{IsSettled, StoresSide, of_target, of_body_out, MayStoreSide, side_stored_by, store_side}
 use Rattle.core_state.specs.Nodes.{Nodes, Stands, node_in}
 use Rattle.core_state.specs.Parts.{update_on_trees}
 use Rattle.core_state.specs.Scope.{Scope, Sight, sight, bare_view, HasPass}
-use Rattle.core_state.specs.Space.{IsTarget}
 use Rattle.core_state.specs.TreesSound.{TreesSoundIn, tree_scope}
 use Rattle.core_state.specs.LocationsHold.{LocationsHold, location_scope, IsLocation, IsAt, Encloses, box_in}
 use Rattle.core_state.specs.BodiesAgree.{BodiesAgree, body_scope}
 use Rattle.core_state.specs.BodiesCovered.{BodiesCoveredIn, cover_scope}
 use Rattle.core_state.specs.WalksLead.{WalksLeadIn, walk_scope}
-use Rattle.core_state.specs.ReadersCounted.{ClimbsInTrees, reader_scope}
 use Rattle.core_state.specs.Invariants.{Invariants}
-use Rattle.core_state.proofs.Beginning.{body_record, record_body}
+use Rattle.core_state.proofs.Beginning.{record_body}
 use Rattle.core_state.proofs.Frames.{frame, step-same, step-history}
 use Rattle.core_state.proofs.Steps.{word-step, word-step-other, view-step}
 use Rattle.core_guard.proofs.BodiesStep.{phase-kept}
 use Rattle.core_guard.proofs.BodyTouch.{body_of}
-use Rattle.core_guard.proofs.Leaving.{Acts, After, Last, Leaves, sound-leads, leaves-same, scene-plain, held-once, stands-in_tree}
+use Rattle.core_guard.proofs.Leaving.{Acts, After, Last, Leaves, leaves-same, scene-plain, held-once, stands-in_tree}
 use Rattle.core_guard.proofs.PlacesLeft.{SeenUpdate, body_anew}
-use Rattle.core_guard.proofs.PlacesStay.{PassIsPlaced, encloses-forth}
-use Rattle.core_guard.proofs.ReadersLeft.{some-all, Counts, KeepsTargets, climb-forth, layers-kept, gives-kept, ReadersCounted-leaves}
+use Rattle.core_guard.proofs.PlacesStay.{encloses-forth}
+use Rattle.core_guard.proofs.ReadersLeft.{some-all}
 use Rattle.core_guard.proofs.Seats.{seat-has}
-use Rattle.core_guard.proofs.Settled.{StandsStill, settled-still}
+use Rattle.core_guard.proofs.Settled.{settled-still}
 use Rattle.core_guard.proofs.Touched.{IsKept, kept}
 use Rattle.core_guard.proofs.Holders.{keeps, unlocked, IsGuarded, guarded}
 use Rattle.core_guard.proofs.LivesGuarded.{unmade, unmarked}
 use Rattle.core_guard.proofs.Scenes.{none_here}
-use Rattle.core_move.proofs.Climbing.{climbed-encloses}
-use Rattle.core_move.proofs.MoveSteps.{IsUnderWay, has_begun, begins_now, is_move_word, IsOfMove, above-home, under_way-placed, same-call, locations, reader-word, location-back, LocationsHold-moves, stores-placed, LocksAgree-moves, NodesInOnePlace-moves, cover-part}
+use Rattle.core_move.proofs.BoxMoves.{IsReady, ready-in, ready-out, ready-stands, ready-unheld, ready-placed, ready-wide}
+use Rattle.core_move.proofs.MoveSteps.{under-task, under-target, IsUnderWay, has_begun, begins_now, is_move_word, IsOfMove, same-call, location-back, LocationsHold-moves, stores-placed, LocksAgree-moves, NodesInOnePlace-moves, cover-part}
 use Rattle.core_move.proofs.MoveBodies.{only-same, word-kept, BodiesAgree-moves}
-use Rattle.core_move.proofs.Reboxed.{out-nowhere, located-stands, in_or_out-unheld, reboxed}
-use Rattle.core_move.proofs.WidenSteps.{under-task, under-target}
+use Rattle.core_move.proofs.Reboxed.{reboxed}
+use Rattle.core_move.proofs.MoveReaders.{ReadersCounted-moves}
 
 -- ---- box words that are stored
 
@@ -66,57 +64,11 @@ box-last : (stored : List Store) (new : Store) → is_box_word new.name ≡ true
 box-last [] new is = rw is refl
 box-last (first ∷ rest) new is = or-true (is_box_word first.name) (has_box_word (rest ++ new ∷ [])) (box-last rest new is)
 
-abbrev IsNothing : Task → Type 0
-IsNothing Nothing = Unit {0}
-IsNothing _ = ⊥
-
--- what a move has climbed, it has climbed as the one that is under way
-pub under-climbed : (index : ℕ) (c : Call) (target : List ℕ) (loads : List Load) (stored : List Store) → IsUnderWay index c target loads stored → (n k : ℕ) → c.task ≡ Moving index target → HasClimbed c (sides_of target) n k
-    → HasClimbed (record { task = Moving index target; loads = loads; stores = stored }) (sides_of target) n k
-under-climbed index c target loads stored (has_begun t e) n k task h = subst (λ (d : Call). HasClimbed d (sides_of t) n k) (λ i. record { task = e i; loads = c.loads; stores = c.stores }) h
-under-climbed index c target loads stored (begins_now e) n k task h = absurd (subst IsNothing (sym e ∙ task) tt)
-
--- ---- a body that a pass has settled, and that is in the broad phase or out
-
-pub record IsKnownAs (core : Core) (step : Step) (index : ℕ) (target : List ℕ) : Type 0 where
-  pub r : Record
-  pub was : record_at (scene_of core) index ≡ Some r
-  pub phase : ((r.phase ≡ In) × IsWidenedFor step.view index target) ⊎ (r.phase ≡ Out)
-
-module _ (core : Core) (step : Step) (a : Acts core step) (index : ℕ) (settled : IsSettled step.view index) where
-  pub known : StandsStill core step.view index
-  known = settled-still core step a index settled
-
-  pub known_in : (target : List ℕ) → IsWidenedFor step.view index target → IsKnownAs core step index target
-  known_in target w =
-      let t = body_record (record_at (scene_of core) index) (λ r. r.phase ≡ In) (subst (λ (x : Option Record). IsSomeAnd x (λ r. r.phase ≡ In)) (sym known.body) w.inside) in
-      record { r = t.0; was = t.1; phase = inl (t.2, w) }
-
-  pub known_out : (target : List ℕ) → IsOutToMove step.view index → (k : IsKnownAs core step index target) × (k.r.phase ≡ Out)
-  known_out target w =
-      let t = body_record (record_at (scene_of core) index) (λ r. r.phase ≡ Out) (subst (λ (x : Option Record). IsSomeAnd x (λ r. r.phase ≡ Out)) (sym known.body) w.outside) in
-      (record { r = t.0; was = t.1; phase = inr t.2 }, t.2)
-
-  pub location-known : (n k : ℕ) → IsLocation (sight location_scope core) index n k → IsKnownLocation step.view index n k
-  location-known n k h = (h.0, elim (h.1) [ inl e ↦ inl (sym known.loc_a ∙ e) | inr e ↦ inr (sym known.loc_b ∙ e) ])
-
-pub in_or_out : {core : Core} {step : Step} {index : ℕ} {target : List ℕ} (k : IsKnownAs core step index target) → (k.r.phase ≡ In) ⊎ (k.r.phase ≡ Out)
-in_or_out k = elim (k.phase) [ inl t ↦ inl t.0 | inr out ↦ inr out ]
-
 -- ---- the step goes on with a move, or begins one
 
 module _ (core : Core) (step : Step) (a : Acts core step) (index side : ℕ) (names : step.name ≡ BoxWord index side) (settled : IsSettled step.view index) (stores : StoresSide step.view index side step.first) where
   abbrev new : Store
   new = record { name = BoxWord index side; value = step.first }
-
-  record Goes : Type 0 where
-    target : List ℕ
-    loads : List Load
-    stored : List Store
-    under : IsUnderWay index step.view.call target loads stored
-    body : IsKnownAs core step index target
-    value : (step.first ≡ slice_index target side) ⊎ (body.r.phase ≡ Out)
-    view : Last store_side core step ≡ record step.view { call = record { task = Moving index target; loads = loads; stores = stored ++ new ∷ [] }; known = log_after store_side core step; joined = None }
 
   abbrev after-task : Task → Name → View
   after-task task name = record (side_stored_by task (learned core step) name step.first) {
@@ -129,42 +81,20 @@ module _ (core : Core) (step : Step) (a : Acts core step) (index side : ℕ) (na
   abbrev after-call : Task → List Load → List Store → View
   after-call task loads stored = record step.view { call = record { task = task; loads = loads; stores = stored ++ new ∷ [] }; known = log_after store_side core step; joined = None }
 
-  goes : Goes
-  goes = go stores
-    where
-      go : StoresSide step.view index side step.first → Goes
-      go (of_target target w value) = record {
-        target = target;
-        loads = step.view.call.loads;
-        stored = step.view.call.stores;
-        under = has_begun target w.task;
-        body = known_in core step a index settled target w;
-        value = inl value;
-        view = (λ i. after-task (w.task i) (names i)) ∙ (λ i. after-call (w.task i) step.view.call.loads step.view.call.stores);
-      }
-      go (of_body_out w) = elim (w.task) [
-        | inl idle ↦ record {
-          target = [];
-          loads = [];
-          stored = [];
-          under = begins_now idle;
-          body = (known_out core step a index settled [] w).0;
-          value = inr (known_out core step a index settled [] w).1;
-          view = λ i. after-task (idle i) (names i);
-        }
-        | inr moves ↦ record {
-          target = [];
-          loads = step.view.call.loads;
-          stored = step.view.call.stores;
-          under = has_begun [] moves;
-          body = (known_out core step a index settled [] w).0;
-          value = inr (known_out core step a index settled [] w).1;
-          view = (λ i. after-task (moves i) (names i)) ∙ (λ i. after-call (moves i) step.view.call.loads step.view.call.stores);
-        }
-      ]
+  stored-view : (target : List ℕ) (loads : List Load) (stored : List Store) → IsUnderWay index step.view.call target loads stored → Last store_side core step ≡ after-call (Moving index target) loads stored
+  stored-view target loads stored (has_begun t e) = (λ i. after-task (e i) (names i)) ∙ (λ i. after-call (e i) step.view.call.loads step.view.call.stores)
+  stored-view target loads stored (begins_now e) = λ i. after-task (e i) (names i)
 
-  g : Goes
-  g = goes
+  -- of a body in the broad phase the word is a side of the target
+  ready : (y : IsReady core step a index settled) × ((step.first ≡ slice_index y.target side) ⊎ (y.r.phase ≡ Out))
+  ready = go stores
+    where
+      go : StoresSide step.view index side step.first → (y : IsReady core step a index settled) × ((step.first ≡ slice_index y.target side) ⊎ (y.r.phase ≡ Out))
+      go (of_target target w value) = let t = ready-in core step a index settled target w in (t.0, inl (value ∙ ap (λ (l : List ℕ). slice_index l side) (sym t.1)))
+      go (of_body_out w) = let t = ready-out core step a index settled w in (t.0, inr t.1)
+
+  abbrev y : IsReady core step a index settled
+  y = ready.0
 
   abbrev nodes : Nodes
   nodes = a.laws.nodes
@@ -176,22 +106,22 @@ module _ (core : Core) (step : Step) (a : Acts core step) (index side : ℕ) (na
   Is = sight location_scope (After store_side core step)
 
   abbrev r : Record
-  r = g.body.r
+  r = y.r
 
   abbrev One : Call
-  One = record { task = Moving index g.target; loads = g.loads; stores = g.stored }
+  One = record { task = Moving index y.target; loads = y.loads; stores = y.stored }
 
   abbrev Two : Call
-  Two = record { task = Moving index g.target; loads = g.loads; stores = g.stored ++ new ∷ [] }
+  Two = record { task = Moving index y.target; loads = y.loads; stores = y.stored ++ new ∷ [] }
 
   o : IsOfMove store_side core step a index Two
   o = record {
     stripe = settled.stripe;
     word = ap is_move_word names;
     body = λ i e. same_Some i index (sym e ∙ ap body_of names);
-    before = under-task index step.view.call g.target g.loads g.stored g.under;
+    before = under-task index step.view.call y.target y.loads y.stored y.under;
     after = refl;
-    view = g.view;
+    view = stored-view y.target y.loads y.stored y.under;
   }
 
   same : (i : ℕ) → record_at (scene_of (After store_side core step)) i ≡ record_at (scene_of core) i
@@ -204,31 +134,17 @@ module _ (core : Core) (step : Step) (a : Acts core step) (index side : ℕ) (na
   none n = ⊥
 
   m : Leaves store_side core step nodes nodes none
-  m = leaves-same store_side core step nodes (ap node_in names) (ap layer_of names) (ap (λ (v : View). v.rebuild) g.view)
+  m = leaves-same store_side core step nodes (ap node_in names) (ap layer_of names) (ap (λ (v : View). v.rebuild) o.view)
 
   stands : (n k : ℕ) → IsLocation Was index n k → Stands (nodes.home n)
-  stands = located-stands store_side core step a index Two o r g.body.was (in_or_out g.body)
-
-  nowhere : r.phase ≡ Out → (n k : ℕ) → ¬ IsLocation Was index n k
-  nowhere = out-nowhere store_side core step a index Two o r g.body.was
+  stands = ready-stands core step a index settled store_side Two o y
 
   unheld : HasBody (scene_of core) index (λ q. q.phase ≢ Held)
-  unheld = record_body (record_at (scene_of core) index) (λ q. q.phase ≢ Held) r g.body.was (in_or_out-unheld store_side core step a index Two o r g.body.was (in_or_out g.body))
+  unheld = record_body (record_at (scene_of core) index) (λ q. q.phase ≢ Held) r y.was (ready-unheld core step a index settled store_side Two o y)
 
-  own : PassIsPlaced nodes Was One (SeenUpdate store_side core step)
-  own = under_way-placed store_side core step a index Two g.target g.loads g.stored g.under unheld stands
+  wide : (n k : ℕ) → IsLocation Was index n k → (length y.target ≡ 6) × Encloses Was n k (sides_of y.target)
+  wide = ready-wide core step a index settled store_side Two o y
 
-  -- every bound from a location up contains the new box, which is whole
-  wide : (n k : ℕ) → IsLocation Was index n k → (length g.target ≡ 6) × Encloses Was n k (sides_of g.target)
-  wide n k location =
-      elim (g.body.phase) [
-        | inl t ↦ (
-          t.1.six,
-          climbed-encloses nodes Was (SeenUpdate store_side core step) One own (sides_of g.target) n k
-              (under-climbed index step.view.call g.target g.loads g.stored g.under n k (t.1.task) (t.1.climbed n k (location-known core step a index settled n k location))),
-        )
-        | inr out ↦ absurd (nowhere out n k location)
-      ]
   -- ---- locations
 
   -- a box word is as it was, or the new one
@@ -248,41 +164,41 @@ module _ (core : Core) (step : Step) (a : Acts core step) (index side : ℕ) (na
   at-now : r.phase ≡ In → (n k : ℕ) → IsLocation Is index n k → IsAt nodes Is index r n k
   at-now inside n k location =
       let old = location-back store_side core step a index Two o m index n k location in
-      let was = a.laws.locations.at index r n k g.body.was inside old in
+      let was = a.laws.locations.at index r n k y.was inside old in
       let forth : (box : Sides) → Encloses Was n k box → Encloses Is n k box = λ box h. encloses-forth store_side core step a nodes none m n k box was.stands h in
       let before = forth (box_in Was index) was.box_words in
-      let after = forth (sides_of g.target) (wide n k old).1 in
+      let after = forth (sides_of y.target) (wide n k old).1 in
       record {
         stands = was.stands;
         entry = m.child n k (stands-in_tree (nodes.home n) was.stands) ∙ was.entry;
         bounds = forth (sides_of (words_of r.bounds)) was.bounds;
-        box_words = λ x y up q low.
-            let one = before x y up q low in
-            let two = after x y up q low in (
-              elim (word-now q) [ inl e ↦ subst (λ (v : ℕ). Is.word (Bound x y q) ≤ v) (sym e) one.0 | inr t ↦ subst (λ (v : ℕ). Is.word (Bound x y q) ≤ v) (sym (t.1 ∙ (value inside ∙ ap (sides_of g.target) (sym t.0)))) two.0 ],
-              elim (word-now (3 + q)) [ inl e ↦ subst (λ (v : ℕ). v ≤ Is.word (Bound x y (3 + q))) (sym e) one.1 | inr t ↦ subst (λ (v : ℕ). v ≤ Is.word (Bound x y (3 + q))) (sym (t.1 ∙ (value inside ∙ ap (sides_of g.target) (sym t.0)))) two.1 ],
+        box_words = λ b j up q low.
+            let one = before b j up q low in
+            let two = after b j up q low in (
+              elim (word-now q) [ inl e ↦ subst (λ (v : ℕ). Is.word (Bound b j q) ≤ v) (sym e) one.0 | inr t ↦ subst (λ (v : ℕ). Is.word (Bound b j q) ≤ v) (sym (t.1 ∙ (value inside ∙ ap (sides_of y.target) (sym t.0)))) two.0 ],
+              elim (word-now (3 + q)) [ inl e ↦ subst (λ (v : ℕ). v ≤ Is.word (Bound b j (3 + q))) (sym e) one.1 | inr t ↦ subst (λ (v : ℕ). v ≤ Is.word (Bound b j (3 + q))) (sym (t.1 ∙ (value inside ∙ ap (sides_of y.target) (sym t.0)))) two.1 ],
             );
       }
     where
       out_in : Out ≡ In → ⊥
       out_in e = absurd cc
 
-      value : r.phase ≡ In → step.first ≡ slice_index g.target side
-      value inside = elim (g.value) [ inl e ↦ e | inr out ↦ absurd (out_in (sym out ∙ inside)) ]
+      value : r.phase ≡ In → step.first ≡ slice_index y.target side
+      value inside = elim (ready.1) [ inl e ↦ e | inr out ↦ absurd (out_in (sym out ∙ inside)) ]
 
   LocationsHold-stores : LocationsHold nodes (After store_side core step)
   LocationsHold-stores =
       LocationsHold-moves store_side core step a index Two o m (λ i apart. same i)
-      (body_anew (reboxed store_side core step a index Two o r g.body.was m r.bounds (same index ∙ g.body.was) at-now))
-      (stores-placed store_side core step a index Two o m (SeenUpdate store_side core step) g.target g.target g.loads g.stored new own (record {
+      (body_anew (reboxed store_side core step a index Two o r y.was m r.bounds (same index ∙ y.was) at-now))
+      (stores-placed store_side core step a index Two o m (SeenUpdate store_side core step) y.target y.target y.loads y.stored new (ready-placed core step a index settled store_side Two o y) (record {
         unheld = subst (λ (x : Option Record). IsSomeAnd x (λ q. q.phase ≢ Held)) (sym (same index)) unheld;
         widened = λ i n k box gives has location.
             let here : IsLocation Is index n k = subst (λ (j : ℕ). IsLocation Is j n k) (sym gives.0) location in
             let old = location-back store_side core step a index Two o m index n k here in
             let t = wide n k old in
-            (t.0, subst (λ (b : Sides). Encloses Is n k b) (sym gives.1) (encloses-forth store_side core step a nodes none m n k (sides_of g.target) (stands n k old) t.1));
+            (t.0, subst (λ (b : Sides). Encloses Is n k b) (sym gives.1) (encloses-forth store_side core step a nodes none m n k (sides_of y.target) (stands n k old) t.1));
         wide = λ n k q value e. absurd (no_side (ap (λ (x : Store). x.name) e));
-        way = λ x y q value e. absurd (no_side (ap (λ (z : Store). z.name) e));
+        way = λ b j q value e. absurd (no_side (ap (λ (z : Store). z.name) e));
       }))
     where
       no_side : {n k q : ℕ} → BoxWord index side ≢ Bound n k q
@@ -314,34 +230,8 @@ module _ (core : Core) (step : Step) (a : Acts core step) (index side : ℕ) (na
         view = Last store_side core step;
         at = view-step store_side core step a.at;
         pass = a.pass;
-        holds = subst (λ (c : Call). MovesBody c.task index × (has_box_word c.stores ≡ true)) (sym (same-call store_side core step a index Two o)) (refl, box-last g.stored new refl);
+        holds = subst (λ (c : Call). MovesBody c.task index × (has_box_word c.stores ≡ true)) (sym (same-call store_side core step a index Two o)) (refl, box-last y.stored new refl);
       })
-
-  -- ---- readers
-
-  targets : KeepsTargets store_side core step a nodes none m
-  targets = record {
-    targets = λ i q value target.
-        subst (λ (c : Call). IsTarget c.task i q value) (sym (same-call store_side core step a index Two o)) (under-target index step.view.call g.target g.loads g.stored g.under i q value target);
-    bodies = λ seat number view at pass i handled generation l is. subst (λ (x : Option Record). IsSomeAnd x (λ q. (q.generation ≡ generation) × (q.layer ≡ l))) (sym (same i)) is;
-  }
-
-  counts : Counts store_side core step a nodes none m
-  counts = record {
-    places = λ seat number view apart at pass i handled. locations store_side core step a index Two o i;
-    climbs = subst (λ (c : Call). ClimbsInTrees nodes (sight reader_scope (After store_side core step)) c.task) (sym (same-call store_side core step a index Two o))
-        (climb-forth store_side core step a nodes none m index (locations store_side core step a index Two o index).0 (locations store_side core step a index Two o index).1
-        (λ n k x y place above.
-        let leads = sound-leads nodes (sight tree_scope core) a.laws.trees in
-        let t = stands n k place in
-        subst Stands (sym (above-home nodes (sight reader_scope core).word (record { up = leads.up; down = leads.down }) n k x y t above)) t));
-    layers = layers-kept store_side core step a nodes none m targets;
-    gives = gives-kept store_side core step a nodes none m targets;
-    live = λ n k q l live layer. inl (other (Bound n k q) (λ j e. absurd cc));
-    fresh = λ number view among pass. some-all view.rebuild _ (λ u n k q l home. inl (other (Bound n k q) (λ j e. absurd cc)));
-    new = λ n k l never. absurd never;
-    unmade = λ n number l never. absurd never;
-  }
 
   -- ---- all of them
 
@@ -355,11 +245,17 @@ module _ (core : Core) (step : Step) (a : Acts core step) (index side : ℕ) (na
         locks = LocksAgree-moves store_side core step a index Two o;
         bodies = BodiesAgree-stores;
         places = NodesInOnePlace-moves store_side core step a index Two o;
-        trees = scoped tree_scope refl (λ i. record (bare_view step.number) { written = (g.view i).written; rebuild = option_map update_on_trees (g.view i).rebuild }) (TreesSoundIn nodes) a.laws.trees;
+        trees = scoped tree_scope refl (λ i. record (bare_view step.number) { written = (o.view i).written; rebuild = option_map update_on_trees (o.view i).rebuild }) (TreesSoundIn nodes) a.laws.trees;
         locations = LocationsHold-stores;
         cover = scoped cover_scope refl (cover-part store_side core step a index Two o) (BodiesCoveredIn nodes) a.laws.cover;
-        walks = scoped walk_scope refl (λ i. record (bare_view step.number) { walk = (g.view i).walk }) WalksLeadIn a.laws.walks;
-        readers = ReadersCounted-leaves store_side core step a nodes none m counts (record { reader = reader-word store_side core step a index Two o; walk = ap (λ (v : View). v.walk) g.view });
+        walks = scoped walk_scope refl (λ i. record (bare_view step.number) { walk = (o.view i).walk }) WalksLeadIn a.laws.walks;
+        readers = ReadersCounted-moves store_side core step a index Two o m (record {
+          same = same;
+          stands = stands;
+          targets = λ i q value target. under-target index step.view.call y.target y.loads y.stored y.under i q value target;
+          live = λ n k q l live layer. inl (other (Bound n k q) (λ j e. absurd cc));
+          fresh = λ number view among pass. some-all view.rebuild _ (λ u n k q l home. inl (other (Bound n k q) (λ j e. absurd cc)));
+        });
       }
 
 -- ---- kind 37

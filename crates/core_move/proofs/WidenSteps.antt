@@ -34,7 +34,7 @@ use Rattle.core_state.specs.TreesSound.{BoundsOnlyWiden, tree_scope}
 use Rattle.core_state.specs.LocationsHold.{LocationsHold, location_scope, IsLocation, Encloses}
 use Rattle.core_state.specs.BodiesAgree.{BodiesAgree}
 use Rattle.core_state.specs.BodiesCovered.{BodiesCoveredIn, cover_scope}
-use Rattle.core_state.specs.ReadersCounted.{ReadersCounted, ClimbsInTrees, reader_scope}
+use Rattle.core_state.specs.ReadersCounted.{ReadersCounted, reader_scope}
 use Rattle.core_state.specs.Invariants.{Invariants}
 use Rattle.core_state.proofs.Beginning.{body_record, record_body}
 use Rattle.core_state.proofs.Frames.{frame, step-same, step-history}
@@ -44,14 +44,16 @@ use Rattle.core_guard.proofs.Touched.{IsKept, kept}
 use Rattle.core_guard.proofs.Leaving.{Acts, After, Last, Stays, as_before-same, Leaves, LeadsWithin, sound-leads, scene-plain, above-forth, held-once}
 use Rattle.core_guard.proofs.PlacesLeft.{SeenUpdate, body_stays}
 use Rattle.core_guard.proofs.PlacesStay.{PassIsPlaced, encloses-forth}
-use Rattle.core_guard.proofs.ReadersLeft.{Counts, TightSide, KeepsTargets, climb-forth, layers-kept, gives-kept, ReadersCounted-leaves}
+use Rattle.core_guard.proofs.ReadersLeft.{TightSide}
 use Rattle.core_guard.proofs.Seats.{each-seats, seat-has}
 use Rattle.core_guard.proofs.Settled.{StandsStill, settled-still}
 use Rattle.core_guard.proofs.BodiesStep.{words-kept, unstored}
-use Rattle.core_guard.proofs.Unowned.{view-once, stands-unowned}
+use Rattle.core_guard.proofs.Owners.{same-view}
+use Rattle.core_guard.proofs.Unowned.{stands-unowned}
 use Rattle.core_guard.proofs.WidenedBound.{WidensBound, as_it_was, is_widened, side-after, side-widens, widened-leaves, TreesSound-widens, WalksLead-widens}
 use Rattle.core_move.proofs.Standing.{IsInLayerAt, in_tree, in_new_tree, in-layer}
-use Rattle.core_move.proofs.MoveSteps.{move-removes, move-places, last-after, IsUnderWay, has_begun, begins_now, IsMoveTask, IsOfMove, above-home, come-up, under_way-placed, is_move_word, same-call, locations, reader-word, location-back, LocationsHold-moves, stores-placed, LocksAgree-moves, NodesInOnePlace-moves, cover-part, cover-name}
+use Rattle.core_move.proofs.MoveSteps.{under-task, under-target, move-removes, move-places, last-after, IsUnderWay, has_begun, begins_now, IsOfMove, above-home, come-up, under_way-placed, is_move_word, same-call, locations, location-back, LocationsHold-moves, stores-placed, LocksAgree-moves, NodesInOnePlace-moves, cover-part, cover-name}
+use Rattle.core_move.proofs.MoveReaders.{ReadersCounted-moves}
 use Rattle.core_move.proofs.MoveBodies.{only-same, word-kept, BodiesAgree-moves}
 use Rattle.core_move.proofs.Widening.{IsWider, min-wider, max-wider, widening, new_store, Goes, goes, box-more}
 use Rattle.core_guard.proofs.BodyTouch.{body_of}
@@ -74,23 +76,14 @@ made-once p q k l e = (ap pass_in e, ap layer_in e)
     layer_in (made x y) = y
     layer_in _ = 0
 
-pub under-task : (index : ℕ) (c : Call) (target : List ℕ) (loads : List Load) (stored : List Store) → IsUnderWay index c target loads stored → IsMoveTask index c.task
-under-task index c target loads stored (has_begun t e) = subst (IsMoveTask index) (sym e) refl
-under-task index c target loads stored (begins_now e) = subst (IsMoveTask index) (sym e) tt
-
--- what the task was about to give, the move under way is
-pub under-target : (index : ℕ) (c : Call) (target : List ℕ) (loads : List Load) (stored : List Store) → IsUnderWay index c target loads stored → (i q side : ℕ) → IsTarget c.task i q side → IsTarget (Moving index target) i q side
-under-target index c target loads stored (has_begun t e) i q side h = subst (λ (task : Task). IsTarget task i q side) e h
-under-target index c target loads stored (begins_now e) i q side h = absurd (subst (λ (task : Task). IsTarget task i q side) e h)
-
 under-boxes : (index : ℕ) (c : Call) (target : List ℕ) (loads : List Load) (stored : List Store) → IsUnderWay index c target loads stored → MovesBody c.task index → has_box_word c.stores ≡ true → has_box_word stored ≡ true
 under-boxes index c target loads stored (has_begun t e) moves has = has
 under-boxes index c target loads stored (begins_now e) moves has = absurd (subst (λ (task : Task). MovesBody task index) e moves)
 
 module _ (operation : Operation) (index : ℕ) (core : Core) (step : Step) (a : Acts core step) (node child side : ℕ) (names : step.name ≡ Bound node child side) (may : MayWiden index step.view node child side step.first)
     (wider : IsWider operation side (found_by core step) step.first step.second) where
-  abbrev k0 : Kind
-  k0 = widening operation index
+  abbrev widens : Kind
+  widens = widening operation index
 
   abbrev nodes : Nodes
   nodes = a.laws.nodes
@@ -99,7 +92,7 @@ module _ (operation : Operation) (index : ℕ) (core : Core) (step : Step) (a : 
   Was = sight location_scope core
 
   abbrev Is : Sight
-  Is = sight location_scope (After k0 core step)
+  Is = sight location_scope (After widens core step)
 
   below : side < 6
   below = (subst (IsName core.config) names a.named).2
@@ -134,17 +127,17 @@ module _ (operation : Operation) (index : ℕ) (core : Core) (step : Step) (a : 
   abbrev Two : Call
   Two = record { task = Moving index g.next; loads = g.loads; stores = g.stored ++ new_store operation index core step ∷ [] }
 
-  own : PassIsPlaced nodes Was One (SeenUpdate k0 core step)
-  own = under_way-placed k0 core step a index Two g.target g.loads g.stored g.under unheld stands
+  own : PassIsPlaced nodes Was One (SeenUpdate widens core step)
+  own = under_way-placed widens core step a index Two g.target g.loads g.stored g.under unheld stands
 
   -- the place is above a location
   up : (n : ℕ) × (k : ℕ) × IsLocation Was index n k × Above Was.word n k node child
-  up = come-up nodes Was (SeenUpdate k0 core step) One own (IsKnownLocation step.view index) location node child g.come
+  up = come-up nodes Was (SeenUpdate widens core step) One own (IsKnownLocation step.view index) location node child g.come
 
   home : nodes.home node ≡ nodes.home up.0
   home = above-home nodes Was.word leads up.0 up.1 node child (stands up.0 up.1 up.2) up.3
 
-  w : WidensBound k0 core step a node child side
+  w : WidensBound widens core step a node child side
   w = record {
     names = names;
     stands = subst Stands (sym home) (stands up.0 up.1 up.2);
@@ -158,10 +151,10 @@ module _ (operation : Operation) (index : ℕ) (core : Core) (step : Step) (a : 
   abbrev none : ℕ → Type 0
   none n = ⊥
 
-  m : Leaves k0 core step nodes nodes none
-  m = widened-leaves k0 core step a node child side w
+  m : Leaves widens core step nodes nodes none
+  m = widened-leaves widens core step a node child side w
 
-  o : IsOfMove k0 core step a index Two
+  o : IsOfMove widens core step a index Two
   o = record {
     stripe = may.settled.stripe;
     word = ap is_move_word names;
@@ -171,53 +164,52 @@ module _ (operation : Operation) (index : ℕ) (core : Core) (step : Step) (a : 
     view = g.view;
   }
 
-  same : (i : ℕ) → record_at (scene_of (After k0 core step)) i ≡ record_at (scene_of core) i
-  same i = scene-plain k0 core step (λ value. refl) i
+  same : (i : ℕ) → record_at (scene_of (After widens core step)) i ≡ record_at (scene_of core) i
+  same i = scene-plain widens core step (λ value. refl) i
 
   no_box : has_box_word (g.stored ++ new_store operation index core step ∷ []) ≡ has_box_word g.stored
   no_box = box-more g.stored (new_store operation index core step) (ap is_box_word names)
 
   -- all bodies stay
-  stays : (i : ℕ) → Stays k0 core step i
+  stays : (i : ℕ) → Stays widens core step i
   stays i = record {
     body = as_before-same _ _ (same i);
-    loc_a = (locations k0 core step a index Two o i).0;
-    loc_b = (locations k0 core step a index Two o i).1;
+    loc_a = (locations widens core step a index Two o i).0;
+    loc_b = (locations widens core step a index Two o i).1;
     phase = plain (Phase i) (λ n k q e. absurd cc);
     box = λ q. plain (BoxWord i q) (λ n k p e. absurd cc);
     state = plain (State i) (λ n k q e. absurd cc);
     layer = plain (Layer i) (λ n k q e. absurd cc);
-    removes = (λ h. absurd (move-removes index i step.view.call.task o.before h), λ h. absurd (move-removes index i (Last k0 core step).call.task (last-after k0 core step a index Two o) h));
-    places = (λ h. absurd (move-places index i step.view.call.task o.before h), λ h. absurd (move-places index i (Last k0 core step).call.task (last-after k0 core step a index Two o) h));
+    removes = (λ h. absurd (move-removes index i step.view.call.task o.before h), λ h. absurd (move-removes index i (Last widens core step).call.task (last-after widens core step a index Two o) h));
+    places = (λ h. absurd (move-places index i step.view.call.task o.before h), λ h. absurd (move-places index i (Last widens core step).call.task (last-after widens core step a index Two o) h));
   }
     where
-      plain : (name : Name) → ((n k q : ℕ) → name ≢ Bound n k q) → word_of (After k0 core step) name ≡ word_of core name
-      plain name other = word-step-other k0 core step name (λ e. other node child side (e ∙ names))
+      plain : (name : Name) → ((n k q : ℕ) → name ≢ Bound n k q) → word_of (After widens core step) name ≡ word_of core name
+      plain name other = word-step-other widens core step name (λ e. other node child side (e ∙ names))
 
   -- ---- locations
 
-  now : Is.word (Bound node child side) ≡ left_by k0 core step
-  now = ap (λ (n : Name). word_of (After k0 core step) n) (sym names) ∙ word-step k0 core step
+  now : Is.word (Bound node child side) ≡ left_by widens core step
+  now = ap (λ (n : Name). word_of (After widens core step) n) (sym names) ∙ word-step widens core step
 
-  LocationsHold-widens : LocationsHold nodes (After k0 core step)
+  LocationsHold-widens : LocationsHold nodes (After widens core step)
   LocationsHold-widens =
-      LocationsHold-moves k0 core step a index Two o m (λ i apart. same i) (body_stays (stays index))
-      (stores-placed k0 core step a index Two o m (SeenUpdate k0 core step) g.target g.next g.loads g.stored (new_store operation index core step) own (record {
+      LocationsHold-moves widens core step a index Two o m (λ i apart. same i) (body_stays (stays index))
+      (stores-placed widens core step a index Two o m (SeenUpdate widens core step) g.target g.next g.loads g.stored (new_store operation index core step) own (record {
         unheld = subst (λ (x : Option Record). IsSomeAnd x (λ q. q.phase ≢ Held)) (sym (same index)) unheld;
         widened = λ i n k box gives has place.
-            let old = location-back k0 core step a index Two o m i n k place in
+            let old = location-back widens core step a index Two o m i n k place in
             let was = own.widened i n k (sides_of g.target) (gives.0, refl) (sym no_box ∙ has) old in
-            let whole = g.grown.whole was.0 in
-            (
+            let whole = g.grown.whole was.0 in (
               ap length whole ∙ was.0,
               subst (λ (box : Sides). Encloses Is n k box) (ap sides_of (sym whole) ∙ sym gives.1)
-                  (encloses-forth k0 core step a nodes none m n k (sides_of g.target) (stands n k (subst (λ (j : ℕ). IsLocation Was j n k) (sym gives.0) old)) was.1),
+                  (encloses-forth widens core step a nodes none m n k (sides_of g.target) (stands n k (subst (λ (j : ℕ). IsLocation Was j n k) (sym gives.0) old)) was.1),
             );
         wide = λ n k q value e.
             let name : Bound node child side ≡ Bound n k q = sym names ∙ ap (λ (x : Store). x.name) e in
             let first : step.first ≡ value = ap (λ (x : Store). x.value) e in
             let q0 : side ≡ q = ap side_in name in
-            let word : Is.word (Bound n k q) ≡ left_by k0 core step = ap Is.word (sym name) ∙ now in
+            let word : Is.word (Bound n k q) ≡ left_by widens core step = ap Is.word (sym name) ∙ now in
             (λ low. let t = wider.operand.0 (omega arith) in omega arith, λ high. let t = wider.operand.1 (omega arith) in omega arith);
         way = λ x y q value e.
             let name : Bound node child side ≡ Bound x y q = sym names ∙ ap (λ (z : Store). z.name) e in
@@ -235,27 +227,18 @@ module _ (operation : Operation) (index : ℕ) (core : Core) (step : Step) (a : 
   -- ---- readers
 
   abbrev Now : Sight
-  Now = sight reader_scope (After k0 core step)
-
-  targets : KeepsTargets k0 core step a nodes none m
-  targets = record {
-    targets = λ i q value target.
-        let t = under-target index step.view.call g.target g.loads g.stored g.under i q value target in
-        let old = g.grown.old q t.1 in
-        subst (λ (c : Call). IsTarget c.task i q value) (sym (same-call k0 core step a index Two o)) (t.0, old.0, old.1 ∙ t.2);
-    bodies = λ seat number view at pass i handled generation l is. subst (λ (x : Option Record). IsSomeAnd x (λ r. (r.generation ≡ generation) × (r.layer ≡ l))) (sym (same i)) is;
-  }
+  Now = sight reader_scope (After widens core step)
 
   -- the side is one of the box that the body is to get
   coming : IsComing Now index side step.first
   coming = (
     step.number,
-    seat-has reader_scope (λ k v. refl) (After k0 core step) step.number (λ v. IsTarget v.call.task index side step.first) (record {
+    seat-has reader_scope (λ k v. refl) (After widens core step) step.number (λ v. IsTarget v.call.task index side step.first) (record {
       seat = step.seat;
-      view = Last k0 core step;
-      at = view-step k0 core step a.at;
+      view = Last widens core step;
+      at = view-step widens core step a.at;
       pass = a.pass;
-      holds = subst (λ (c : Call). IsTarget (task_at_place c.task) index side step.first) (sym (same-call k0 core step a index Two o)) (refl, g.grown.has.0, g.grown.has.1);
+      holds = subst (λ (c : Call). IsTarget (task_at_place c.task) index side step.first) (sym (same-call widens core step a index Two o)) (refl, g.grown.has.0, g.grown.has.1);
     }),
   )
 
@@ -270,7 +253,7 @@ module _ (operation : Operation) (index : ℕ) (core : Core) (step : Step) (a : 
         | in_tree still is ↦ layer-once body.0.layer l (nodes.home up.0) still is (subst (IsOfLayer l) there layer)
         | in_new_tree p ↦ absurd (subst IsLive (there ∙ p.home) live)
       ] in
-      inr (index, coming, record_body (record_at (scene_of (After k0 core step)) index) (λ r. r.layer ≡ l) body.0 (same index ∙ body.1) of)
+      inr (index, coming, record_body (record_at (scene_of (After widens core step)) index) (λ r. r.layer ≡ l) body.0 (same index ∙ body.1) of)
 
   -- and in a new tree for the body that is planned below
   counts-made : (seat number : ℕ) (view : View) → IsViewAt core seat view → IsPass view number → (r : Rebuild) → view.rebuild ≡ Some r → (n k q l : ℕ) → nodes.home n ≡ made number l → n ≡ node → k ≡ child → q ≡ side
@@ -281,9 +264,9 @@ module _ (operation : Operation) (index : ℕ) (core : Core) (step : Step) (a : 
         | in_tree still layer ↦ absurd (subst IsLive there still)
         | in_new_tree p ↦
             let number_is : p.number ≡ number = (made-once p.number number body.0.layer l (sym p.home ∙ there)).0 in
-            let view_is : p.view ≡ view = view-once core a.formed p.seat seat number p.view view p.at at (p.pass ∙ ap Some number_is) pass in
+            let view_is : p.view ≡ view = same-view core a.formed p.seat seat number p.view view p.at at (p.pass ∙ ap Some number_is) pass in
             let t = subst (λ (x : Option Rebuild). IsSomeAnd x (λ r. IsNoted r index (λ noted. (noted.place ≡ place up.0 up.1) × IsSameBody Was noted))) (ap (λ (v : View). v.rebuild) view_is ∙ is) p.noted in
-            let above = above-forth k0 core step a nodes nodes none m Was.word Now.word leads m.parent up.0 up.1 node child (stands up.0 up.1 up.2) up.3 in
+            let above = above-forth widens core step a nodes nodes none m Was.word Now.word leads m.parent up.0 up.1 node child (stands up.0 up.1 up.2) up.3 in
             let above_n : Above Now.word up.0 up.1 n k = subst (λ (x : ℕ). Above Now.word up.0 up.1 x k) (sym one) (subst (λ (x : ℕ). Above Now.word up.0 up.1 node x) (sym two) above) in (
               t.0,
               t.1,
@@ -295,16 +278,16 @@ module _ (operation : Operation) (index : ℕ) (core : Core) (step : Step) (a : 
             )
       ]
 
-  counts : Counts k0 core step a nodes none m
-  counts = record {
-    places = λ seat number view apart at pass i handled. locations k0 core step a index Two o i;
-    climbs = subst (λ (c : Call). ClimbsInTrees nodes Now c.task) (sym (same-call k0 core step a index Two o))
-        (climb-forth k0 core step a nodes none m index (locations k0 core step a index Two o index).0 (locations k0 core step a index Two o index).1
-        (λ n k x y place above. let t = stands n k place in subst Stands (sym (above-home nodes (sight reader_scope core).word (record { up = leads.up; down = leads.down }) n k x y t above)) t));
-    layers = layers-kept k0 core step a nodes none m targets;
-    gives = gives-kept k0 core step a nodes none m targets;
+  ReadersCounted-widens : ReadersCounted nodes (After widens core step)
+  ReadersCounted-widens = ReadersCounted-moves widens core step a index Two o m (record {
+    same = same;
+    stands = stands;
+    targets = λ i q value target.
+        let t = under-target index step.view.call g.target g.loads g.stored g.under i q value target in
+        let old = g.grown.old q t.1 in
+        (t.0, old.0, old.1 ∙ t.2);
     live = λ n k q l live layer.
-        elim (side-after k0 core step a node child side w n k q) [
+        elim (side-after widens core step a node child side w n k q) [
           | as_it_was e ↦ inl e
           | is_widened one two three old new ↦ elim (wider.one) [
             | inl found ↦ inl (new ∙ (found ∙ sym old))
@@ -312,17 +295,15 @@ module _ (operation : Operation) (index : ℕ) (core : Core) (step : Step) (a : 
           ]
         ];
     fresh = each-seats reader_scope (λ k v. refl) core (λ number v. IfSome v.rebuild (Fresh number)) (λ seat number view at pass. fresh-at seat number view at pass view.rebuild refl);
-    new = λ n k l never. absurd never;
-    unmade = λ n number l never. absurd never;
-  }
+  })
     where
       Fresh : ℕ → Rebuild → Type 0
-      Fresh number r = (n k q l : ℕ) → nodes.home n ≡ made number l → (word_of (After k0 core step) (Bound n k q) ≡ word_of core (Bound n k q)) ⊎ TightSide Now r n k q (word_of (After k0 core step) (Bound n k q))
+      Fresh number r = (n k q l : ℕ) → nodes.home n ≡ made number l → (word_of (After widens core step) (Bound n k q) ≡ word_of core (Bound n k q)) ⊎ TightSide Now r n k q (word_of (After widens core step) (Bound n k q))
 
       fresh-at : (seat number : ℕ) (view : View) → IsViewAt core seat view → IsPass view number → (x : Option Rebuild) → view.rebuild ≡ x → IfSome (option_map update_on_readers x) (Fresh number)
       fresh-at seat number view at pass None is = tt
       fresh-at seat number view at pass (Some r) is = λ n k q l made_for.
-          elim (side-after k0 core step a node child side w n k q) [
+          elim (side-after widens core step a node child side w n k q) [
             | as_it_was e ↦ inl e
             | is_widened one two three old new ↦ elim (wider.one) [
               | inl found ↦ inl (new ∙ (found ∙ sym old))
@@ -330,48 +311,44 @@ module _ (operation : Operation) (index : ℕ) (core : Core) (step : Step) (a : 
             ]
           ]
 
-  ReadersCounted-widens : ReadersCounted nodes (After k0 core step)
-  ReadersCounted-widens =
-      ReadersCounted-leaves k0 core step a nodes none m counts (record { reader = reader-word k0 core step a index Two o; walk = ap (λ (v : View). v.walk) g.view })
-
   -- ---- bodies
 
-  BodiesAgree-widens : BodiesAgree (After k0 core step)
+  BodiesAgree-widens : BodiesAgree (After widens core step)
   BodiesAgree-widens =
-      let kept = word-kept k0 core step a index Two o (history core.log) in
-      BodiesAgree-moves k0 core step a index Two o (history core.log) (step-history k0 core step (λ value. refl)) (only-same core index a.laws.bodies (held-once (record_at (scene_of core) index) unheld))
-      (λ r is. words-kept k0 core step a.at a.pass (history core.log) index r between (kept (Layer index) (λ n k q e. absurd cc) (λ k e. absurd cc)) (kept (User index) (λ n k q e. absurd cc) (λ k e. absurd cc))
-      (λ k. unstored k0 core step a.at a.pass (BoxWord index k) (λ e. other node child side (e ∙ names)))
+      let kept = word-kept widens core step a index Two o (history core.log) in
+      BodiesAgree-moves widens core step a index Two o (history core.log) (step-history widens core step (λ value. refl)) (only-same core index a.laws.bodies (held-once (record_at (scene_of core) index) unheld))
+      (λ r is. words-kept widens core step a.at a.pass (history core.log) index r between (kept (Layer index) (λ n k q e. absurd cc) (λ k e. absurd cc)) (kept (User index) (λ n k q e. absurd cc) (λ k e. absurd cc))
+      (λ k. unstored widens core step a.at a.pass (BoxWord index k) (λ e. other node child side (e ∙ names)))
       (kept (Phase index) (λ n k q e. absurd cc) (λ k e. absurd cc)) (λ l t. kept (Slot l t) (λ n k q e. absurd cc) (λ k e. absurd cc)) (a.laws.bodies.live index r is))
     where
       other : {k : ℕ} (n j q : ℕ) → BoxWord index k ≢ Bound n j q
       other n j q e = absurd cc
 
-      between : IsBetweenBoxes step.view index → IsBetweenBoxes (Last k0 core step) index
+      between : IsBetweenBoxes step.view index → IsBetweenBoxes (Last widens core step) index
       between b =
-          subst (λ (c : Call). MovesBody c.task index × (has_box_word c.stores ≡ true)) (sym (same-call k0 core step a index Two o))
+          subst (λ (c : Call). MovesBody c.task index × (has_box_word c.stores ≡ true)) (sym (same-call widens core step a index Two o))
           (refl, no_box ∙ under-boxes index step.view.call g.target g.loads g.stored g.under b.0 b.1)
 
   -- ---- all of them
 
-  pub Invariants-widens : Invariants (after_step k0 core step)
+  pub Invariants-widens : Invariants (after_step widens core step)
   Invariants-widens = record {
     nodes = nodes;
-    locks = LocksAgree-moves k0 core step a index Two o;
+    locks = LocksAgree-moves widens core step a index Two o;
     bodies = BodiesAgree-widens;
-    places = NodesInOnePlace-moves k0 core step a index Two o;
-    trees = TreesSound-widens k0 core step a node child side w (ap (λ (v : View). v.written) g.view);
+    places = NodesInOnePlace-moves widens core step a index Two o;
+    trees = TreesSound-widens widens core step a node child side w (ap (λ (v : View). v.written) g.view);
     locations = LocationsHold-widens;
-    cover = frame cover_scope (BodiesCoveredIn nodes) core (after_step k0 core step)
-        (step-same cover_scope k0 core step a.at a.pass (record { name = λ stored. cover-name k0 core step a index Two o; entry = λ reads value. refl; part = cover-part k0 core step a index Two o })) a.laws.cover;
-    walks = WalksLead-widens k0 core step a node child side w (ap (λ (v : View). v.walk) g.view);
+    cover = frame cover_scope (BodiesCoveredIn nodes) core (after_step widens core step)
+        (step-same cover_scope widens core step a.at a.pass (record { name = λ stored. cover-name widens core step a index Two o; entry = λ reads value. refl; part = cover-part widens core step a index Two o })) a.laws.cover;
+    walks = WalksLead-widens widens core step a node child side w (ap (λ (v : View). v.walk) g.view);
     readers = ReadersCounted-widens;
   }
 
   -- no other pass has the node for itself
-  pub guarded-widens : KeepsGuards k0 core step
+  pub guarded-widens : KeepsGuards widens core step
   guarded-widens =
-      keeps k0 core step (Bound node child side) names
+      keeps widens core step (Bound node child side) names
       (λ stored seat number view apart found is. (stands-unowned core a.formed nodes a.laws.places a.laws.trees seat number view found is node w.stands, tt))
 
 -- ---- kinds 34 and 35

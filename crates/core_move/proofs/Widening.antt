@@ -135,11 +135,11 @@ module _ (operation : Operation) (index : ℕ) (core : Core) (step : Step) where
       come = subst (λ (c : Call). HasComeTo c (IsKnownLocation step.view index) node child) (λ i. record { task = g.task i; loads = step.view.call.loads; stores = step.view.call.stores }) g.come;
       grown = target-grown g.target side step.first below g.side;
       view = ap after-task g.task
-      ∙ (λ i. record step.view {
-        call = record { task = Moving index (target_with g.target (side_in (names i)) step.first); loads = step.view.call.loads; stores = step.view.call.stores ++ new_store ∷ [] };
-        known = log_after kind core step;
-        joined = None;
-      });
+          ∙ (λ i. record step.view {
+            call = record { task = Moving index (target_with g.target (side_in (names i)) step.first); loads = step.view.call.loads; stores = step.view.call.stores ++ new_store ∷ [] };
+            known = log_after kind core step;
+            joined = None;
+          });
     }
 
     pub goes : MayWiden index step.view node child side step.first → Goes node child side

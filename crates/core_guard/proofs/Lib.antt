@@ -41,3 +41,4 @@ pub mod Cleared
 pub mod ClearedPlaces
 pub mod Unowned
 pub mod OneUpdate
+pub mod BodyAnew

@@ -55,7 +55,7 @@ body_of (LocA i) = Some i
 body_of (LocB i) = Some i
 body_of _ = None
 
-body-no_node : (name : Name) (i : ℕ) → body_of name ≡ Some i → (node_in name ≡ None) × (layer_of name ≡ None)
+pub body-no_node : (name : Name) (i : ℕ) → body_of name ≡ Some i → (node_in name ≡ None) × (layer_of name ≡ None)
 body-no_node (State j) i e = (refl, refl)
 body-no_node (Phase j) i e = (refl, refl)
 body-no_node (Layer j) i e = (refl, refl)

@@ -43,3 +43,4 @@ pub mod Recalled
 pub mod Cleared
 pub mod ClearedPlaces
 pub mod OneUpdate
+pub mod BodyAnew

@@ -2,14 +2,14 @@
 -- stands at it. The first location is cleared before the second, with which the removal ends.
 use Rattle.std.proofs.Common.{◌≡◌, ◌≢◌, ◌⊎◌, ℕ, zero, suc, List, [], ◌∷◌, ◌++◌, Option, Some, None, Bool, true, false, IsSomeAnd, refl, ap, sym, ◌∙◌, subst, inl, inr, arith}
 use Rattle.std.specs.Prelude.{Contains, cond, nat_lt}
-use Rattle.std.proofs.lemmas.Bool.{false≢true, cases_eq}
+use Rattle.std.proofs.lemmas.Bool.{false≢true}
 use Rattle.std.proofs.lemmas.Option.{same_Some, none-some}
 use Rattle.scene_model.specs.declared.body_view.Phase.{Phase as BodyPhase}
 use Rattle.scene_model.specs.declared.body_view.Phase.TheVariants.{Out, Held, In}
 use Rattle.scene_model.specs.Scene.{Record, record_at}
 use Rattle.scene_model.specs.Step.{HasBody}
 use Rattle.word_map.specs.declared.name.Name.{Name}
-use Rattle.word_map.specs.declared.name.Name.TheVariants.{State, Phase, Layer, BoxWord, LocA, LocB, Child, Bound, Parent, Reader}
+use Rattle.word_map.specs.declared.name.Name.TheVariants.{Phase, LocA, LocB, Child, Bound, Parent}
 use Rattle.word_map.specs.Names.{stripe_of}
 use Rattle.core_state.specs.declared.item.Store.{Store}
 use Rattle.core_state.specs.declared.view.Mode.{Mode}
@@ -26,8 +26,8 @@ use Rattle.core_state.specs.Kind.{Step, learned, after_step}
 use Rattle.core_state.specs.Removing.{HasClearedEntries, MayClearLocation, the_first, the_second, clear_location, location_cleared}
 use Rattle.core_state.specs.Moving.{with_store}
 use Rattle.core_state.specs.Guards.{KeepsGuards}
-use Rattle.core_state.specs.Encoding.{body_child, layer_of}
-use Rattle.core_state.specs.Nodes.{Nodes, Above, Stands, node_in}
+use Rattle.core_state.specs.Encoding.{body_child}
+use Rattle.core_state.specs.Nodes.{Nodes, Above, Stands}
 use Rattle.core_state.specs.Parts.{call_by_task, call_on_places, task_on_pool}
 use Rattle.core_state.specs.Scope.{Sight, sight}
 use Rattle.core_state.specs.Bodies.{phase_by, phase_by_slot, all_batches}
@@ -36,8 +36,7 @@ use Rattle.core_state.specs.BodiesAgree.{BodiesAgree, body_scope, IsUnderStripe}
 use Rattle.core_state.specs.NodesInOnePlace.{node_scope}
 use Rattle.core_state.specs.TreesSound.{TreesSoundIn, tree_scope}
 use Rattle.core_state.specs.Updates.{IsPlacing}
-use Rattle.core_state.specs.LocationsHold.{LocationsHold, location_scope, IsLocation, GivesBox, ClimbsFrom, IsUnheld, IsTakenOut, Removes, IsRemoved, IsPlannedIn, IsSecond, IsSecondFor, is_location_store}
-use Rattle.core_state.specs.BodiesCovered.{BodiesCovered}
+use Rattle.core_state.specs.LocationsHold.{location_scope, IsLocation, GivesBox, ClimbsFrom, IsUnheld, IsTakenOut, Removes, IsRemoved, IsPlannedIn, IsSecond, IsSecondFor, is_location_store}
 use Rattle.core_state.specs.WalksLead.{WalksLeadIn, walk_scope}
 use Rattle.core_state.specs.ReadersCounted.{reader_scope, ClimbsInTrees}
 use Rattle.core_state.specs.Invariants.{Invariants}
@@ -46,16 +45,17 @@ use Rattle.core_state.proofs.Beginning.{body_record, record_body}
 use Rattle.core_state.proofs.Opening.{none_in}
 use Rattle.core_state.proofs.Steps.{view-step, word-step, word-step-other}
 use Rattle.core_guard.proofs.Alone.{marked-held, lock-alone}
+use Rattle.core_guard.proofs.BodyAnew.{turn-leaves, TurnsBody, LocationsHold-turned, BodiesCovered-turned, ReadersCounted-turned}
 use Rattle.core_guard.proofs.BodyTouch.{body_of, other-word, no_place}
 use Rattle.core_guard.proofs.CallsAgree.{IsCalm, calm_call, BodiesAgree-goes}
 use Rattle.core_guard.proofs.Cleared.{above-same}
-use Rattle.core_guard.proofs.CoverLeft.{IsFresh, IsOff, BodyAfter, as_it_was, off_trees, BodiesCovered-leaves}
+use Rattle.core_guard.proofs.CoverLeft.{IsOff, off_trees}
 use Rattle.core_guard.proofs.Holders.{HasMark, EachOther, keeps, IsGuarded, guarded}
-use Rattle.core_guard.proofs.Leaving.{Acts, After, Last, Stays, Leaves, IsHandled, IsIdle, idle-unhandled, leaves-same, as_before-same, scene-plain, some_and_map}
+use Rattle.core_guard.proofs.Leaving.{Acts, After, Last, Leaves, IsIdle, idle-unhandled, scene-plain, some_and_map}
 use Rattle.core_guard.proofs.NodesLeft.{flat_from}
-use Rattle.core_guard.proofs.PlacesLeft.{SeenUpdate, IsAnew, BodyLeft, body_stays, body_anew, pass_anew, LocationsHold-leaves}
+use Rattle.core_guard.proofs.PlacesLeft.{SeenUpdate, IsAnew}
 use Rattle.core_guard.proofs.PlacesStay.{BodyIsPlaced, PassIsPlaced, acting, seen-task, places-handles, update-forth, planned-forth}
-use Rattle.core_guard.proofs.ReadersLeft.{some-all, Counts, KeepsTargets, layers-kept, gives-kept, ReadersCounted-leaves, climbs-was}
+use Rattle.core_guard.proofs.ReadersLeft.{climbs-was}
 use Rattle.core_guard.proofs.Recalled.{Recalls, recalled, call-is, task-is, law-unseen, LocksAgree-recalled, NodesInOnePlace-recalled}
 use Rattle.core_guard.proofs.Scenes.{none_here}
 use Rattle.core_guard.proofs.Seats.{seen_of, seen_at, each-seat, seat-has, flat-step}
@@ -94,9 +94,6 @@ bound_location i n k q e = absurd cc
 module _ (core : Core) (step : Step) (a : Acts core step) (i : ℕ) (asked : HasClearedEntries step.view i) (none : step.first ≡ 0) (call : Call) (recalls : Recalls clear_location core step call) (which : Which core step i call) where
   abbrev nodes : Nodes
   nodes = a.laws.nodes
-
-  abbrev No_new : ℕ → Type 0
-  No_new n = ⊥
 
   abbrev Was : Sight
   Was = sight location_scope core
@@ -209,25 +206,8 @@ module _ (core : Core) (step : Step) (a : Acts core step) (i : ℕ) (asked : Has
   batches-same : (Last clear_location core step).batches ≡ step.view.batches
   batches-same = ap (λ (v : View). v.batches) (recalled clear_location core step call recalls)
 
-  unnoded : (node_in step.name ≡ None) × (layer_of step.name ≡ None)
-  unnoded = elim which [ which_first names same ↦ (ap node_in names, ap layer_of names) | which_second names first same ↦ (ap node_in names, ap layer_of names) ]
-
-  leaves : Leaves clear_location core step nodes nodes No_new
-  leaves = leaves-same clear_location core step nodes unnoded.0 unnoded.1 rebuild-same
-
-  -- any other body stays
-  stays : (j : ℕ) → j ≢ i → Stays clear_location core step j
-  stays j apart = record {
-    body = as_before-same _ _ (record-same j);
-    loc_a = (other-same j apart).0;
-    loc_b = (other-same j apart).1;
-    phase = word-same (Phase j) refl;
-    box = λ q. word-same (BoxWord j q) refl;
-    state = word-same (State j) refl;
-    layer = word-same (Layer j) refl;
-    removes = (λ h. absurd (apart (sym (subst (λ (t : Task). Removes t j) asked.task h))), λ h. absurd (by-task (λ t. ¬ Removes t j) (λ same. apart (sym same)) (λ no. no) h));
-    places = (λ h. absurd (subst (λ (t : Task). IsPlacing t j) asked.task h), λ h. absurd (by-task (λ t. ¬ IsPlacing t j) (λ no. no) (λ no. no) h));
-  }
+  abbrev leaves : Leaves clear_location core step nodes nodes (λ n. ⊥)
+  leaves = turn-leaves clear_location core step nodes i of_body rebuild-same
 
   -- ---- places
 
@@ -294,7 +274,7 @@ module _ (core : Core) (step : Step) (a : Acts core step) (i : ℕ) (asked : Has
         | inl same ↦
             let h = a.laws.locations.second i (λ none_now. other (same ∙ none_now)) in (
               h.0,
-              update-forth clear_location core step a nodes No_new leaves h.0 (IsSecondFor Was i) (IsSecondFor Is i)
+              update-forth clear_location core step a nodes (λ n. ⊥) leaves h.0 (IsSecondFor Was i) (IsSecondFor Is i)
                   (λ r t.
                   let noted = t.2 in
                   (t.0, t.1, (noted.0, noted.1, noted.2, (same ∙ noted.3.0, subst (λ (o : Option Record). IsSomeAnd o (λ q. (q.generation ≡ noted.0.generation) × (q.layer ≡ noted.0.layer))) (sym (record-same noted.0.index)) noted.3.1)))) h.1,
@@ -343,7 +323,7 @@ module _ (core : Core) (step : Step) (a : Acts core step) (i : ℕ) (asked : Has
     entry = λ n k published below entry location. absurd (unentered n k location entry);
     second = λ n k stands below entry e. absurd (unentered n k (below, inr e) entry);
     planned = λ r noted some among same h.
-        planned-forth clear_location core step a nodes No_new leaves step.number (seen_of location_scope step.number step.view) (seen_of location_scope step.number (Last clear_location core step)) r noted
+        planned-forth clear_location core step a nodes (λ n. ⊥) leaves step.number (seen_of location_scope step.number step.view) (seen_of location_scope step.number (Last clear_location core step)) r noted
         (λ places. absurd (seen_none noted.index places), λ places. absurd (seen_none_after noted.index places))
         (λ n k stands below entry e.
         absurd (unentered n k (below, inr (ap (λ (j : ℕ). word_of core (LocB j)) (sym same) ∙ e)) (entry ∙ ap body_child same))) h;
@@ -370,21 +350,6 @@ module _ (core : Core) (step : Step) (a : Acts core step) (i : ℕ) (asked : Has
       let old = a.laws.locations.held batch m was marked in
       (elim (old.0) [ inl u ↦ inl (u.0, words.0 ∙ u.1) | inr u ↦ inr (u.0, words.0 ∙ u.1, u.2) ], words.1 ∙ old.1)
 
-  LocationsHold-cleared : LocationsHold nodes (after_step clear_location core step)
-  LocationsHold-cleared =
-      LocationsHold-leaves clear_location core step a nodes No_new leaves
-      (record {
-        bodies = λ j.
-            elim (cases_eq j i) [
-              | inl same ↦ subst (BodyLeft clear_location core step nodes nodes) (sym same) (body_anew body-new)
-              | inr apart ↦ body_stays (stays j apart)
-            ];
-        own = pass_anew own-after;
-        entries = λ j n k new. absurd new;
-        made_entries = λ j n k number l new. absurd new;
-        held = held-later;
-      })
-
   -- ---- cover
 
   -- its first location leads nowhere
@@ -403,18 +368,6 @@ module _ (core : Core) (step : Step) (a : Acts core step) (i : ℕ) (asked : Has
         calm = λ places. absurd (by-task (λ t. ¬ IsPlacing t i) (λ no. no) (λ no. no) places);
       }
 
-  fresh : IsFresh clear_location core step nodes No_new
-  fresh = record { unreplaced = λ number view among pass. some-all view.rebuild _ (λ r n new. absurd new); seen = λ n number name new. absurd new }
-
-  BodiesCovered-cleared : BodiesCovered nodes (after_step clear_location core step)
-  BodiesCovered-cleared =
-      BodiesCovered-leaves clear_location core step a nodes nodes No_new leaves a.laws.cover fresh
-      (λ j.
-      elim (cases_eq j i) [
-        | inl same ↦ subst (BodyAfter clear_location core step nodes nodes) (sym same) (off_trees body-off)
-        | inr apart ↦ as_it_was (stays j apart)
-      ])
-
   -- ---- readers
 
   abbrev Old : Sight
@@ -429,23 +382,26 @@ module _ (core : Core) (step : Step) (a : Acts core step) (i : ℕ) (asked : Has
       (climbs-was nodes Old step.view.call.task (each-seat reader_scope (λ k v. refl) core (λ k v. ClimbsInTrees nodes Old v.call.task) a.laws.readers.climbs step.seat step.number step.view a.at a.pass))
       n k x y (location-back n k location) (above-same Now.word Old.word (λ m. sym (word-same (Parent m) refl)) n k x y up)
 
-  targets : KeepsTargets clear_location core step a nodes No_new leaves
-  targets = record {
+  -- all that is to be shown
+  turns : TurnsBody clear_location core step nodes i
+  turns = record {
+    of_body = of_body;
+    others = λ j apart. record-same j;
+    layer = λ g l body. subst (λ (o : Option Record). IsSomeAnd o (λ r. (r.generation ≡ g) × (r.layer ≡ l))) (sym (record-same i)) body;
+    rebuild = rebuild-same;
+    walk = ap (λ (v : View). v.walk) (recalled clear_location core step call recalls);
+    removes = λ j apart. (
+      λ h. absurd (apart (sym (subst (λ (t : Task). Removes t j) asked.task h))),
+      λ h. absurd (by-task (λ t. ¬ Removes t j) (λ same. apart (sym same)) (λ no. no) h),
+    );
+    places = λ j apart. (λ h. absurd (subst (λ (t : Task). IsPlacing t j) asked.task h), λ h. absurd (by-task (λ t. ¬ IsPlacing t j) (λ no. no) (λ no. no) h));
     targets = λ index q side target. absurd (subst (λ (t : Task). IsTarget t index q side) asked.task target);
-    bodies = λ seat number view found is j handled g l body. subst (λ (o : Option Record). IsSomeAnd o (λ r. (r.generation ≡ g) × (r.layer ≡ l))) (sym (record-same j)) body;
-  }
-
-  counts : Counts clear_location core step a nodes No_new leaves
-  counts = record {
-    places = λ seat number view apart found is j handled.
-        other-same j (λ same. others-else clear_location core step a i asked.task seat number view apart found is (subst (IsHandled view.call.task) same handled));
+    alone = others-else clear_location core step a i asked.task;
+    placed = body-new;
+    covered = off_trees body-off;
+    own = own-after;
     climbs = by-task (ClimbsInTrees nodes Now) climbs tt;
-    layers = layers-kept clear_location core step a nodes No_new leaves targets;
-    gives = gives-kept clear_location core step a nodes No_new leaves targets;
-    live = λ n k q l live layer. inl (word-same (Bound n k q) refl);
-    fresh = λ number view among pass. some-all view.rebuild _ (λ r n k q l home. inl (word-same (Bound n k q) refl));
-    new = λ n k l none. absurd none;
-    unmade = λ n number l none. absurd none;
+    held = held-later;
   }
 
   -- ---- all laws
@@ -465,10 +421,10 @@ module _ (core : Core) (step : Step) (a : Acts core step) (i : ℕ) (asked : Has
     bodies = BodiesAgree-cleared;
     places = NodesInOnePlace-recalled clear_location core step call recalls a (by-name (λ n. node_scope.names n) refl refl) (pool ∙ ap task_on_pool (sym asked.task));
     trees = law-unseen clear_location core step call recalls a tree_scope (TreesSoundIn nodes) (by-name (λ n. tree_scope.names n) refl refl) (λ reads value. refl) refl a.laws.trees;
-    locations = LocationsHold-cleared;
-    cover = BodiesCovered-cleared;
+    locations = LocationsHold-turned clear_location core step a i turns;
+    cover = BodiesCovered-turned clear_location core step a i turns;
     walks = law-unseen clear_location core step call recalls a walk_scope WalksLeadIn (by-name (λ n. walk_scope.names n) refl refl) (λ reads value. refl) refl a.laws.walks;
-    readers = ReadersCounted-leaves clear_location core step a nodes No_new leaves counts (record { reader = λ p. word-same (Reader p) refl; walk = ap (λ (v : View). v.walk) (recalled clear_location core step call recalls) });
+    readers = ReadersCounted-turned clear_location core step a i turns;
   }
 
   -- no other pass has the body marked

@@ -109,8 +109,7 @@ module _ (core : Core) (index : ℕ) (h : Invariants core) where
       let from = has-seat location_scope (λ k v. refl) core number (λ v. HasUpdate v (NotedAt node child layer)) (h.locations.made_entries index node child number layer home low entry) in
       let makes = has-seat node_scope (λ k v. refl) core number (λ v. HasUpdate v (λ r. IsMadeIn core.config r layer node)) ((h.places.made_by node number layer).0 home) in
       let one : makes.view ≡ from.view = view-once core formed makes.seat from.seat number makes.view from.view makes.at from.at makes.pass from.pass in
-      let planned = each-seat location_scope (λ k v. refl) core (λ k v. IfSome v.rebuild (Planned k v)) h.locations.planned from.seat number from.view from.at from.pass in
-      (
+      let planned = each-seat location_scope (λ k v. refl) core (λ k v. IfSome v.rebuild (Planned k v)) h.locations.planned from.seat number from.view from.at from.pass in (
         from.seat,
         from.view,
         from.at,

@@ -8,7 +8,7 @@ use Rattle.scene_model.specs.Scene.{Record, record_at}
 use Rattle.scene_model.specs.Step.{HasBody, in_phase}
 use Rattle.word_map.specs.declared.config.Config.{Config}
 use Rattle.word_map.specs.declared.name.Name.{Name}
-use Rattle.word_map.specs.declared.name.Name.TheVariants.{State, Phase, Layer, BoxWord, LocA, LocB, Child, Bound, Reader, Slot}
+use Rattle.word_map.specs.declared.name.Name.TheVariants.{State, Phase, Layer, LocA, LocB, Child, Slot}
 use Rattle.word_map.specs.Names.{stripe_of}
 use Rattle.core_state.specs.declared.view.Mode.TheVariants.{Write}
 use Rattle.core_state.specs.declared.view.Task.{Task}
@@ -21,8 +21,7 @@ use Rattle.core_state.specs.View.{IsPass, Holds}
 use Rattle.core_state.specs.Core.{Core, word_of, scene_of, IsViewAt}
 use Rattle.core_state.specs.Kind.{Step, learned, after_step}
 use Rattle.core_state.specs.Removing.{MayRemove, remove, removing_by, removal_of}
-use Rattle.core_state.specs.Encoding.{IsBox, layer_of}
-use Rattle.core_state.specs.Nodes.{Nodes, IsLive, Above, Stands, node_in}
+use Rattle.core_state.specs.Nodes.{Nodes, IsLive, Above, Stands}
 use Rattle.core_state.specs.Parts.{call_on_places, task_on_pool, task_on_cover, update_on_cover}
 use Rattle.core_state.specs.Scope.{Sight, sight, scene_in}
 use Rattle.core_state.specs.Bodies.{phase_by}
@@ -31,8 +30,8 @@ use Rattle.core_state.specs.BodiesAgree.{BodiesAgree, body_scope, IsUnderStripe}
 use Rattle.core_state.specs.NodesInOnePlace.{node_scope}
 use Rattle.core_state.specs.TreesSound.{TreesSoundIn, tree_scope}
 use Rattle.core_state.specs.Updates.{EachUpdate, IsPlacing, IsDone}
-use Rattle.core_state.specs.LocationsHold.{LocationsHold, location_scope, IsLocation, IsAt, IsWhere, in_slot, in_main, in_old, in_merged, IsTakenOut, Removes, IsRemoved, IsSecond, IsSecondFor, is_location_store}
-use Rattle.core_state.specs.BodiesCovered.{BodiesCovered, cover_scope, IsInOldTree, IsAsNoted, LooksAsNoted}
+use Rattle.core_state.specs.LocationsHold.{location_scope, IsLocation, IsAt, IsWhere, in_slot, in_main, in_old, in_merged, IsTakenOut, Removes, IsRemoved, IsSecond, IsSecondFor, is_location_store}
+use Rattle.core_state.specs.BodiesCovered.{cover_scope, IsInOldTree, IsAsNoted, LooksAsNoted}
 use Rattle.core_state.specs.ReadersCounted.{reader_scope, ClimbsInTrees}
 use Rattle.core_state.specs.Invariants.{Invariants}
 use Rattle.core_state.specs.Space.{IsTarget}
@@ -40,23 +39,22 @@ use Rattle.core_state.proofs.Beginning.{body_record, record_body}
 use Rattle.core_state.proofs.Opening.{none_in}
 use Rattle.core_state.proofs.Steps.{view-step, word-step-other}
 use Rattle.core_guard.proofs.Alone.{marked-held}
+use Rattle.core_guard.proofs.BodyAnew.{turn-leaves, none-fresh, TurnsBody, LocationsHold-turned, BodiesCovered-turned, WalksLead-turned, ReadersCounted-turned}
 use Rattle.core_guard.proofs.BodiesStep.{BatchPart, batch-left}
-use Rattle.core_guard.proofs.BodyTouch.{record-made, held-kept, stripe-others}
+use Rattle.core_guard.proofs.BodyTouch.{body_of, record-made, held-kept, stripe-others}
 use Rattle.core_guard.proofs.CallsAgree.{IsCalm, CallGoesOn, calm_call}
-use Rattle.core_guard.proofs.CoverLeft.{BodyIsCovered, IsNotedRight, IsFresh, WasRight, was-right, still_done, BodyAfter, as_it_was, anew, BodiesCovered-leaves}
+use Rattle.core_guard.proofs.CoverLeft.{BodyIsCovered, IsNotedRight, WasRight, was-right, still_done, anew}
 use Rattle.core_guard.proofs.Holders.{HasMark, EachOther, keeps, unlocked, IsGuarded, guarded}
-use Rattle.core_guard.proofs.Leaving.{Acts, After, Last, Stays, Leaves, LeadsWithin, IsHandled, leaves-same, as_before-same, sound-leads, above-stands, above-back, each_update, some_and_map}
-use Rattle.core_guard.proofs.PhaseAgree.{phase_past, phase_sight, phase_index, is_phase, other_word, record_other, record_here, held-other, held-was, phase_here, phase-agree}
-use Rattle.core_guard.proofs.PlacesLeft.{SeenUpdate, BodyLeft, body_stays, body_anew, pass_anew, anew-in-place, LocationsHold-leaves}
+use Rattle.core_guard.proofs.Leaving.{Acts, After, Last, Leaves, LeadsWithin, IsHandled, sound-leads, above-stands, above-back, each_update, some_and_map}
+use Rattle.core_guard.proofs.PhaseAgree.{phase_past, phase_sight, is_phase, other_word, record_other, record_here, held-other, held-was, phase_here, phase-agree}
+use Rattle.core_guard.proofs.PlacesLeft.{SeenUpdate, anew-in-place}
 use Rattle.core_guard.proofs.PlacesStay.{BodyIsPlaced, PassIsPlaced, acting, update-forth}
-use Rattle.core_guard.proofs.ReadersLeft.{some-all, Counts, KeepsTargets, KeepsLayer, layers-kept, gives-kept, ReadersCounted-leaves}
+use Rattle.core_guard.proofs.ReadersLeft.{KeepsLayer}
 use Rattle.core_guard.proofs.Recalled.{Recalls, recalled, call-is, task-is, law-unseen, LocksAgree-recalled, NodesInOnePlace-recalled}
 use Rattle.core_guard.proofs.Seats.{seen_of, seat-has}
 use Rattle.core_guard.proofs.Scenes.{none_here}
 use Rattle.core_guard.proofs.Settled.{settled-still, sound}
 use Rattle.core_guard.proofs.Touched.{IsKept, kept}
-use Rattle.core_guard.proofs.TreesLeft.{KeepsBoxes}
-use Rattle.core_guard.proofs.WalksLeft.{WalksLead-leaves}
 
 -- where a first location may be, others may reach it
 pub where-live : (nodes : Nodes) (s : Sight) (i layer n : ℕ) → IsWhere nodes s i layer n → IsLive (nodes.home n)
@@ -71,9 +69,6 @@ module _ (core : Core) (step : Step) (a : Acts core step) (asked : MayRemove ste
 
   abbrev nodes : Nodes
   nodes = a.laws.nodes
-
-  abbrev No_new : ℕ → Type 0
-  No_new n = ⊥
 
   -- ---- what the pass leaves, and what it had
 
@@ -101,8 +96,8 @@ module _ (core : Core) (step : Step) (a : Acts core step) (asked : MayRemove ste
   others-else : (seat number : ℕ) (view : View) → seat ≢ step.seat → IsViewAt core seat view → IsPass view number → ¬ IsHandled view.call.task i
   others-else = stripe-others remove core step a i stripe
 
-  leaves : Leaves remove core step nodes nodes No_new
-  leaves = leaves-same remove core step nodes (ap node_in asked.names) (ap layer_of asked.names) rebuild-same
+  abbrev leaves : Leaves remove core step nodes nodes (λ n. ⊥)
+  leaves = turn-leaves remove core step nodes i (ap body_of asked.names) rebuild-same
 
   -- ---- the body
 
@@ -135,7 +130,7 @@ module _ (core : Core) (step : Step) (a : Acts core step) (asked : MayRemove ste
       go (Some x) h k = apart (sym h ∙ k)
 
   -- each body is of the creation and layer that it was
-  same-layers : (j : ℕ) → KeepsLayer remove core step a nodes No_new leaves j
+  same-layers : (j : ℕ) → KeepsLayer remove core step a nodes (λ n. ⊥) leaves j
   same-layers j g l h =
       elim (cases_eq j i) [
         | inl same ↦
@@ -238,7 +233,7 @@ module _ (core : Core) (step : Step) (a : Acts core step) (asked : MayRemove ste
   second-after : IsSecond Was i → IsSecond Is i
   second-after h = (
     h.0,
-    update-forth remove core step a nodes No_new leaves h.0 (IsSecondFor Was i) (IsSecondFor Is i)
+    update-forth remove core step a nodes (λ n. ⊥) leaves h.0 (IsSecondFor Was i) (IsSecondFor Is i)
         (λ r t. let noted = t.2 in (t.0, t.1, (noted.0, noted.1, noted.2, (word-same (LocB i) refl ∙ noted.3.0, same-layers noted.0.index noted.0.generation noted.0.layer noted.3.1)))) h.1,
   )
 
@@ -260,37 +255,6 @@ module _ (core : Core) (step : Step) (a : Acts core step) (asked : MayRemove ste
 
   unplacing : (IsPlacing step.view.call.task i ↔ IsPlacing (Last remove core step).call.task i)
   unplacing = (λ h. absurd (subst (λ (t : Task). IsPlacing t i) asked.idle h), λ h. absurd (subst (λ (t : Task). IsPlacing t i) task-after h))
-
-  -- any other body stays
-  stays : (j : ℕ) → j ≢ i → Stays remove core step j
-  stays j apart = record {
-    body = as_before-same _ _ (other-after j apart);
-    loc_a = word-same (LocA j) refl;
-    loc_b = word-same (LocB j) refl;
-    phase = word-step-other remove core step (Phase j) (λ same. apart (ap phase_index (same ∙ asked.names)));
-    box = λ q. word-same (BoxWord j q) refl;
-    state = word-same (State j) refl;
-    layer = word-same (Layer j) refl;
-    removes = (λ h. absurd (subst (λ (t : Task). Removes t j) asked.idle h), λ h. absurd (apart (sym (subst (λ (t : Task). Removes t j) task-after h))));
-    places = (λ h. absurd (subst (λ (t : Task). IsPlacing t j) asked.idle h), λ h. absurd (subst (λ (t : Task). IsPlacing t j) task-after h));
-  }
-
-  LocationsHold-remove : LocationsHold nodes (after_step remove core step)
-  LocationsHold-remove =
-      LocationsHold-leaves remove core step a nodes No_new leaves
-      (record {
-        bodies = λ j.
-            elim (cases_eq j i) [
-              | inl same ↦
-                  subst (BodyLeft remove core step nodes nodes) (sym same)
-                  (body_anew (anew-in-place remove core step a nodes No_new leaves i placed others-else (word-same (LocA i) refl) (word-same (LocB i) refl) unplacing))
-              | inr apart ↦ body_stays (stays j apart)
-            ];
-        own = pass_anew own-placed;
-        entries = λ j n k new. absurd new;
-        made_entries = λ j n k number l new. absurd new;
-        held = held-kept remove core step a batches-same (ap is_location_store asked.names);
-      })
 
   -- ---- cover
 
@@ -336,14 +300,11 @@ module _ (core : Core) (step : Step) (a : Acts core step) (asked : MayRemove ste
       exchanged = λ begun n among same. done (h.exchanged begun n among same);
     }
 
-  fresh : IsFresh remove core step nodes No_new
-  fresh = record { unreplaced = λ number view among pass. some-all view.rebuild _ (λ r n new. absurd new); seen = λ n number name new. absurd new }
-
   rights : EachUpdate Present (λ number view r. IsNotedRight nodes Present view r i)
   rights =
-      each_update remove core step a nodes nodes No_new leaves cover_scope (λ k v. refl) update_on_cover (λ k v. refl)
-      (λ number view r. WasRight remove core step a nodes nodes No_new leaves view r) (λ number view r. IsNotedRight nodes Present view r i)
-      (was-right remove core step a nodes nodes No_new leaves a.laws.cover fresh)
+      each_update remove core step a nodes nodes (λ n. ⊥) leaves cover_scope (λ k v. refl) update_on_cover (λ k v. refl)
+      (λ number view r. WasRight remove core step a nodes nodes (λ n. ⊥) leaves view r) (λ number view r. IsNotedRight nodes Present view r i)
+      (was-right remove core step a nodes nodes (λ n. ⊥) leaves a.laws.cover (none-fresh remove core step nodes))
       (λ number view r was. right r (seen_of cover_scope number view) (seen_of cover_scope number view) (λ is. is) (was.right i))
       (λ r some was.
       right r (seen_of cover_scope step.number step.view) (seen_of cover_scope step.number (Last remove core step))
@@ -356,19 +317,7 @@ module _ (core : Core) (step : Step) (a : Acts core step) (asked : MayRemove ste
         a.laws.cover.replaced i n k number name below (sym (word-same (LocA i) refl) ∙ location) home (sym (word-same (LocB i) refl) ∙ none);
   }
 
-  BodiesCovered-remove : BodiesCovered nodes (after_step remove core step)
-  BodiesCovered-remove =
-      BodiesCovered-leaves remove core step a nodes nodes No_new leaves a.laws.cover fresh
-      (λ j.
-      elim (cases_eq j i) [
-        | inl same ↦ subst (BodyAfter remove core step nodes nodes) (sym same) (anew (record { covered = covered; noted = rights }))
-        | inr apart ↦ as_it_was (stays j apart)
-      ])
-
-  -- ---- walks and readers
-
-  boxes : KeepsBoxes remove core step nodes nodes
-  boxes n k stands box = subst IsBox (λ j q. sym (word-same (Bound n k q) refl) j) box
+  -- ---- readers
 
   abbrev Old : Sight
   Old = sight reader_scope core
@@ -383,25 +332,29 @@ module _ (core : Core) (step : Step) (a : Acts core step) (asked : MayRemove ste
   climbs : (n k x y : ℕ) → IsLocation Now i n k → Above Now.word n k x y → Stands (nodes.home x)
   climbs n k x y location up =
       let stands = (is-at n k location).stands in
-      above-stands remove core step a nodes nodes No_new leaves Old.word Now.word leads leaves.parent n k x y stands
-      (above-back remove core step a nodes nodes No_new leaves Old.word Now.word leads leaves.parent n k x y stands up)
+      above-stands remove core step a nodes nodes (λ n. ⊥) leaves Old.word Now.word leads leaves.parent n k x y stands
+      (above-back remove core step a nodes nodes (λ n. ⊥) leaves Old.word Now.word leads leaves.parent n k x y stands up)
 
-  targets : KeepsTargets remove core step a nodes No_new leaves
-  targets = record {
+  -- all that is to be shown
+  turns : TurnsBody remove core step nodes i
+  turns = record {
+    of_body = ap body_of asked.names;
+    others = other-after;
+    layer = same-layers i;
+    rebuild = rebuild-same;
+    walk = ap (λ (v : View). v.walk) (recalled remove core step new_call recalls);
+    removes = λ j apart. (
+      λ h. absurd (subst (λ (t : Task). Removes t j) asked.idle h),
+      λ h. absurd (apart (sym (subst (λ (t : Task). Removes t j) task-after h))),
+    );
+    places = λ j apart. (λ h. absurd (subst (λ (t : Task). IsPlacing t j) asked.idle h), λ h. absurd (subst (λ (t : Task). IsPlacing t j) task-after h));
     targets = λ index q side target. absurd (subst (λ (t : Task). IsTarget t index q side) asked.idle target);
-    bodies = λ seat number view found is j handled. same-layers j;
-  }
-
-  counts : Counts remove core step a nodes No_new leaves
-  counts = record {
-    places = λ seat number view apart found is j handled. (word-same (LocA j) refl, word-same (LocB j) refl);
+    alone = others-else;
+    placed = anew-in-place remove core step a nodes (λ n. ⊥) leaves i placed others-else (word-same (LocA i) refl) (word-same (LocB i) refl) unplacing;
+    covered = anew (record { covered = covered; noted = rights });
+    own = own-placed;
     climbs = subst (λ (t : Task). ClimbsInTrees nodes Now t) (sym task-after) climbs;
-    layers = layers-kept remove core step a nodes No_new leaves targets;
-    gives = gives-kept remove core step a nodes No_new leaves targets;
-    live = λ n k q l live layer. inl (word-same (Bound n k q) refl);
-    fresh = λ number view among pass. some-all view.rebuild _ (λ r n k q l home. inl (word-same (Bound n k q) refl));
-    new = λ n k l none. absurd none;
-    unmade = λ n number l none. absurd none;
+    held = held-kept remove core step a batches-same (ap is_location_store asked.names);
   }
 
   Invariants-out : Invariants (after_step remove core step)
@@ -411,10 +364,10 @@ module _ (core : Core) (step : Step) (a : Acts core step) (asked : MayRemove ste
     bodies = BodiesAgree-remove;
     places = NodesInOnePlace-recalled remove core step new_call recalls a (ap node_scope.names asked.names) (ap task_on_pool (sym asked.idle));
     trees = law-unseen remove core step new_call recalls a tree_scope (TreesSoundIn nodes) (ap tree_scope.names asked.names) (λ reads. absurd (false≢true reads)) refl a.laws.trees;
-    locations = LocationsHold-remove;
-    cover = BodiesCovered-remove;
-    walks = WalksLead-leaves remove core step a nodes No_new leaves boxes (ap (λ (v : View). v.walk) (recalled remove core step new_call recalls));
-    readers = ReadersCounted-leaves remove core step a nodes No_new leaves counts (record { reader = λ p. word-same (Reader p) refl; walk = ap (λ (v : View). v.walk) (recalled remove core step new_call recalls) });
+    locations = LocationsHold-turned remove core step a i turns;
+    cover = BodiesCovered-turned remove core step a i turns;
+    walks = WalksLead-turned remove core step a i turns;
+    readers = ReadersCounted-turned remove core step a i turns;
   }
 
   -- no batch holds the body, so no pass has it marked

@@ -209,7 +209,7 @@ module _ (core : Core) (step : Step) (a : Acts core step) (asked : MayClearEntry
       let from = has-seat location_scope (λ k v. refl) core second.0 (λ v. HasUpdate v (IsSecondFor Was i)) second.1 in
       let one : from.view ≡ view =
       one-update core a.formed nodes a.laws.places from.seat seat second.0 number from.view view from.at found from.pass own (some-of from.view.rebuild (IsSecondFor Was i) from.holds) (ap is_some e) in
-      (subst (λ (o : Option Rebuild). IsSomeAnd (option_map update_on_places o) (IsSecondFor Was i)) (ap (λ (v : View). v.rebuild) one ∙ e) from.holds).0
+      (subst (λ (o : Option Rebuild). IsSomeAnd (option_map update_on_places o) (IsSecondFor Was i)) (ap (λ (v : View). v.rebuild) one ∙ e) from.holds).1
 
   abbrev HasDone : ℕ → View → Rebuild → Type 0
   HasDone number view r = (noted : Noted) (n k : ℕ) → Contains r.noted noted → noted.index ≡ i → IsGone nodes (λ n k. word_of core (Child n k)) c i n k → noted.place ≡ place n k → nodes.home n ≡ made number noted.layer → IsDone view r i

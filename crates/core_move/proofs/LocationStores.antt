@@ -276,8 +276,8 @@ module _ (core : Core) (step : Step) (a : Acts core step) (i : ℕ) (asked : Has
               h.0,
               update-forth clear_location core step a nodes (λ n. ⊥) leaves h.0 (IsSecondFor Was i) (IsSecondFor Is i)
                   (λ r t.
-                  let noted = t.2 in
-                  (t.0, t.1, (noted.0, noted.1, noted.2, (same ∙ noted.3.0, subst (λ (o : Option Record). IsSomeAnd o (λ q. (q.generation ≡ noted.0.generation) × (q.layer ≡ noted.0.layer))) (sym (record-same noted.0.index)) noted.3.1)))) h.1,
+                  let noted = t.3 in
+                  (t.0, t.1, t.2, (noted.0, noted.1, noted.2, (same ∙ noted.3.0, subst (λ (o : Option Record). IsSomeAnd o (λ q. (q.generation ≡ noted.0.generation) × (q.layer ≡ noted.0.layer))) (sym (record-same noted.0.index)) noted.3.1)))) h.1,
             )
         | inr zero_now ↦ absurd (other zero_now)
       ]

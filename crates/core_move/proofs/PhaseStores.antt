@@ -234,7 +234,7 @@ module _ (core : Core) (step : Step) (a : Acts core step) (asked : MayRemove ste
   second-after h = (
     h.0,
     update-forth remove core step a nodes (λ n. ⊥) leaves h.0 (IsSecondFor Was i) (IsSecondFor Is i)
-        (λ r t. let noted = t.2 in (t.0, t.1, (noted.0, noted.1, noted.2, (word-same (LocB i) refl ∙ noted.3.0, same-layers noted.0.index noted.0.generation noted.0.layer noted.3.1)))) h.1,
+        (λ r t. let noted = t.3 in (t.0, t.1, t.2, (noted.0, noted.1, noted.2, (word-same (LocB i) refl ∙ noted.3.0, same-layers noted.0.index noted.0.generation noted.0.layer noted.3.1)))) h.1,
   )
 
   removed-places : IsRemoved Is i

@@ -9,7 +9,7 @@ use Rattle.core_state.specs.Formed.{IsFormed}
 use Rattle.core_state.specs.Nodes.{Nodes}
 use Rattle.core_state.specs.NodesInOnePlace.{NodesInOnePlace, node_scope}
 use Rattle.core_guard.proofs.Seats.{seat-has}
-use Rattle.core_guard.proofs.Unowned.{view-once}
+use Rattle.core_guard.proofs.Owners.{same-view}
 
 some-map : (f : Rebuild → Rebuild) (o : Option Rebuild) → IsSome o → IsSome (option_map f o)
 some-map f None h = h
@@ -25,4 +25,4 @@ module _ (core : Core) (formed : IsFormed core) (nodes : Nodes) (h : NodesInOneP
   one-update seat other number second v w at found pass own one two =
       let first = names-update seat number v at pass one in
       let same : second ≡ number = let again = names-update other second w found own two in omega arith in
-      view-once core formed seat other number v w at found pass (subst (IsPass w) same own)
+      same-view core formed seat other number v w at found pass (subst (IsPass w) same own)

@@ -27,7 +27,7 @@ use Rattle.core_state.specs.Invariants.{Invariants}
 use Rattle.core_guard.proofs.Leaving.{Acts, LeadsWithin, sound-leads, idle-unhandled, acts-of}
 use Rattle.core_guard.proofs.PlacesStay.{seen-task, removes-handles, places-handles}
 use Rattle.core_guard.proofs.Seats.{seen_of, has-seat, each-seat}
-use Rattle.core_guard.proofs.Unowned.{view-once}
+use Rattle.core_guard.proofs.Owners.{same-view}
 use Rattle.core_move.proofs.LocationStores.{Invariants-clear_location, ends-nowhere}
 use Rattle.core_move.specs.Nowhere.{HasEntry, HasNoLocation, IsNowhere, IsLeaving, IsToBeGivenUp}
 
@@ -108,7 +108,7 @@ module _ (core : Core) (index : ℕ) (h : Invariants core) where
   to_be_given_up formed none node child number layer home low entry =
       let from = has-seat location_scope (λ k v. refl) core number (λ v. HasUpdate v (NotedAt node child layer)) (h.locations.made_entries index node child number layer home low entry) in
       let makes = has-seat node_scope (λ k v. refl) core number (λ v. HasUpdate v (λ r. IsMadeIn core.config r layer node)) ((h.places.made_by node number layer).0 home) in
-      let one : makes.view ≡ from.view = view-once core formed makes.seat from.seat number makes.view from.view makes.at from.at makes.pass from.pass in
+      let one : makes.view ≡ from.view = same-view core formed makes.seat from.seat number makes.view from.view makes.at from.at makes.pass from.pass in
       let planned = each-seat location_scope (λ k v. refl) core (λ k v. IfSome v.rebuild (Planned k v)) h.locations.planned from.seat number from.view from.at from.pass in (
         from.seat,
         from.view,

@@ -1,5 +1,5 @@
--- The laws after a side was widened in a move: its place is above a location of the body, and the side counts for the layer
--- since the move has come to it.
+-- Widening a side of a bound in a move keeps all laws: its place is above a location of the body, and the side counts for the
+-- layer, or for the new tree, since the move has come to it.
 use Rattle.std.proofs.Common.{◌≡◌, ◌≢◌, ◌⊎◌, ℕ, ◌<◌, List, [], ◌∷◌, ◌++◌, true, length, Option, Some, None, refl, ap, sym, ◌∙◌, subst, inl, inr, arith}
 use Rattle.std.specs.Prelude.{IsSomeAnd, IfSome, option_map}
 use Rattle.std.proofs.lemmas.Option.{none-some, same_Some}

@@ -1,5 +1,5 @@
--- Widening a side of a bound in a move keeps all laws, a low side and a high one alike: the side counts for the layer from
--- then on, since the move has come to it, and its place is above a location of the body.
+-- Widening a side of a bound in a move, a low side and a high one alike: what the operation does to the word, the target that
+-- the move then has, and that the step goes on with a move or begins one.
 use Rattle.std.proofs.Common.{◌≡◌, ◌⊎◌, ℕ, ◌<◌, ◌≤◌, List, [], ◌∷◌, ◌++◌, Bool, false, length, None, min, max, refl, ap, sym, ◌∙◌, subst, inl, inr, arith, eq-eqb}
 use Rattle.std.specs.Prelude.{slice_index, ◌||◌}
 use Rattle.std.proofs.lemmas.Bool.{cases_lt, ne_eqb}

@@ -1,9 +1,8 @@
 -- Clearing an entry of a body that is taken out: it is at a location of that body, so no way to another body is cut.
-use Rattle.std.proofs.Common.{◌≡◌, ◌≢◌, ◌⊎◌, ℕ, List, [], ◌∷◌, ◌++◌, Option, Some, None, false, IsSome, is_some, refl, ap, sym, ◌∙◌, subst, inl, inr, arith}
+use Rattle.std.proofs.Common.{◌≡◌, ◌≢◌, ℕ, List, [], ◌∷◌, ◌++◌, Option, Some, None, false, IsSome, is_some, refl, ap, sym, ◌∙◌, subst, inl, inr, arith}
 use Rattle.std.specs.Prelude.{Contains, IfSome, IsSomeAnd, option_map}
 use Rattle.std.proofs.lemmas.List.Folds.{list_any-append}
 use Rattle.std.proofs.lemmas.Bool.{cases_eq}
-use Rattle.std.proofs.lemmas.List.Elements.{Contains-append_cases}
 use Rattle.scene_model.specs.declared.body_view.Phase.TheVariants.{Out, In}
 use Rattle.scene_model.specs.Scene.{Record, record_at}
 use Rattle.scene_model.specs.Step.{HasBody}
@@ -22,20 +21,19 @@ use Rattle.core_state.specs.Kind.{Step, after_step}
 use Rattle.core_state.specs.Removing.{MayClearEntry, clear_entry}
 use Rattle.core_state.specs.Encoding.{body_child, place}
 use Rattle.core_state.specs.Nodes.{Nodes, made, IsLive, Stands}
-use Rattle.core_state.specs.Parts.{call_by_task, call_on_places, update_on_places}
+use Rattle.core_state.specs.Parts.{call_on_places, update_on_places}
 use Rattle.core_state.specs.Scope.{Sight, sight}
 use Rattle.core_state.specs.LocksAgree.{lock_scope}
 use Rattle.core_state.specs.BodiesAgree.{BodiesAgree, body_scope, IsUnderStripe}
 use Rattle.core_state.specs.NodesInOnePlace.{node_scope}
 use Rattle.core_state.specs.TreesSound.{TreesSoundIn, tree_scope}
 use Rattle.core_state.specs.Updates.{EachUpdate, HasUpdate, IsPlacing, IsDone}
-use Rattle.core_state.specs.LocationsHold.{LocationsHoldIn, location_scope, IsLocation, GivesBox, ClimbsFrom, IsUnheld, IsTakenOut, Removes, IsSecondFor, is_location_store, has_cleared_location}
+use Rattle.core_state.specs.LocationsHold.{LocationsHoldIn, location_scope, IsLocation, IsTakenOut, IsSecondFor, is_location_store, has_cleared_location}
 use Rattle.core_state.specs.BodiesCovered.{BodiesCoveredIn, cover_scope}
 use Rattle.core_state.specs.WalksLead.{WalksLeadIn, walk_scope}
 use Rattle.core_state.specs.ReadersCounted.{ReadersCountedIn, reader_scope}
 use Rattle.core_state.specs.Invariants.{Invariants}
 use Rattle.core_state.proofs.Lookups.{at_one}
-use Rattle.core_state.proofs.Opening.{only}
 use Rattle.core_state.proofs.Steps.{word-step}
 use Rattle.core_guard.proofs.CallsAgree.{IsCalm, calm_call, BodiesAgree-goes}
 use Rattle.core_guard.proofs.Cleared.{IsGone, ClearsEntries, none-kept, children_in, child-sight, child-law, child-where, child-clears, TreesSound-cleared, WalksLead-cleared, ReadersCounted-cleared}
@@ -49,15 +47,14 @@ use Rattle.core_guard.proofs.Recalled.{Recalls, call-is, task-is, law-unseen, Lo
 use Rattle.core_guard.proofs.Seats.{seen_of, each-seats, has-seat}
 use Rattle.core_guard.proofs.Touched.{IsKept, kept}
 use Rattle.core_guard.proofs.Unowned.{stands-unowned}
-use Rattle.core_move.proofs.Removers.{stripe, others-else, own-places, taken, body_out, known-location}
-
--- one element more in a list
-pub last-or : {X : Type 0} (xs : List X) (x y : X) → Contains (xs ++ x ∷ []) y → Contains xs y ⊎ (x ≡ y)
-last-or xs x y h = elim (Contains-append_cases xs (x ∷ []) y h) [ inl old ↦ inl old | inr new ↦ inr (only x y new) ]
+use Rattle.core_move.proofs.Removers.{last-or, more-placed, stripe, others-else, taken, body_out, known-location}
 
 -- one store more, of no location
 cleared-more : (stores : List Store) (new : Store) → is_location_store new.name ≡ false → has_cleared_location stores ≡ false → has_cleared_location (stores ++ new ∷ []) ≡ false
 cleared-more stores new none h = list_any-append (λ (s : Store). is_location_store s.name) stores (new ∷ []) ∙ rw (h, none) refl
+
+bound_child : (n k q m j : ℕ) → Bound n k q ≢ Child m j
+bound_child n k q m j e = absurd cc
 
 module _ (core : Core) (step : Step) (a : Acts core step) (asked : MayClearEntry step.view step.name step.first step.second) where
   abbrev i : ℕ
@@ -122,17 +119,6 @@ module _ (core : Core) (step : Step) (a : Acts core step) (asked : MayClearEntry
             absurd (omega arith)
       ]
 
-  -- and what it stored before is what it stored
-  old-bound : (n k q value : ℕ) → Contains new_call.stores (record { name = Bound n k q; value = value }) → Contains step.view.call.stores (record { name = Bound n k q; value = value })
-  old-bound n k q value among =
-      elim (last-or step.view.call.stores new_store (record { name = Bound n k q; value = value }) among) [
-        | inl before ↦ before
-        | inr new ↦ absurd (bound_child (sym (ap (λ (s : Store). s.name) new) ∙ asked.names))
-      ]
-    where
-      bound_child : Bound n k q ≡ Child asked.node asked.child → ⊥
-      bound_child e = absurd cc
-
   abbrev Later : Sight
   Later = End clear_entry core step a i c clears
 
@@ -157,18 +143,8 @@ module _ (core : Core) (step : Step) (a : Acts core step) (asked : MayClearEntry
 
   own-after : PassIsPlaced nodes Later (call_on_places (Last clear_entry core step).call) (SeenUpdate clear_entry core step)
   own-after =
-      let p = own-places clear_entry core step a i asked.task in
-      let none : (n k : ℕ) → ¬ ClimbsFrom Was (acting step.view.call (SeenUpdate clear_entry core step)) step.view.call.task n k = λ n k climbs. subst (λ (t : Task). ClimbsFrom Was (acting step.view.call (SeenUpdate clear_entry core step)) t n k) asked.task climbs in
-      subst (λ (d : Call). PassIsPlaced nodes Later d (SeenUpdate clear_entry core step)) (sym (ap call_on_places (call-is clear_entry core step new_call recalls) ∙ ap (λ (t : Task). call_by_task t new_call) asked.task))
-      (record {
-        removed = λ j removes. subst (IsTakenOut nodes Later (acting new_call (SeenUpdate clear_entry core step))) (subst (λ (t : Task). Removes t j) asked.task removes) still-taken;
-        unheld = subst (IsUnheld Later) (sym asked.task) tt;
-        widened = λ j n k box gives stored at. absurd (subst (λ (t : Task). GivesBox t j box) asked.task gives);
-        still_wide = λ n k q value among. p.still_wide n k q value (old-bound n k q value among);
-        climbs_from = λ n k climbs. absurd (subst (λ (t : Task). ClimbsFrom Later (acting new_call (SeenUpdate clear_entry core step)) t n k) asked.task climbs);
-        on_its_way = λ m value among. let t = p.on_its_way m value among in absurd (none t.1.0 t.1.1 t.1.3);
-        widened_on_way = λ x y q value among. let t = p.widened_on_way x y q value (old-bound x y q value among) in absurd (none t.0 t.1 t.2);
-      })
+      subst (λ (d : Call). PassIsPlaced nodes Later (call_on_places d) (SeenUpdate clear_entry core step)) (sym (call-is clear_entry core step new_call recalls))
+      (more-placed clear_entry core step a i asked.task Later new_store (λ n k q e. bound_child n k q asked.node asked.child (e ∙ asked.names)) still-taken)
 
   -- ---- an update that planned the entry
 

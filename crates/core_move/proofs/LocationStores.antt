@@ -36,7 +36,7 @@ use Rattle.core_state.specs.BodiesAgree.{BodiesAgree, body_scope, IsUnderStripe}
 use Rattle.core_state.specs.NodesInOnePlace.{node_scope}
 use Rattle.core_state.specs.TreesSound.{TreesSoundIn, tree_scope}
 use Rattle.core_state.specs.Updates.{IsPlacing}
-use Rattle.core_state.specs.LocationsHold.{location_scope, IsLocation, GivesBox, ClimbsFrom, IsUnheld, IsTakenOut, Removes, IsRemoved, IsPlannedIn, IsSecond, IsSecondFor, is_location_store}
+use Rattle.core_state.specs.LocationsHold.{location_scope, IsLocation, IsTakenOut, Removes, IsRemoved, IsPlannedIn, IsSecond, IsSecondFor, is_location_store}
 use Rattle.core_state.specs.WalksLead.{WalksLeadIn, walk_scope}
 use Rattle.core_state.specs.ReadersCounted.{reader_scope, ClimbsInTrees}
 use Rattle.core_state.specs.Invariants.{Invariants}
@@ -60,8 +60,7 @@ use Rattle.core_guard.proofs.Recalled.{Recalls, recalled, call-is, task-is, law-
 use Rattle.core_guard.proofs.Scenes.{none_here}
 use Rattle.core_guard.proofs.Seats.{seen_of, seen_at, each-seat, seat-has, flat-step}
 use Rattle.core_guard.proofs.Touched.{IsKept, kept}
-use Rattle.core_move.proofs.EntryStores.{last-or}
-use Rattle.core_move.proofs.Removers.{stripe, others-else, own-places, taken, body_out, first-known, location-known}
+use Rattle.core_move.proofs.Removers.{with_more, more-placed, stripe, others-else, taken, body_out, first-known, location-known}
 
 -- which location it is: the first one, after which the pass goes on, or the second one, once the first is 0
 data Which (core : Core) (step : Step) (i : ℕ) (call : Call) : Type 0 where
@@ -94,6 +93,9 @@ bound_location i n k q e = absurd cc
 module _ (core : Core) (step : Step) (a : Acts core step) (i : ℕ) (asked : HasClearedEntries step.view i) (none : step.first ≡ 0) (call : Call) (recalls : Recalls clear_location core step call) (which : Which core step i call) where
   abbrev nodes : Nodes
   nodes = a.laws.nodes
+
+  abbrev new_store : Store
+  new_store = record { name = step.name; value = step.first }
 
   abbrev Was : Sight
   Was = sight location_scope core
@@ -212,17 +214,26 @@ module _ (core : Core) (step : Step) (a : Acts core step) (i : ℕ) (asked : Has
   -- ---- places
 
   -- the pass goes on with the second location, or has done
+  still-taken : IsTakenOut nodes Is (acting (with_more clear_location core step a i asked.task new_store) (SeenUpdate clear_location core step)) i
+  still-taken = record {
+    out = out-after;
+    cleared = λ n k at.
+        let old = location-back n k at in
+        (((taken clear_location core step a i asked.task).cleared n k old).0, inl (word-same (Child n k) refl ∙ empty n k old));
+    live = λ n k below e. absurd (no_place clear_location core step (word_of (After clear_location core step) (LocA i)) n k first-none e);
+  }
+
+  -- the pass goes on with the second location, or has done
   own-after : PassIsPlaced nodes Is (call_on_places (Last clear_location core step).call) (SeenUpdate clear_location core step)
   own-after =
       subst (λ (d : Call). PassIsPlaced nodes Is (call_on_places d) (SeenUpdate clear_location core step)) (sym (call-is clear_location core step call recalls))
       (elim which [
-        | which_first names same ↦ subst (λ (d : Call). PassIsPlaced nodes Is (call_on_places d) (SeenUpdate clear_location core step)) (sym same) (goes_on names)
+        | which_first names same ↦
+            subst (λ (d : Call). PassIsPlaced nodes Is (call_on_places d) (SeenUpdate clear_location core step)) (sym same)
+            (more-placed clear_location core step a i asked.task Is new_store (λ n k q e. bound_location i n k q (e ∙ names)) still-taken)
         | which_second names first same ↦ subst (λ (d : Call). PassIsPlaced nodes Is (call_on_places d) (SeenUpdate clear_location core step)) (sym same) ends
       ])
     where
-      new_call : Call
-      new_call = record step.view.call { stores = step.view.call.stores ++ record { name = step.name; value = step.first } ∷ [] }
-
       ends : PassIsPlaced nodes Is no_call (SeenUpdate clear_location core step)
       ends = record {
         removed = λ j removes. absurd removes;
@@ -233,40 +244,6 @@ module _ (core : Core) (step : Step) (a : Acts core step) (i : ℕ) (asked : Has
         on_its_way = λ m value among. absurd (none_in _ among);
         widened_on_way = λ x y q value among. absurd (none_in _ among);
       }
-
-      old-bound : step.name ≡ LocA i → (n k q value : ℕ) → Contains new_call.stores (record { name = Bound n k q; value = value }) → Contains step.view.call.stores (record { name = Bound n k q; value = value })
-      old-bound names n k q value among =
-          elim (last-or step.view.call.stores (record { name = step.name; value = step.first }) (record { name = Bound n k q; value = value }) among) [
-            | inl before ↦ before
-            | inr new ↦ absurd (bound_location i n k q (sym (ap (λ (s : Store). s.name) new) ∙ names))
-          ]
-
-      still-taken : IsTakenOut nodes Is (acting new_call (SeenUpdate clear_location core step)) i
-      still-taken = record {
-        out = out-after;
-        cleared = λ n k at.
-            let old = location-back n k at in
-            (((taken clear_location core step a i asked.task).cleared n k old).0, inl (word-same (Child n k) refl ∙ empty n k old));
-        live = λ n k below e. absurd (no_place clear_location core step (word_of (After clear_location core step) (LocA i)) n k first-none e);
-      }
-
-      goes_on : step.name ≡ LocA i → PassIsPlaced nodes Is (call_on_places new_call) (SeenUpdate clear_location core step)
-      goes_on names =
-          let p = own-places clear_location core step a i asked.task in
-          let old_view = acting step.view.call (SeenUpdate clear_location core step) in
-          let none_climbs : (n k : ℕ) → ¬ ClimbsFrom Was old_view step.view.call.task n k = λ n k climbs. subst (λ (t : Task). ClimbsFrom Was old_view t n k) asked.task climbs in
-          subst (λ (d : Call). PassIsPlaced nodes Is d (SeenUpdate clear_location core step)) (sym (ap (λ (t : Task). call_by_task t new_call) asked.task))
-          (record {
-            removed = λ j removes. subst (IsTakenOut nodes Is (acting new_call (SeenUpdate clear_location core step))) (subst (λ (t : Task). Removes t j) asked.task removes) still-taken;
-            unheld = subst (IsUnheld Is) (sym asked.task) tt;
-            widened = λ j n k box gives stored at. absurd (subst (λ (t : Task). GivesBox t j box) asked.task gives);
-            still_wide = λ n k q value among.
-                let t = p.widened_on_way n k q value (old-bound names n k q value among) in
-                absurd (none_climbs t.0 t.1 t.2);
-            climbs_from = λ n k climbs. absurd (subst (λ (t : Task). ClimbsFrom Is (acting new_call (SeenUpdate clear_location core step)) t n k) asked.task climbs);
-            on_its_way = λ m value among. let t = p.on_its_way m value among in absurd (none_climbs t.1.0 t.1.1 t.1.3);
-            widened_on_way = λ x y q value among. let t = p.widened_on_way x y q value (old-bound names x y q value among) in absurd (none_climbs t.0 t.1 t.2);
-          })
 
   second-after : word_of (After clear_location core step) (LocB i) ≢ 0 → IsSecond Is i
   second-after other =

@@ -1,10 +1,13 @@
 -- What holds for a pass that takes a body out: it has the stripe, the body is out, its locations are those that the pass
 -- knows, and its entries are cleared in part.
-use Rattle.std.proofs.Common.{◌≡◌, ◌≢◌, ℕ, refl, ap, sym, ◌∙◌, subst, inl, inr}
+use Rattle.std.proofs.Common.{◌≡◌, ◌≢◌, ◌⊎◌, ℕ, List, [], ◌∷◌, ◌++◌, refl, ap, sym, ◌∙◌, subst, inl, inr}
+use Rattle.std.specs.Prelude.{Contains}
+use Rattle.std.proofs.lemmas.List.Elements.{Contains-append_cases}
 use Rattle.scene_model.specs.declared.body_view.Phase.TheVariants.{Out}
 use Rattle.scene_model.specs.Step.{HasBody}
-use Rattle.word_map.specs.declared.name.Name.TheVariants.{LocA, LocB}
+use Rattle.word_map.specs.declared.name.Name.TheVariants.{LocA, LocB, Bound}
 use Rattle.word_map.specs.Names.{stripe_of}
+use Rattle.core_state.specs.declared.item.Store.{Store}
 use Rattle.core_state.specs.declared.view.Mode.TheVariants.{Write}
 use Rattle.core_state.specs.declared.view.Task.{Task}
 use Rattle.core_state.specs.declared.view.Task.TheVariants.{Removing}
@@ -15,10 +18,11 @@ use Rattle.core_state.specs.Core.{Core, word_of, scene_of, IsViewAt}
 use Rattle.core_state.specs.Kind.{Kind, Step}
 use Rattle.core_state.specs.Guards.{by_lock}
 use Rattle.core_state.specs.Moving.{IsKnownLocation}
-use Rattle.core_state.specs.Parts.{call_by_task}
+use Rattle.core_state.specs.Parts.{call_by_task, call_on_places}
 use Rattle.core_state.specs.Scope.{Sight, sight}
 use Rattle.core_state.specs.BodiesAgree.{body_scope, IsUnderStripe}
-use Rattle.core_state.specs.LocationsHold.{location_scope, IsLocation, Removes, IsTakenOut}
+use Rattle.core_state.specs.LocationsHold.{location_scope, IsLocation, GivesBox, ClimbsFrom, IsUnheld, Removes, IsTakenOut}
+use Rattle.core_state.proofs.Opening.{only}
 use Rattle.core_guard.proofs.BodiesStep.{known-now}
 use Rattle.core_guard.proofs.BodyTouch.{stripe-others}
 use Rattle.core_guard.proofs.Leaving.{Acts, IsHandled}
@@ -26,6 +30,10 @@ use Rattle.core_guard.proofs.OutStill.{out-still}
 use Rattle.core_guard.proofs.PlacesLeft.{SeenUpdate}
 use Rattle.core_guard.proofs.PlacesStay.{PassIsPlaced, acting, pass-placed}
 use Rattle.core_guard.proofs.Seats.{seen_of, each-seat}
+
+-- one element more in a list
+pub last-or : {X : Type 0} (xs : List X) (x y : X) → Contains (xs ++ x ∷ []) y → Contains xs y ⊎ (x ≡ y)
+last-or xs x y h = elim (Contains-append_cases xs (x ∷ []) y h) [ inl old ↦ inl old | inr new ↦ inr (only x y new) ]
 
 module _ (kind : Kind) (core : Core) (step : Step) (a : Acts core step) (i : ℕ) (task : step.view.call.task ≡ Removing i) where
   pub stripe : Holds step.view (stripe_of core.config i) Write
@@ -62,3 +70,31 @@ module _ (kind : Kind) (core : Core) (step : Step) (a : Acts core step) (i : ℕ
 
   pub known-location : (n k : ℕ) → IsKnownLocation step.view i n k → IsLocation Was i n k
   known-location n k h = (h.0, elim (h.1) [ inl e ↦ inl (first-known ∙ e) | inr e ↦ inr (second-known ∙ e) ])
+
+  -- ---- a store more in the own call
+
+  abbrev pub with_more : Store → Call
+  with_more new = record step.view.call { stores = step.view.call.stores ++ new ∷ [] }
+
+  -- who takes a body out widens no bound and climbs nowhere: so what is said of the pass is what is said of the body
+  pub more-placed : (s : Sight) (new : Store) → ((n k q : ℕ) → Bound n k q ≢ new.name) → IsTakenOut a.laws.nodes s (acting (with_more new) (SeenUpdate kind core step)) i
+      → PassIsPlaced a.laws.nodes s (call_on_places (with_more new)) (SeenUpdate kind core step)
+  more-placed s new unwidened still =
+      let none : (n k : ℕ) → ¬ ClimbsFrom Was (acting step.view.call (SeenUpdate kind core step)) step.view.call.task n k = λ n k climbs. subst (λ (t : Task). ClimbsFrom Was (acting step.view.call (SeenUpdate kind core step)) t n k) task climbs in
+      subst (λ (c : Call). PassIsPlaced a.laws.nodes s c (SeenUpdate kind core step)) (sym (ap (λ (t : Task). call_by_task t (with_more new)) task))
+      (record {
+        removed = λ j removes. subst (IsTakenOut a.laws.nodes s (acting (with_more new) (SeenUpdate kind core step))) (subst (λ (t : Task). Removes t j) task removes) still;
+        unheld = subst (IsUnheld s) (sym task) tt;
+        widened = λ j n k box gives stored at. absurd (subst (λ (t : Task). GivesBox t j box) task gives);
+        still_wide = λ n k q value among. let t = own-places.widened_on_way n k q value (old n k q value among) in absurd (none t.0 t.1 t.2);
+        climbs_from = λ n k climbs. absurd (subst (λ (t : Task). ClimbsFrom s (acting (with_more new) (SeenUpdate kind core step)) t n k) task climbs);
+        on_its_way = λ m value among. let t = own-places.on_its_way m value among in absurd (none t.1.0 t.1.1 t.1.3);
+        widened_on_way = λ x y q value among. let t = own-places.widened_on_way x y q value (old x y q value among) in absurd (none t.0 t.1 t.2);
+      })
+    where
+      old : (n k q value : ℕ) → Contains (with_more new).stores (record { name = Bound n k q; value = value }) → Contains step.view.call.stores (record { name = Bound n k q; value = value })
+      old n k q value among =
+          elim (last-or step.view.call.stores new (record { name = Bound n k q; value = value }) among) [
+            | inl before ↦ before
+            | inr last ↦ absurd (unwidened n k q (sym (ap (λ (s : Store). s.name) last)))
+          ]

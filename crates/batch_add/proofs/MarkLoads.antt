@@ -1,5 +1,5 @@
 -- What the turns of marking a body tell that look at it, and that load the layer of a body that is out.
-use Rattle.std.proofs.Common.{◌≡◌, ◌≢◌, ℕ, ◌<◌, List, sym, ◌∙◌, subst, arith, refl}
+use Rattle.std.proofs.Common.{◌≡◌, ◌≢◌, ℕ, List, sym, ◌∙◌, subst, arith, refl}
 use Rattle.body_ident.specs.Id.{Id}
 use Rattle.scene_model.specs.declared.body_view.Phase.TheVariants.{Out, Held as HeldPhase, In}
 use Rattle.word_map.specs.declared.config.Config.{Config}

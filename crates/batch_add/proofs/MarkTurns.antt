@@ -1,8 +1,9 @@
 -- How the turns of marking bodies go on, and those that look at a body.
-use Rattle.std.proofs.Common.{◌≡◌, ℕ, suc, ◌+◌, ◌-◌, ◌*◌, ◌<◌, ◌≤◌, List, length, None, Result, inl, refl, ap, sym, ◌∙◌, subst, arith}
+use Rattle.std.proofs.Common.{◌≡◌, ◌⊎◌, ℕ, suc, ◌+◌, ◌-◌, ◌*◌, ◌<◌, List, length, None, Result, inl, inr, refl, ap, sym, ◌∙◌, subst, arith}
 use Rattle.core_state.specs.declared.view.Mode.TheVariants.{Write}
 use Rattle.core_state.specs.declared.view.Batch.{Batch}
 use Rattle.core_state.specs.declared.view.View.{View}
+use Rattle.core_state.specs.Encoding.{phase_join}
 use Rattle.pass_table.specs.declared.turn.Turn.{Turn}
 use Rattle.pass_table.specs.declared.turn.Turn.TheVariants.{More, Again}
 use Rattle.pass_table.specs.Turning.{AtMostOneStep, MadeBy, Turned, LoadsNow, GoesOn, Answers}
@@ -14,10 +15,11 @@ use Rattle.body_look.specs.declared.look_op.LookOp.{LookOp}
 use Rattle.body_look.specs.Looking.{looking_of, IsLooking, look_left, look_takes}
 use Rattle.body_look.proofs.Answering.{turn-left}
 use Rattle.batch_add.specs.declared.mark_op.MarkRefused.{MarkRefused}
+use Rattle.batch_add.specs.declared.mark_op.MarkRefused.TheVariants.{Gone, Held, AlreadyIn}
 use Rattle.batch_add.specs.declared.mark_op.MarkStage.{MarkStage}
-use Rattle.batch_add.specs.declared.mark_op.MarkStage.TheVariants.{Looking}
+use Rattle.batch_add.specs.declared.mark_op.MarkStage.TheVariants.{Looking, Outside, Refusing}
 use Rattle.batch_add.specs.declared.mark_op.Marking.{Marking}
-use Rattle.batch_add.specs.Marking.{Marks, marks_of, current, IsBegunFor, IsAtLook, after_look, AtMark, PastLook, IsMarking, HasMadeMarks, stage_left, turns_each, bodies_left, IsMarkTurn, takes_at}
+use Rattle.batch_add.specs.Marking.{marks_of, current, IsBegunFor, IsAtLook, after_look, AtMark, PastLook, IsMarking, HasMadeMarks, stage_left, turns_each, bodies_left, IsMarkTurn, takes_at}
 
 abbrev pub MarkTurn : Type 0
 MarkTurn = Turn (Result (Unit {0}) MarkRefused)
@@ -120,40 +122,14 @@ module _ (operation new : Marking) (after : LookOp) (view next : View) (is : new
       again_to operation new Looking after Looking view next still at step made loads look_keeps lock found
       (by_left (Again lock found) (turned-again BodyFound (Result (Unit {0}) MarkRefused) later view next (look_takes operation.look) (look_left operation.look) (look_left after) lock found turned))
 
--- a look ends at a stage of which fewer turns are left, and no lock is taken
-found_left : (look : LookOp) (found : BodyFound) → stage_left look (after_look found) ≤ 9
-found_left look (FoundGone state) = omega arith
-found_left look FoundLive = omega arith
-found_left look FoundOut = omega arith
-found_left look FoundIn = omega arith
-found_left look (FoundHeld layer slot word) = omega arith
-found_left look (FoundJoined layer slot word) = omega arith
-
-found_takes : (look : LookOp) (found : BodyFound) → takes_at look (after_look found) ≡ None
-found_takes look (FoundGone state) = refl
-found_takes look FoundLive = refl
-found_takes look FoundOut = refl
-found_takes look FoundIn = refl
-found_takes look (FoundHeld layer slot word) = refl
-found_takes look (FoundJoined layer slot word) = refl
-
-found_bodies : (all marked : ℕ) (found : BodyFound) → bodies_left all marked (after_look found) ≡ all - suc marked
-found_bodies all marked (FoundGone state) = refl
-found_bodies all marked FoundLive = refl
-found_bodies all marked FoundOut = refl
-found_bodies all marked FoundIn = refl
-found_bodies all marked (FoundHeld layer slot word) = refl
-found_bodies all marked (FoundJoined layer slot word) = refl
-
--- how it was is of no matter then
-found_past : (start : View) (before : List Batch) (batch : Batch) (marks : Marks) (view : View) (look : LookOp) (found : BodyFound) → PastLook start before batch marks view (after_look found)
-    → AtMark start before batch marks view look (after_look found)
-found_past start before batch marks view look (FoundGone state) at = at
-found_past start before batch marks view look FoundLive at = at
-found_past start before batch marks view look FoundOut at = at
-found_past start before batch marks view look FoundIn at = at
-found_past start before batch marks view look (FoundHeld layer slot word) at = at
-found_past start before batch marks view look (FoundJoined layer slot word) at = at
+-- after the look the layer comes next, or the body is refused
+found_cases : (found : BodyFound) → (after_look found ≡ Outside) ⊎ ((refused : MarkRefused) × (after_look found ≡ Refusing refused))
+found_cases (FoundGone state) = inr (Gone state, refl)
+found_cases FoundLive = inl refl
+found_cases FoundOut = inl refl
+found_cases FoundIn = inr (AlreadyIn 1, refl)
+found_cases (FoundHeld layer slot word) = inr (Held word, refl)
+found_cases (FoundJoined layer slot word) = inr (AlreadyIn (phase_join slot), refl)
 
 -- the last turn of the look
 pub look-done : (operation new : Marking) (look : LookOp) (found : BodyFound) (after : MarkStage) (view next : View) (turn : MarkTurn) → turn ≡ More → new ≡ at_stage operation look after → operation.stage ≡ Looking
@@ -162,9 +138,14 @@ pub look-done : (operation new : Marking) (look : LookOp) (found : BodyFound) (a
     → PastLook start before batch (marks_of operation) next (after_look found))
     → IsMarkTurn turn operation new view next
 look-done operation new look found after view next turn more is at step made same keeps =
-    let few = found_left look found in
     let one = turn-left operation.look in
-    let bodies = found_bodies (length operation.ids.items) operation.marked found in
-    let less : left_at operation look (after_look found) < left_at operation operation.look Looking = omega arith in
-    went-on turn operation new Looking look (after_look found) view next more (is ∙ ap (at_stage operation look) same) at step made less (subst (LoadsNow view next) (sym (found_takes look found)) tt)
-    (λ start before batch begun now. found_past start before batch (marks_of operation) next look found (keeps start before batch begun now))
+    elim (found_cases found) [
+      | inl out ↦
+          let less : left_at operation look Outside < left_at operation operation.look Looking = omega arith in
+          went-on turn operation new Looking look Outside view next more (is ∙ ap (at_stage operation look) (same ∙ out)) at step made less tt
+          (λ start before batch begun now. subst (PastLook start before batch (marks_of operation) next) out (keeps start before batch begun now))
+      | inr refused ↦
+          let less : left_at operation look (Refusing refused.0) < left_at operation operation.look Looking = omega arith in
+          went-on turn operation new Looking look (Refusing refused.0) view next more (is ∙ ap (at_stage operation look) (same ∙ refused.1)) at step made less tt
+          (λ start before batch begun now. subst (PastLook start before batch (marks_of operation) next) refused.1 (keeps start before batch begun now))
+    ]

@@ -1,4 +1,4 @@
-use Rattle.std.proofs.Common.{◌≡◌, ℕ, ◌<◌, Some, length, ◌∙◌, sym, ap, subst, arith, refl}
+use Rattle.std.proofs.Common.{◌≡◌, ℕ, ◌<◌, length, ◌∙◌, sym, ap, subst, arith, refl}
 use Rattle.word_map.specs.declared.config.Config.{Config}
 use Rattle.body_ident.specs.Id.{Id}
 use Rattle.word_map.specs.Names.{lock_count}

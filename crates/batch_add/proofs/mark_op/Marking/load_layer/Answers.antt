@@ -1,4 +1,4 @@
-use Rattle.std.proofs.Common.{ℕ, List, [], ◌∷◌, None, ◌∙◌, ◌≡◌, refl, sym, ap, subst, arith}
+use Rattle.std.proofs.Common.{ℕ, List, [], ◌∷◌, None, ◌∙◌, ◌≡◌, refl, sym, subst, arith}
 use Rattle.body_ident.specs.Id.{Id}
 use Rattle.word_map.specs.declared.name.Name.TheVariants.{Layer}
 use Rattle.pass_table.specs.Bodies.{IsGuarded, Loaded}

@@ -1,4 +1,4 @@
-use Rattle.std.proofs.Common.{ℕ, ◌+◌, set, sym, subst, arith}
+use Rattle.std.proofs.Common.{◌+◌, set, sym, subst, arith}
 use Rattle.body_ident.specs.Id.{Id}
 use Rattle.word_map.specs.declared.name.Name.TheVariants.{BoxWord}
 use Rattle.pass_table.specs.Bodies.{IsGuarded, Loaded}

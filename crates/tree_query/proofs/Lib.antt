@@ -1,0 +1,4 @@
+pub mod WordBits
+pub mod Sets
+pub mod Ranges
+pub mod Marks

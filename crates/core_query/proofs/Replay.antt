@@ -153,7 +153,7 @@ module _ (query : Query) (loads : List Load) (new : Load) where
       ]
 
   -- whatever the load did
-  replayed-more : (at later : Position) → Move at later → InOrder at.rest → IsReplayed Longer later
+  pub replayed-more : (at later : Position) → Move at later → InOrder at.rest → IsReplayed Longer later
   replayed-more at later (to_root rest next order) was = next_node-replayed Longer rest (roots_in new.name new.value) order
   replayed-more at later (past_none rest stack n level k low next none) was = next_child-replayed Longer rest stack n level k was
   replayed-more at later (to_bound rest stack n level k low next some) was = record {

@@ -2,3 +2,5 @@ pub mod WordBits
 pub mod Sets
 pub mod Ranges
 pub mod Marks
+pub mod WalkOn
+pub mod WalkEnds

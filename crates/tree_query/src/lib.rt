@@ -9,6 +9,7 @@ mod finder;
 mod finding;
 mod found_ids;
 pub mod laws;
+mod walk_steps;
 
 pub use finder::Finder;
 pub use found_ids::FoundIds;

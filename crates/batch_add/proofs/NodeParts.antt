@@ -31,6 +31,7 @@ use Rattle.batch_add.proofs.Searching.{reserved-newest}
 use Rattle.batch_add.proofs.TakingNodes.{taken-newest}
 use Rattle.batch_add.proofs.PartTurns.{goes-on, part-more, part-again, undoing-loads}
 use Rattle.batch_add.proofs.PartsLeft.{nodes-some, give-few, marks-after, few-after}
+use Rattle.tree_plan.specs.declared.node_count.TheConstants.{MAX_TREE_BODIES}
 
 module _ (op : PrepareOp) (view : View) (at : op.stage ≡ TakingNodes) where
   pub nodes-at : (first : PrepareOp) (start : View) → IsPreparing first start op view → AtPrepare op start view TakingNodes
@@ -168,7 +169,7 @@ module _ (op : PrepareOp) (view : View) (at : op.stage ≡ TakingNodes) where
               wanted = record {
                 in_layers = h.wanted.in_layers;
                 below = subst (λ (l : List Id). All (λ id. id.index < start.config.bodies) l) (sym ids) h.wanted.below;
-                few = subst (λ (l : List Id). length l ≤ 1048576) (sym ids) h.wanted.few;
+                few = subst (λ (l : List Id). length l ≤ MAX_TREE_BODIES) (sym ids) h.wanted.few;
                 rest = h.wanted.rest;
                 current = h.wanted.current;
               };
@@ -270,7 +271,7 @@ module _ (op : PrepareOp) (view : View) (at : op.stage ≡ TakingNodes) where
           wanted = record {
             in_layers = subst (λ (l : ℕ). l < start.config.layers) (sym begins.layer) h.wanted.in_layers;
             below = subst (λ (l : List Id). All (λ id. id.index < start.config.bodies) l) (sym begins.ids) h.wanted.below;
-            few = subst (λ (l : List Id). length l ≤ 1048576) (sym begins.ids) h.wanted.few;
+            few = subst (λ (l : List Id). length l ≤ MAX_TREE_BODIES) (sym begins.ids) h.wanted.few;
             rest = h.wanted.rest;
             current = h.wanted.current;
           };

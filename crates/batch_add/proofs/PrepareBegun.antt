@@ -15,6 +15,7 @@ use Rattle.pass_table.specs.Work.{begun}
 use Rattle.batch_add.specs.Searching.{IsSearching}
 use Rattle.batch_add.specs.Preparing.{ids_of, count_of, need_of, CanPlan, AtPrepare, IsPreparing, entry_at, IsPrepareTurn}
 use Rattle.pass_table.proofs.Working.{worked-begun, worked-done}
+use Rattle.tree_plan.specs.declared.node_count.TheConstants.{MAX_TREE_BODIES}
 
 -- with no bodies nothing is done
 pub empty-turn : (op : PrepareOp) (view : View) (number : ℕ) → IsPass view number → op.stage ≡ Empty → IsPrepareTurn (Done (Err NoBodies)) op op view view
@@ -33,7 +34,7 @@ none-there : {A : Type 0} (l : List A) → length l ≡ 0 → l ≡ []
 none-there [] none = refl
 none-there (x ∷ l) none = absurd (omega arith)
 
-pub few-enough : (a b c : ℕ) → a ≡ b → b ≤ c → c ≤ MAX_BODIES → a ≤ 1048576
+pub few-enough : (a b c : ℕ) → a ≡ b → b ≤ c → c ≤ MAX_BODIES → a ≤ MAX_TREE_BODIES
 few-enough a b c same less most = omega arith
 
 pub same-most : (a b c : ℕ) → a ≡ b → c ≡ b → a ≤ c
@@ -41,7 +42,7 @@ same-most a b c same most = omega arith
 
 -- with all that it needs it is begun
 module _ (op : PrepareOp) (view : View) (number : ℕ) (pass : IsPass view number) (rest : IsAtRest view) (current : ∥ IsCurrent view ∥₁)
-    (in_layers : op.layer < view.config.layers) (below : All (λ id. id.index < view.config.bodies) (ids_of op)) (few : count_of op ≤ 1048576)
+    (in_layers : op.layer < view.config.layers) (below : All (λ id. id.index < view.config.bodies) (ids_of op)) (few : count_of op ≤ MAX_TREE_BODIES)
     (layer : op.search.layer ≡ op.layer) (searching : IsSearching op.search view op.search view) (taking : op.taking.count ≡ need_of op) (nodes : length op.taking.nodes.items ≡ need_of op)
     (bodies : length op.marking.bodies.items ≡ count_of op) (plans : CanPlan (count_of op) op.plans) (indexes : op.indexes.items ≡ map (λ id. id.index) (ids_of op)) where
   begun_at : ((count_of op ≡ 0) × (op.stage ≡ Empty)) ⊎ ((0 < count_of op) × (op.stage ≡ Searching)) → AtPrepare op view view op.stage

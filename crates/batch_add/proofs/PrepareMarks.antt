@@ -40,6 +40,7 @@ use Rattle.batch_add.specs.GivingUp.{IsGivingUp, give_left, stage_left as give_s
 use Rattle.batch_add.specs.Preparing.{CanPlan, ids_of, count_of, need_of, HasSlotAndNodes, with_slot_nodes, with_marks, IsWanted, IsInPart, IsInSome, CameToMarks, CameToDraw, CameToGive, AtPrepare, IsPreparing, BeginsTree, BeginsUndoing, kept_of, left_after, part_left, stage_left, prepare_left, entry_at, entry_of, IsPrepareTurn, takes_at}
 use Rattle.batch_add.proofs.TakingNodes.{taken-newest}
 use Rattle.batch_add.proofs.PartTurns.{goes-on, part-more, part-again, undoing-loads}
+use Rattle.tree_plan.specs.declared.node_count.TheConstants.{MAX_TREE_BODIES}
 
 -- ---- operations for the same bodies
 
@@ -60,7 +61,7 @@ pub same-wanted : (a b : PrepareOp) (start : View) → b.layer ≡ a.layer → i
 same-wanted a b start layer ids wanted = record {
   in_layers = subst (λ (l : ℕ). l < start.config.layers) (sym layer) wanted.in_layers;
   below = subst (λ (l : List Id). All (λ (id : Id). id.index < start.config.bodies) l) (sym ids) wanted.below;
-  few = subst (λ (l : List Id). length l ≤ 1048576) (sym ids) wanted.few;
+  few = subst (λ (l : List Id). length l ≤ MAX_TREE_BODIES) (sym ids) wanted.few;
   rest = wanted.rest;
   current = wanted.current;
 }

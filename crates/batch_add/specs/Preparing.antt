@@ -47,6 +47,7 @@ use Rattle.batch_add.specs.Marking.{IsMarking, mark_left, mark_takes}
 use Rattle.batch_add.specs.DrawStages.{IsDrawing, draw_left}
 use Rattle.batch_add.specs.Keeping.{IsBegunFor}
 use Rattle.batch_add.specs.GivingUp.{IsGivingUp, give_left, give_takes}
+use Rattle.tree_plan.specs.declared.node_count.TheConstants.{MAX_TREE_BODIES}
 
 -- ---- answers
 
@@ -172,7 +173,7 @@ pub record HasRoom (operation : PrepareOp) : Type 0 where
 pub record IsWanted (operation : PrepareOp) (start : View) : Type 0 where
   pub in_layers : operation.layer < start.config.layers
   pub below : All (λ id. id.index < start.config.bodies) (ids_of operation)
-  pub few : count_of operation ≤ 1048576
+  pub few : count_of operation ≤ MAX_TREE_BODIES
   pub rest : IsAtRest start
   pub current : ∥ IsCurrent start ∥₁
 

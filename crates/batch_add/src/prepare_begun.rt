@@ -1,5 +1,6 @@
 //! How a preparation is begun: all memory that it needs is taken.
 ghost use Rattle.std.specs.Prelude.{◌≡◌, ◌<◌, ◌≤◌, length, map, All, IfOk, None};
+ghost use Rattle.tree_plan.specs.declared.node_count.TheConstants.{MAX_TREE_BODIES};
 ghost use Rattle.scene_model.specs.Need.{need};
 ghost use Rattle.pass_table.specs.Passes.{view_of, IsIdle};
 ghost use Rattle.batch_add.specs.Preparing.{ids_of, IsPreparing, CanPlan};
@@ -94,7 +95,7 @@ fn bodies_to_mark(alloc: Global, layer: u32, ids: &[BodyId]) -> Result<Marking, 
 
 /// Room to plan the tree over so many bodies.
 fn room_to_plan(alloc: Global, count: u32) -> Result<Plans, AllocError>
-    requires { count ≤ 1048576 }
+    requires { count ≤ MAX_TREE_BODIES }
     ensures { IfOk result (λ plans. (plans.planner.most ≡ count) × (plans.bounds.most ≡ count)) }
 {
     Ok(Plans {

@@ -82,7 +82,7 @@ module _ (P : Task → Type 0) (idle : (task : Task) → IsIdle task → ¬ P ta
   same-task before after (inr t) = (λ h. absurd (idle before.task t.0 h), λ h. absurd (idle after.task t.1 h))
 
 -- a task that handles a body has its stripe
-handled-stripe : (s : Sight) (view : View) (task : Task) (i : ℕ) → IsHandled task i → IsUnderStripe s view task → Holds view (stripe_of s.config i) Write
+pub handled-stripe : (s : Sight) (view : View) (task : Task) (i : ℕ) → IsHandled task i → IsUnderStripe s view task → Holds view (stripe_of s.config i) Write
 handled-stripe s view (Moving index target) i same h = subst (λ (k : ℕ). Holds view (stripe_of s.config k) Write) same h
 handled-stripe s view (Removing index) i same h = subst (λ (k : ℕ). Holds view (stripe_of s.config k) Write) same h
 handled-stripe s view (Placing index) i same h = subst (λ (k : ℕ). Holds view (stripe_of s.config k) Write) same h

@@ -33,3 +33,5 @@ pub mod Settled
 pub mod BodiesAside
 pub mod Still
 pub mod Light
+pub mod Unowned
+pub mod WidenedBound

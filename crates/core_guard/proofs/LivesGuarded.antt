@@ -43,13 +43,13 @@ GuardsHold-store_head = guarded MayStoreHead store_head (λ core step a asked. l
 
 module _ (core : Core) (step : Step) (a : Acts core step) where
   -- a mark of a body that is not held
-  unmarked : (i : ℕ) → ¬ HasBody (scene_of core) i (λ r. r.phase ≡ Held) → EachOther core step (λ number view. ¬ HasMark view i)
+  pub unmarked : (i : ℕ) → ¬ HasBody (scene_of core) i (λ r. r.phase ≡ Held) → EachOther core step (λ number view. ¬ HasMark view i)
   unmarked i unheld seat number view apart found own t =
       let held = marked-held core a.laws.bodies seat number view found own t.0 t.1 t.2 t.3 in
       unheld (subst (λ (k : ℕ). HasBody (scene_of core) k (λ r. r.phase ≡ Held)) t.4 (some_and_map (record_at (scene_of core) t.1.index) _ _ (λ r h. h.0) held))
 
   -- a live body that they create
-  unmade : (i : ℕ) → ¬ IsNone (record_at (scene_of core) i) → EachOther core step (λ number view. ¬ Makes view i)
+  pub unmade : (i : ℕ) → ¬ IsNone (record_at (scene_of core) i) → EachOther core step (λ number view. ¬ Makes view i)
   unmade i live seat number view apart found own makes =
       let h = a.laws.bodies in
       let s = sight body_scope core in

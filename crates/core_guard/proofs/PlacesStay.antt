@@ -258,7 +258,7 @@ module _ (kind : Kind) (core : Core) (step : Step) (a : Acts core step) (later :
     pub second-forth : IsSecond Was i → IsSecond Is i
     second-forth h = (
       h.0,
-      update-forth h.0 (IsSecondFor Was i) (IsSecondFor Is i) (λ r t. let noted = t.2 in (t.0, t.1, (noted.0, noted.1, noted.2, (b.loc_b ∙ noted.3.0, same-forth noted.0 noted.2 noted.3.1)))) h.1,
+      update-forth h.0 (IsSecondFor Was i) (IsSecondFor Is i) (λ r t. let noted = t.3 in (t.0, t.1, t.2, (noted.0, noted.1, noted.2, (b.loc_b ∙ noted.3.0, same-forth noted.0 noted.2 noted.3.1)))) h.1,
     )
 
     nowhere-forth : (Was.word (LocA i) ≡ 0) × (Was.word (LocB i) ≡ 0) → (Is.word (LocA i) ≡ 0) × (Is.word (LocB i) ≡ 0)
@@ -334,7 +334,8 @@ module _ (kind : Kind) (core : Core) (step : Step) (a : Acts core step) (later :
       unheld = unheld-forth call.task stay p.unheld;
       widened = λ i n k box gives stored location.
           let old = location-back i (stay i (gives-handles call.task i box gives)) n k location in
-          encloses-forth n k box (p.climbs_from n k (gives-climbs Was (acting call rebuild) call.task i n k box gives old)) (p.widened i n k box gives stored old);
+          let was = p.widened i n k box gives stored old in
+          (was.0, encloses-forth n k box (p.climbs_from n k (gives-climbs Was (acting call rebuild) call.task i n k box gives old)) was.1);
       still_wide = λ n k q value stored.
           let t = p.widened_on_way n k q value stored in
           let wide = m.wide n k q (up-stood t.0 t.1 n k (p.climbs_from t.0 t.1 t.2) t.3) in

@@ -130,11 +130,11 @@ waiting-reached word at w among = go at.spot refl among
 
 -- ---- tasks as the law reads them
 
-target-seen : (task : Task) (index q side : ℕ) → IsTarget task index q side → IsTarget (task_at_place task) index q side
+pub target-seen : (task : Task) (index q side : ℕ) → IsTarget task index q side → IsTarget (task_at_place task) index q side
 target-seen (Moving i target) index q side h = h
 target-seen _ index q side h = absurd h
 
-target-was : (task : Task) (index q side : ℕ) → IsTarget (task_at_place task) index q side → IsTarget task index q side
+pub target-was : (task : Task) (index q side : ℕ) → IsTarget (task_at_place task) index q side → IsTarget task index q side
 target-was (Moving i target) index q side h = h
 target-was _ index q side h = absurd h
 
@@ -466,10 +466,10 @@ module _ (kind : Kind) (core : Core) (step : Step) (a : Acts core step) (later :
     pub targets : (index q side : ℕ) → IsTarget step.view.call.task index q side → IsTarget (Last kind core step).call.task index q side
     pub bodies : (seat number : ℕ) (view : View) → IsViewAt core seat view → IsPass view number → (i : ℕ) → IsHandled view.call.task i → KeepsLayer i
 
-  had-forth : (l : ℕ) (box : Sides) → HadInLayer Old l box → HadInLayer Now l box
+  pub had-forth : (l : ℕ) (box : Sides) → HadInLayer Old l box → HadInLayer Now l box
   had-forth l box h = subst (λ (past : List Made). HadInLayer (record Now { history = past }) l box) (sym m.goes_on) (had_in_layer-grown Old Now.word m.more l box h)
 
-  had_as-forth : (from : ℕ) (noted : Noted) (box : Sides) → HadAs Old from noted box → HadAs Now from noted box
+  pub had_as-forth : (from : ℕ) (noted : Noted) (box : Sides) → HadAs Old from noted box → HadAs Now from noted box
   had_as-forth from noted box h =
       let longer = length-grown Old.history m.more in
       subst (λ (past : List Made). HadAs (record Now { history = past }) from noted box) (sym m.goes_on) (
@@ -520,7 +520,7 @@ idle-target : (task : Task) (index q side : ℕ) → IsIdle task → ¬ IsTarget
 idle-target (Moving i target) index q side calm h = calm
 idle-target _ index q side calm h = h
 
-idle-climbs : (nodes : Nodes) (s : Sight) (task : Task) → IsIdle task → ClimbsInTrees nodes s task
+pub idle-climbs : (nodes : Nodes) (s : Sight) (task : Task) → IsIdle task → ClimbsInTrees nodes s task
 idle-climbs nodes s (Moving index target) calm = absurd calm
 idle-climbs nodes s (Removing index) calm = absurd calm
 idle-climbs nodes s _ calm = tt

@@ -1,2 +1,13 @@
+pub mod Standing
+pub mod MoveSteps
+pub mod MoveBodies
+pub mod Widening
+pub mod WidenSteps
+pub mod Climbing
+pub mod Reboxed
+pub mod SideStores
+pub mod CoverMoved
+pub mod LastStores
+pub mod Closing
 pub mod ParentLoads
 pub mod Keeping

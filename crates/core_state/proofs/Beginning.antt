@@ -156,7 +156,7 @@ published_name (superseded p name) h = absurd h
 published_name (returning p) h = absurd h
 
 -- the last point of a history is the scene after it
-last_point : (core : Core) → point core.config.bodies (history core.log) (length (history core.log)) ≡ scene_of core
+pub last_point : (core : Core) → point core.config.bodies (history core.log) (length (history core.log)) ≡ scene_of core
 last_point core = ap (scene_after core.config.bodies) (take_all (length (history core.log)) (history core.log) (omega arith))
 
 module _ (core : Core) (formed : IsFormed core) (h : Invariants core) (query : Query) (walk : Walk) (from : walk.from ≤ length (history core.log)) where

@@ -11,7 +11,7 @@ use Rattle.word_map.specs.declared.name.Name.TheVariants.{State, Phase, Layer, U
 use Rattle.word_map.specs.Limits.{IsConfig}
 use Rattle.fixed_box.specs.declared.fix_box.FixBox.{FixBox}
 use Rattle.scene_model.specs.declared.entry.Entry.{Entry}
-use Rattle.scene_model.specs.declared.entry.Entry.TheVariants.{Create, Join}
+use Rattle.scene_model.specs.declared.entry.Entry.TheVariants.{Create, Join, Move}
 use Rattle.core_state.specs.declared.item.Item.{Item}
 use Rattle.core_state.specs.declared.view.Role.{Role}
 use Rattle.core_state.specs.declared.view.Role.TheVariants.{Pass, Visitor, Spent}
@@ -21,12 +21,13 @@ use Rattle.core_state.specs.Log.{IsPrefix}
 use Rattle.core_state.specs.View.{number_in, known_word, blank_view}
 use Rattle.core_state.specs.Boxes.{box_of}
 use Rattle.core_state.specs.Lives.{creation_of, destruction_of, new_user_of}
+use Rattle.core_state.specs.Moving.{box_with_last, move_of}
 use Rattle.core_state.specs.Batches.{mark_of, unmark_of, batch_for, joined_by}
 use Rattle.core_state.specs.Core.{Core, IsViewAt, opening}
 use Rattle.core_state.specs.Operation.{stores}
 use Rattle.core_state.specs.Kind.{Kind, Asking, Step, IsAllowed, Steps, found_by, left_by, item_of, gained_by, log_after, view_after, after_step}
 use Rattle.core_state.specs.Seats.{Opens, Visits, Joins, after_split, visitor_of, joined_view, spent_view}
-use Rattle.core_state.specs.Event.{Event, opens_pass, splits_visitor, joins_visitor, looks, of_locks, of_lists, of_bodies, of_batches, of_pool, of_walks, of_moves, LockEvent, loads_lock, takes_read, takes_write, releases, ListEvent, loads_list, stores_link, stores_head, BodyEvent, stores_field, creates, destroys, loads_body, sets_user, BatchEvent, loads_slot, reserves, marks, stores_node, places, attaches, takes_back, unmarks, lets_slot_go, PoolEvent, stores_pool_link, stores_pool_head, stores_pool_count, WalkEvent, begins_walk, ends_walk, walks_slot, walks_main, walks_child, walks_bound, MoveEvent, loads_parent, Run, begins, goes_on}
+use Rattle.core_state.specs.Event.{Event, opens_pass, splits_visitor, joins_visitor, looks, of_locks, of_lists, of_bodies, of_batches, of_pool, of_walks, of_moves, LockEvent, loads_lock, takes_read, takes_write, releases, ListEvent, loads_list, stores_link, stores_head, BodyEvent, stores_field, creates, destroys, loads_body, sets_user, BatchEvent, loads_slot, reserves, marks, stores_node, places, attaches, takes_back, unmarks, lets_slot_go, PoolEvent, stores_pool_link, stores_pool_head, stores_pool_count, WalkEvent, begins_walk, ends_walk, walks_slot, walks_main, walks_child, walks_bound, MoveEvent, widens_low, widens_high, loads_parent, stores_side, stores_last_side, Run, begins, goes_on}
 use Rattle.core_state.specs.Formed.{IsMadeOn, IsSoundItem, HasNumbers, AreApart, IsSoundView, IsFormed}
 use Rattle.std.proofs.lemmas.Option.{same_Some, none-some}
 use Rattle.core_state.proofs.Lookups.{at_set, at_push}
@@ -347,6 +348,15 @@ joins-said : (view : View) (name : Name) → IfSome (joined_by view name) (λ en
 joins-said view (Slot layer slot) = joining-said layer slot (batch_for layer slot view)
 joins-said view _ = tt
 
+-- a move speaks of the body whose box word it stores
+moved-said : (index k : ℕ) (bounds : Option FixBox) → IfSome (option_map (λ b. Move index b) bounds) (λ entry. IsMadeOn entry (BoxWord index k))
+moved-said index k None = tt
+moved-said index k (Some b) = (k, refl)
+
+moves-said : (view : View) (name : Name) (value : ℕ) → IfSome (move_of view name value) (λ entry. IsMadeOn entry name)
+moves-said view (BoxWord index k) value = moved-said index k (box_of (box_with_last view index value))
+moves-said view _ value = tt
+
 -- each group of kinds
 IsFormed-locks : (before after : Core) → LockEvent before after → IsFormed before → IsFormed after
 IsFormed-locks before after (loads_lock e) formed = IsFormed-steps _ _ before after (says-nothing _ (λ view name value. refl)) e formed
@@ -391,7 +401,11 @@ IsFormed-walks before after (walks_child e) formed = IsFormed-steps _ _ before a
 IsFormed-walks before after (walks_bound e) formed = IsFormed-steps _ _ before after (says-nothing _ (λ view name value. refl)) e formed
 
 IsFormed-moves : (before after : Core) → MoveEvent before after → IsFormed before → IsFormed after
+IsFormed-moves before after (widens_low index e) formed = IsFormed-steps _ _ before after (says-nothing _ (λ view name value. refl)) e formed
+IsFormed-moves before after (widens_high index e) formed = IsFormed-steps _ _ before after (says-nothing _ (λ view name value. refl)) e formed
 IsFormed-moves before after (loads_parent index e) formed = IsFormed-steps _ _ before after (says-nothing _ (λ view name value. refl)) e formed
+IsFormed-moves before after (stores_side e) formed = IsFormed-steps _ _ before after (says-nothing _ (λ view name value. refl)) e formed
+IsFormed-moves before after (stores_last_side e) formed = IsFormed-steps _ _ before after (record { said = moves-said }) e formed
 
 pub IsFormed-event : (before after : Core) → Event before after → IsFormed before → IsFormed after
 IsFormed-event before after (opens_pass e) formed = IsFormed-opens before after e formed

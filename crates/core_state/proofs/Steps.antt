@@ -13,7 +13,7 @@ use Rattle.core_state.specs.Core.{Core, word_of, IsViewAt}
 use Rattle.core_state.specs.Operation.{Operation, load, store, exchange, compare_exchange, fetch_add, fetch_min, fetch_max, stores, result_of}
 use Rattle.core_state.specs.Kind.{Kind, Asking, Step, Steps, found_by, left_by, item_of, gained_by, log_after, view_after, after_step}
 use Rattle.core_state.specs.Seats.{Joins, after_split, joined_view, spent_view}
-use Rattle.core_state.specs.Event.{Event, opens_pass, splits_visitor, joins_visitor, looks, of_locks, of_lists, of_bodies, of_batches, of_pool, of_walks, of_moves, LockEvent, loads_lock, takes_read, takes_write, releases, ListEvent, loads_list, stores_link, stores_head, BodyEvent, stores_field, creates, destroys, loads_body, sets_user, BatchEvent, loads_slot, reserves, marks, stores_node, places, attaches, takes_back, unmarks, lets_slot_go, PoolEvent, stores_pool_link, stores_pool_head, stores_pool_count, WalkEvent, begins_walk, ends_walk, walks_slot, walks_main, walks_child, walks_bound, MoveEvent, loads_parent, Run, begins, goes_on, ChangesOne}
+use Rattle.core_state.specs.Event.{Event, opens_pass, splits_visitor, joins_visitor, looks, of_locks, of_lists, of_bodies, of_batches, of_pool, of_walks, of_moves, LockEvent, loads_lock, takes_read, takes_write, releases, ListEvent, loads_list, stores_link, stores_head, BodyEvent, stores_field, creates, destroys, loads_body, sets_user, BatchEvent, loads_slot, reserves, marks, stores_node, places, attaches, takes_back, unmarks, lets_slot_go, PoolEvent, stores_pool_link, stores_pool_head, stores_pool_count, WalkEvent, begins_walk, ends_walk, walks_slot, walks_main, walks_child, walks_bound, MoveEvent, widens_low, widens_high, loads_parent, stores_side, stores_last_side, Run, begins, goes_on, ChangesOne}
 use Rattle.core_state.proofs.Lookups.{at_bound, at_one, at_longer, set_here, set_else}
 use Rattle.core_state.proofs.Prefixes.{IsPrefix-refl, IsPrefix-trans}
 use Rattle.core_state.proofs.Reading.{word-stored, word-other, words-push, words-named}
@@ -145,7 +145,11 @@ walks-prefix before after (walks_child e) = steps-prefix _ _ before after e
 walks-prefix before after (walks_bound e) = steps-prefix _ _ before after e
 
 moves-prefix : (before after : Core) → MoveEvent before after → IsPrefix before.log after.log
+moves-prefix before after (widens_low index e) = steps-prefix _ _ before after e
+moves-prefix before after (widens_high index e) = steps-prefix _ _ before after e
 moves-prefix before after (loads_parent index e) = steps-prefix _ _ before after e
+moves-prefix before after (stores_side e) = steps-prefix _ _ before after e
+moves-prefix before after (stores_last_side e) = steps-prefix _ _ before after e
 
 pub event-prefix : (before after : Core) → Event before after → IsPrefix before.log after.log
 event-prefix before after (opens_pass e) = same-prefix before after (ap (λ (c : Core). c.log) e.result)
@@ -234,7 +238,11 @@ walks-one before after (walks_child e) = steps-one _ _ before after e
 walks-one before after (walks_bound e) = steps-one _ _ before after e
 
 moves-one : (before after : Core) → MoveEvent before after → ChangesOne before after
+moves-one before after (widens_low index e) = steps-one _ _ before after e
+moves-one before after (widens_high index e) = steps-one _ _ before after e
 moves-one before after (loads_parent index e) = steps-one _ _ before after e
+moves-one before after (stores_side e) = steps-one _ _ before after e
+moves-one before after (stores_last_side e) = steps-one _ _ before after e
 
 pub event-one : (before after : Core) → Event before after → ChangesOne before after
 event-one before after (opens_pass e) = split-one before after e.seat _ _ e.result

@@ -12,7 +12,7 @@ use Rattle.core_state.specs.Lives.{MayStoreField, store_field, MayCreate, create
 use Rattle.core_state.specs.Batches.{MayLoadSlot, load_slot, MayReserve, reserve, MayMark, mark, MayStoreNode, store_node, MayPlace, place_body, MayAttach, attach, MayTakeBack, take_back, MayUnmark, unmark, MayLetSlotGo, let_slot_go}
 use Rattle.core_state.specs.Pool.{MayStorePoolLink, store_pool_link, MayStorePoolHead, store_pool_head, MayStorePoolCount, store_pool_count}
 use Rattle.core_state.specs.Walks.{MayBegin, begin_walk, MayEnd, end_walk, MayWalkSlot, walk_slot, MayWalkMain, walk_main, MayWalkChild, walk_child, MayWalkBound, walk_bound}
-use Rattle.core_state.specs.Moving.{MayLoadParentMoving, load_parent_moving}
+use Rattle.core_state.specs.Moving.{MayWidenLow, widen_low, MayWidenHigh, widen_high, MayLoadParentMoving, load_parent_moving, MayStoreSide, store_side, MayStoreLastSide, store_last_side}
 
 -- a step on a lock
 pub data LockEvent (before after : Core) : Type 0 where
@@ -64,7 +64,11 @@ pub data WalkEvent (before after : Core) : Type 0 where
 
 -- a step of a move
 pub data MoveEvent (before after : Core) : Type 0 where
+  widens_low : (index : ℕ) → Steps (MayWidenLow index) (widen_low index) before after → MoveEvent before after
+  widens_high : (index : ℕ) → Steps (MayWidenHigh index) (widen_high index) before after → MoveEvent before after
   loads_parent : (index : ℕ) → Steps (MayLoadParentMoving index) (load_parent_moving index) before after → MoveEvent before after
+  stores_side : Steps MayStoreSide store_side before after → MoveEvent before after
+  stores_last_side : Steps MayStoreLastSide store_last_side before after → MoveEvent before after
 
 -- one event leads from the one core to the other; docs/steps.md has the kinds by number
 pub data Event (before after : Core) : Type 0 where

@@ -118,10 +118,10 @@ pub data IsWhere (nodes : Nodes) (s : Sight) (i layer n : ℕ) : Type 0 where
   in_merged : (number t root : ℕ) → s.word (Phase i) ≡ phase_in → s.word (LocB i) ≢ 0 → nodes.home n ≡ under (Slot layer t)
       → HasPass s number (λ view. HasUpdate view (λ r. IsStillMerged r layer t root)) → IsWhere nodes s i layer n
 
--- a second location is the place that the update planned for the body, which it has placed and not promoted; and the body
--- that was noted is the one that is live
+-- a second location is the place that the update, whose trees are planned, planned for the body, which it has placed and not
+-- promoted; and the body that was noted is the one that is live
 abbrev pub IsSecondFor : Sight → ℕ → Rebuild → Type 0
-IsSecondFor s i r = Contains r.placed i × ¬ Contains r.promoted i × IsNoted r i (λ n. (s.word (LocB i) ≡ n.place) × IsSameBody s n)
+IsSecondFor s i r = (r.is_planned ≡ true) × Contains r.placed i × ¬ Contains r.promoted i × IsNoted r i (λ n. (s.word (LocB i) ≡ n.place) × IsSameBody s n)
 
 abbrev pub IsSecond : Sight → ℕ → Type 0
 IsSecond s i = (number : ℕ) × HasPass s number (λ view. HasUpdate view (IsSecondFor s i))
@@ -151,10 +151,15 @@ abbrev pub GivesBox : Task → ℕ → Sides → Type 0
 GivesBox (Moving index target) i box = (index ≡ i) × (box ≡ sides_of target)
 GivesBox _ i box = ⊥
 
--- once a box word is stored, the new box is enclosed at every location of the body
+-- all six sides of it are known
+abbrev pub HasSixSides : Task → Type 0
+HasSixSides (Moving index target) = length target ≡ 6
+HasSixSides _ = ⊤
+
+-- once a box word is stored, the new box is whole, and enclosed at every location of the body
 abbrev pub IsWidened : Sight → View → Type 0
 IsWidened s view = (i n k : ℕ) (box : Sides) → GivesBox view.call.task i box → has_box_word view.call.stores ≡ true → IsLocation s i n k
-    → Encloses s n k box
+    → HasSixSides view.call.task × Encloses s n k box
 
 -- a bound that it widened is still as wide
 abbrev pub IsStillWide : Sight → View → Type 0

@@ -15,7 +15,7 @@ use Rattle.core_state.specs.View.{known_alone, own_known, number_in, IsPass}
 use Rattle.core_state.specs.Core.{Core, IsViewAt, opening}
 use Rattle.core_state.specs.Kind.{Kind, Asking, Step, Steps, left_by, item_of, gained_by, view_after, after_step}
 use Rattle.core_state.specs.Seats.{Opens, Visits, Joins, after_split, visitor_of, joined_view, spent_view}
-use Rattle.core_state.specs.Event.{Event, opens_pass, splits_visitor, joins_visitor, looks, loads_lock, takes_read, takes_write, releases, loads_list, stores_link, stores_head, stores_field, creates, destroys, loads_body, sets_user, loads_slot, reserves, marks, stores_node, places, attaches, takes_back, unmarks, lets_slot_go, stores_pool_link, stores_pool_head, stores_pool_count, of_locks, of_lists, of_bodies, of_batches, of_pool, begins_walk, ends_walk, walks_slot, walks_main, walks_child, walks_bound, of_walks, loads_parent, of_moves}
+use Rattle.core_state.specs.Event.{Event, opens_pass, splits_visitor, joins_visitor, looks, loads_lock, takes_read, takes_write, releases, loads_list, stores_link, stores_head, stores_field, creates, destroys, loads_body, sets_user, loads_slot, reserves, marks, stores_node, places, attaches, takes_back, unmarks, lets_slot_go, stores_pool_link, stores_pool_head, stores_pool_count, of_locks, of_lists, of_bodies, of_batches, of_pool, begins_walk, ends_walk, walks_slot, walks_main, walks_child, walks_bound, of_walks, widens_low, widens_high, loads_parent, stores_side, stores_last_side, of_moves}
 use Rattle.core_state.specs.Formed.{AreApart, IsSoundView, IsFormed}
 use Rattle.core_state.proofs.Lookups.{at_set}
 use Rattle.core_state.proofs.Prefixes.{IsPrefix-refl, IsPrefix-trans}
@@ -216,7 +216,11 @@ OwnAreKnown-event before after (of_walks (walks_slot e)) formed own = OwnAreKnow
 OwnAreKnown-event before after (of_walks (walks_main e)) formed own = OwnAreKnown-steps _ _ before after e formed own
 OwnAreKnown-event before after (of_walks (walks_child e)) formed own = OwnAreKnown-steps _ _ before after e formed own
 OwnAreKnown-event before after (of_walks (walks_bound e)) formed own = OwnAreKnown-steps _ _ before after e formed own
+OwnAreKnown-event before after (of_moves (widens_low index e)) formed own = OwnAreKnown-steps _ _ before after e formed own
+OwnAreKnown-event before after (of_moves (widens_high index e)) formed own = OwnAreKnown-steps _ _ before after e formed own
 OwnAreKnown-event before after (of_moves (loads_parent index e)) formed own = OwnAreKnown-steps _ _ before after e formed own
+OwnAreKnown-event before after (of_moves (stores_side e)) formed own = OwnAreKnown-steps _ _ before after e formed own
+OwnAreKnown-event before after (of_moves (stores_last_side e)) formed own = OwnAreKnown-steps _ _ before after e formed own
 
 pub Stands-event : (before after : Core) → Event before after → Stands before → Stands after
 Stands-event before after event stands = record {

@@ -23,8 +23,8 @@ use Rattle.pass_table.specs.Knowing.{KnowsMore, StoresAlone, alone-trans, more-a
 use Rattle.pass_table.specs.TakeTurns.{taking_of, HasTaken, more-quiet}
 use Rattle.pass_table.specs.Trying.{with_taken, LoadedLock, MayTake, ExchangedLock, Tried, WasBusy, WasLost}
 use Rattle.pass_table.specs.Turning.{MadeBy}
-use Rattle.pass_table.specs.declared.taking.Take.{Take}
-use Rattle.pass_table.specs.declared.taking.Take.TheVariants.{Taken, Busy, Lost}
+use Rattle.pass_table.specs.declared.take_answer.Take.{Take}
+use Rattle.pass_table.specs.declared.take_answer.Take.TheVariants.{Taken, Busy, Lost}
 use Rattle.pass_table.proofs.Between.{more-trans}
 use Rattle.pass_table.proofs.Calling.{Adds-refl, adds-more, adds-none, more-foreign, released-made, released-left}
 use Rattle.pass_table.proofs.Knowing.{came-others, knows-more, step-alone, lock-step-quiet}

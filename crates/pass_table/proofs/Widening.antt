@@ -1,13 +1,13 @@
--- Bounds of trees only widen: no step stores one of a node that stands.
+-- Bounds of trees only widen: of the steps that store one of a node that stands each makes it wider.
 use Rattle.std.specs.Prelude.{⊤}
 use Rattle.std.proofs.Common.{◌≡◌, ◌≢◌, ℕ, false, refl, ap, sym, ◌∙◌, subst, arith}
 use Rattle.std.proofs.lemmas.Option.{same_Some}
 use Rattle.word_map.specs.declared.name.Name.{Name}
-use Rattle.word_map.specs.declared.name.Name.TheVariants.{Lock, SlotHead, SlotNext, State, User, Bound, Slot, Phase, LocA, PoolNext, PoolHead, PoolFree, Reader, Parent}
+use Rattle.word_map.specs.declared.name.Name.TheVariants.{Lock, SlotHead, SlotNext, State, User, BoxWord, Bound, Slot, Phase, LocA, PoolNext, PoolHead, PoolFree, Reader, Parent}
 use Rattle.core_state.specs.Core.{Core, word_of}
 use Rattle.core_state.specs.Operation.{stores}
 use Rattle.core_state.specs.Kind.{Kind, Asking, Steps, found_by}
-use Rattle.core_state.specs.Event.{Event, opens_pass, splits_visitor, joins_visitor, looks, loads_lock, takes_read, takes_write, releases, loads_list, stores_link, stores_head, stores_field, creates, destroys, loads_body, sets_user, loads_slot, reserves, marks, places, attaches, takes_back, unmarks, lets_slot_go, stores_pool_link, stores_pool_head, stores_pool_count, stores_node, of_locks, of_lists, of_bodies, of_batches, of_pool, begins_walk, ends_walk, walks_slot, walks_main, walks_child, walks_bound, of_walks, loads_parent, of_moves}
+use Rattle.core_state.specs.Event.{Event, opens_pass, splits_visitor, joins_visitor, looks, loads_lock, takes_read, takes_write, releases, loads_list, stores_link, stores_head, stores_field, creates, destroys, loads_body, sets_user, loads_slot, reserves, marks, places, attaches, takes_back, unmarks, lets_slot_go, stores_pool_link, stores_pool_head, stores_pool_count, stores_node, of_locks, of_lists, of_bodies, of_batches, of_pool, begins_walk, ends_walk, walks_slot, walks_main, walks_child, walks_bound, of_walks, widens_low, widens_high, loads_parent, stores_side, stores_last_side, of_moves}
 use Rattle.core_state.specs.Looking.{look}
 use Rattle.core_state.specs.Locking.{load_lock, take_read, take_write, release}
 use Rattle.core_state.specs.Lists.{load_list, store_link, store_head}
@@ -15,7 +15,8 @@ use Rattle.core_state.specs.Lives.{IsFieldOf, store_field, create, destroy, load
 use Rattle.core_state.specs.Batches.{MayStoreNode, load_slot, reserve, mark, store_node, place_body, attach, take_back, unmark, let_slot_go}
 use Rattle.core_state.specs.Pool.{store_pool_link, store_pool_head, store_pool_count}
 use Rattle.core_state.specs.Walks.{begin_walk, end_walk, walk_slot, walk_main, walk_child, walk_bound}
-use Rattle.core_state.specs.Moving.{load_parent_moving}
+use Rattle.core_state.specs.Moving.{load_parent_moving, store_side, store_last_side}
+use Rattle.core_move.proofs.WidenSteps.{widen_low-widens, widen_high-widens}
 use Rattle.core_state.specs.Invariants.{Invariants}
 use Rattle.core_batch.proofs.Owning.{batch-home}
 use Rattle.core_state.specs.Nodes.{Nodes, Stands, node_in}
@@ -110,4 +111,8 @@ module _ (before after : Core) (h : Invariants before) where
   event_widens (of_walks (walks_main e)) = on_load h.nodes _ walk_main before after e (λ found first. refl)
   event_widens (of_walks (walks_child e)) = on_load h.nodes _ walk_child before after e (λ found first. refl)
   event_widens (of_walks (walks_bound e)) = on_load h.nodes _ walk_bound before after e (λ found first. refl)
+  event_widens (of_moves (widens_low index e)) = widen_low-widens index h.nodes before after e
+  event_widens (of_moves (widens_high index e)) = widen_high-widens index h.nodes before after e
   event_widens (of_moves (loads_parent index e)) = let asked = e.allowed.asked in aside h.nodes _ (load_parent_moving index) before after e (Parent asked.node) asked.names (λ none. none)
+  event_widens (of_moves (stores_side e)) = let asked = e.allowed.asked in aside h.nodes _ store_side before after e (BoxWord asked.index asked.side) asked.names (λ none. none)
+  event_widens (of_moves (stores_last_side e)) = let asked = e.allowed.asked in aside h.nodes _ store_last_side before after e (BoxWord asked.index 5) asked.names (λ none. none)

@@ -6,8 +6,8 @@ use Rattle.word_map.specs.Limits.{IsConfig, fault_of}
 use Rattle.core_state.specs.declared.view.Role.TheVariants.{Pass as PassRole}
 use Rattle.core_state.specs.declared.view.View.{View}
 use Rattle.core_state.specs.View.{blank_view}
-use Rattle.pass_table.specs.declared.opened.OpenFault.{OpenFault}
-use Rattle.pass_table.specs.declared.opened.OpenFault.TheVariants.{BadConfig, Memory}
+use Rattle.pass_table.specs.declared.open_fault.OpenFault.{OpenFault}
+use Rattle.pass_table.specs.declared.open_fault.OpenFault.TheVariants.{BadConfig, Memory}
 use Rattle.pass_table.specs.declared.pass.Pass.{Pass}
 use Rattle.pass_table.specs.declared.world.World.{World}
 use Rattle.pass_table.specs.Passes.{view_of, IsOf, IsIdle}

@@ -12,8 +12,8 @@ use Rattle.core_state.specs.Log.{word, IsPrefix}
 use Rattle.core_state.specs.Kind.{Asking}
 use Rattle.core_state.specs.Locking.{MayLoadLock, load_lock, MayRead, MayWrite, take}
 use Rattle.pass_table.specs.Stepping.{Stepped}
-use Rattle.pass_table.specs.declared.taking.Take.{Take}
-use Rattle.pass_table.specs.declared.taking.Take.TheVariants.{Taken, Busy, Lost}
+use Rattle.pass_table.specs.declared.take_answer.Take.{Take}
+use Rattle.pass_table.specs.declared.take_answer.Take.TheVariants.{Taken, Busy, Lost}
 
 abbrev pub mode_if : Bool → Mode
 mode_if true = Write

@@ -12,52 +12,42 @@
 
 mod calls;
 mod driving;
-mod kinds;
-mod kinds_batches;
-mod kinds_walks;
+mod kind;
 mod label;
 pub mod laws;
 mod lock_set;
 mod locks;
 mod looking;
-mod open;
-mod opened;
-mod opening;
+mod open_fault;
+mod opening_words;
 mod operation;
 mod pass;
+mod pass_list;
+mod pass_step;
 mod rule;
 mod seats;
-mod step;
-mod stepping;
+mod table_step;
+mod take_answer;
 mod take_op;
 mod take_turns;
-mod taking;
 mod turn;
-mod typed;
-mod typed_batches;
-mod typed_bodies;
-mod typed_lists;
-mod typed_walks;
 mod world;
 
 pub use driving::drive;
+pub use kind::{
+    step_4, step_5, step_6, step_7, step_8, step_9, step_10, step_11, step_12, step_13, step_14,
+    step_15, step_16, step_17, step_18, step_19, step_20, step_21, step_22, step_23, step_24,
+    step_25, step_26, step_27, step_28, step_29, step_30, step_31, step_32, step_33,
+};
 pub use label::Label;
 pub use locks::{release, take_read, take_write, try_take};
-pub use open::{PassList, open_world};
-pub use opened::OpenFault;
+pub use open_fault::OpenFault;
 pub use operation::Operation;
 pub use pass::Pass;
+pub use pass_list::{PassList, open_world};
+pub use take_answer::Take;
 pub use take_op::TakeOp;
-pub use taking::Take;
 pub use turn::Turn;
-pub use typed::{step_4, step_5, step_6, step_7, step_8};
-pub use typed_batches::{
-    step_17, step_18, step_19, step_20, step_21, step_22, step_23, step_24, step_25, step_26,
-    step_27,
-};
-pub use typed_bodies::{step_12, step_13, step_14, step_15, step_16};
-pub use typed_lists::{step_9, step_10, step_11};
-pub use typed_walks::{step_28, step_29, step_30, step_31, step_32, step_33};
 pub use world::World;
 
 /// A world may be shared between threads.

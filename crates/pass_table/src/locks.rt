@@ -14,8 +14,8 @@ ghost use Rattle.pass_table.specs.Trying.{mode_if, Excludes, Leaves, HadWord, wi
 ghost use Rattle.pass_table.specs.Passes.{view_of, IsOf};
 
 use crate::pass::Pass;
-use crate::taking::Take;
-use crate::typed::{step_5, step_6, step_7};
+use crate::take_answer::Take;
+use crate::kind::{step_5, step_6, step_7};
 use crate::world::World;
 use core_state::Mode;
 use crossbeam_utils::Backoff;

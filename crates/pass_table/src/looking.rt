@@ -6,10 +6,10 @@ ghost use Rattle.pass_table.specs.Work.{Tells};
 ghost use Rattle.pass_table.specs.Knowing.{Looked, MeetsWith};
 ghost use Rattle.pass_table.specs.Passes.{view_of, IsOf};
 
-use crate::kinds::Look;
+use crate::kind::Look;
 use crate::pass::Pass;
 use crate::seats::{Meet, Visit};
-use crate::step;
+use crate::table_step;
 use crate::world::World;
 use word_map::Name;
 
@@ -45,6 +45,6 @@ impl Pass {
         let visitor = words.split_seat::<Visit>(&mut other.seat);
         words.join_seat::<Meet>(&mut self.seat, visitor);
         let place = world.map.place(Name::Update);
-        step::load::<Look>(words, &mut self.seat, place);
+        table_step::load::<Look>(words, &mut self.seat, place);
     }
 }

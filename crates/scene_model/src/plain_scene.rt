@@ -21,7 +21,7 @@ use std::marker::Model;
 fn is_in_mask(mask: u8, layer: u32) -> bool
     ensures { result ≡ (bit_at mask layer == 1) }
 {
-    layer < 8 && (mask >> layer) % 2 == 1
+    layer < u8::BITS && (mask >> layer) % 2 == 1
 }
 
 /// Whether the bounds pass the test.

@@ -1,5 +1,5 @@
 -- The fields of a line, and what is wrong with words that spell none.
-use Rattle.std.specs.Prelude.{ℕ, ◌&&◌, if◌then◌else◌, List, [], ◌∷◌, ◌≡◌, map, length, Option, Some, None, ℤ, pos, negsuc, int_le, nat_le, nat_lt, nat_abs, zip}
+use Rattle.std.specs.Prelude.{ℕ, ◌&&◌, if◌then◌else◌, List, [], ◌∷◌, ◌≡◌, map, length, Option, Some, None, ℤ, pos, negsuc, int_le, nat_le, nat_lt, nat_abs, zip, ◌-◌, ◌^◌}
 use Rattle.std.specs.List.{list_all}
 use Rattle.std.specs.Option.{option_map}
 use Rattle.std.specs.Fmt.{decimal, signed_decimal}
@@ -11,6 +11,7 @@ use Rattle.fixed_box.specs.Range.{IsStep}
 use Rattle.word_map.specs.declared.config.Config.{Config}
 use Rattle.word_map.specs.declared.config.Field.{Field}
 use Rattle.word_map.specs.declared.config.Field.TheVariants as fields
+use Rattle.word_map.specs.declared.config.TheConstants.{MAX_LAYERS}
 use Rattle.word_map.specs.Limits.{fault_of, IsConfig}
 use Rattle.script_text.specs.Command.{corner_words}
 use Rattle.script_text.specs.Fault.{first_of}
@@ -76,12 +77,13 @@ pub record SpellsSize (field : Field) (word : List ℕ) (n : ℕ) : Type 0 where
   pub value : pos n ≡ number_of word
   pub within : IsConfig (sizes_with field n)
 
--- a layer is 0 to 7, and below the number of layers of the world
+-- a layer is below the most that a world may have, and below the number of layers of the world
 abbrev pub layer_fault : ℕ → List ℕ → Option Code
-layer_fault layers word = first_of (number_fault (pos 0) (pos 7) word ∷ (if nat_lt (nat_abs (number_of word)) layers then None else Some code.Range) ∷ [])
+layer_fault layers word = first_of (number_fault (pos 0) (pos (MAX_LAYERS - 1)) word ∷ (if nat_lt (nat_abs (number_of word)) layers then None else Some code.Range) ∷ [])
 
 abbrev pub user_fault : List ℕ → Option Code
 user_fault word = number_fault (pos 0) (pos 4294967295) word
 
+-- a mask has a bit for each layer that a world may have
 abbrev pub mask_fault : List ℕ → Option Code
-mask_fault word = number_fault (pos 0) (pos 255) word
+mask_fault word = number_fault (pos 0) (pos (2 ^ MAX_LAYERS - 1)) word

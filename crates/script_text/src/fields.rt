@@ -1,5 +1,6 @@
-ghost use Rattle.std.specs.Prelude.{◌≡◌, ◌<◌, ◌∷◌, [], pos, negsuc, false, IsTrue, MatchResult, ⊤, decimal};
+ghost use Rattle.std.specs.Prelude.{◌≡◌, ◌<◌, ◌∷◌, [], pos, negsuc, false, IsTrue, MatchResult, ⊤, decimal, ◌-◌, ◌^◌};
 ghost use Rattle.fixed_box.specs.Corner.{is_at_most};
+ghost use Rattle.word_map.specs.declared.config.TheConstants.{MAX_LAYERS};
 ghost use Rattle.script_text.specs.Lines.{texts};
 ghost use Rattle.script_text.specs.Fault.{Reads, first_of};
 ghost use Rattle.script_text.specs.Number.{Spells, SpellsNatural, number_of};
@@ -157,8 +158,8 @@ pub fn read_user(word: &[u8]) -> Result<u32, Code>
 
 /// The mask that a word spells: its bit l asks the layer l.
 pub fn read_mask(word: &[u8]) -> Result<u8, Code>
-    ensures { Reads result (mask_fault word.now) (SpellsNatural word.now 0 255) }
+    ensures { Reads result (mask_fault word.now) (SpellsNatural word.now 0 (2 ^ MAX_LAYERS - 1)) }
 {
-    let mask = read_natural(word, 0, 255)?;
+    let mask = read_natural(word, 0, u8::MAX as u32)?;
     Ok(mask as u8)
 }

@@ -4,5 +4,5 @@ use Rattle.std.proofs.lemmas.Bool.Decides.{nat_tests}
 use Rattle.scene_model.proofs.plain_scene.is_in_mask.Goals as goal
 
 -- a mask of eight bits has no bit from the eighth on
-pub returns-else-layer-lt8 : goal.returns-else-layer-lt8
-returns-else-layer-lt8 c = grind (arith, nat_tests, bit_at_above c.args.mask 8 c.args.layer c.ranges.mask.fits (omega arith))
+pub returns-else-layer-lt-BITS : goal.returns-else-layer-lt-BITS
+returns-else-layer-lt-BITS c = grind (arith, nat_tests, bit_at_above c.args.mask 8 c.args.layer c.ranges.mask.fits (omega arith))

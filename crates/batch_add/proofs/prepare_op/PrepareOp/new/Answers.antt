@@ -8,6 +8,7 @@ use Rattle.batch_add.specs.declared.prepare_op.PrepareStage.TheVariants.{Empty, 
 use Rattle.batch_add.proofs.PrepareBegun.{few-enough, same-most, preparing-begun}
 use Rattle.batch_add.proofs.prepare_op.PrepareOp.new.Goals as goal
 use Rattle.batch_add.proofs.prepare_op.PrepareOp.new.Goals.{then-count-eq0, else-count-eq0}
+use Rattle.tree_plan.specs.declared.node_count.TheConstants.{MAX_TREE_BODIES}
 
 pub returns-clause-begun : goal.returns-clause-begun
 returns-clause-begun c =
@@ -15,7 +16,7 @@ returns-clause-begun c =
     let all = c.args.ids.now in
     let ids = c.in_ok-marking.ensures.0 in
     let many : length c.in_ok-marking.marking.ids.items ≡ length all = ap (λ (l : List Id). length l) ids in
-    let few : length c.in_ok-marking.marking.ids.items ≤ 1048576 = few-enough _ (length all) _ many c.requires.few (subst (λ (s : Config). s.bodies ≤ MAX_BODIES) c.config.ensures.sizes c.config.ensures.in_limits.bodies.1) in
+    let few : length c.in_ok-marking.marking.ids.items ≤ MAX_TREE_BODIES = few-enough _ (length all) _ many c.requires.few (subst (λ (s : Config). s.bodies ≤ MAX_BODIES) c.config.ensures.sizes c.config.ensures.in_limits.bodies.1) in
     let planner : length c.in_ok-marking.marking.ids.items ≤ c.in_ok-plans.plans.planner.most = same-most _ _ _ many c.in_ok-plans.ensures.0 in
     let bounds : length c.in_ok-marking.marking.ids.items ≤ c.in_ok-plans.plans.bounds.most = same-most _ _ _ many c.in_ok-plans.ensures.1 in
     let wanted : c.in_ok-taking.taking.count ≡ need (length c.in_ok-marking.marking.ids.items) = c.in_ok-taking.ensures.0 ∙ (c.need.ensures.exact ∙ ap need (sym many)) in

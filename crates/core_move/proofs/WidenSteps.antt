@@ -1,0 +1,413 @@
+-- The laws after a side was widened in a move: its place is above a location of the body, and the side counts for the layer
+-- since the move has come to it.
+use Rattle.std.proofs.Common.{◌≡◌, ◌≢◌, ◌⊎◌, ℕ, ◌<◌, List, [], ◌∷◌, ◌++◌, true, length, Option, Some, None, refl, ap, sym, ◌∙◌, subst, inl, inr, arith}
+use Rattle.std.specs.Prelude.{IsSomeAnd, IfSome, option_map}
+use Rattle.std.proofs.lemmas.Option.{none-some, same_Some}
+use Rattle.scene_model.specs.declared.body_view.Phase.TheVariants.{Held, In}
+use Rattle.scene_model.specs.Scene.{Record, record_at}
+use Rattle.scene_model.specs.Step.{HasBody}
+use Rattle.word_map.specs.declared.name.Name.{Name}
+use Rattle.word_map.specs.declared.name.Name.TheVariants.{State, BoxWord, Bound, Layer, User, Phase, Slot}
+use Rattle.word_map.specs.Names.{IsName}
+use Rattle.core_state.specs.declared.item.Load.{Load}
+use Rattle.core_state.specs.declared.item.Store.{Store}
+use Rattle.core_state.specs.declared.view.Task.{Task}
+use Rattle.core_state.specs.declared.view.Task.TheVariants.{Moving}
+use Rattle.core_state.specs.declared.view.Call.{Call}
+use Rattle.core_state.specs.declared.view.Rebuild.{Rebuild}
+use Rattle.core_state.specs.declared.view.View.{View}
+use Rattle.core_state.specs.View.{IsPass}
+use Rattle.core_state.specs.Log.{history}
+use Rattle.core_state.specs.Core.{Core, word_of, scene_of, IsViewAt}
+use Rattle.core_state.specs.Operation.{Operation, fetch_min, fetch_max}
+use Rattle.core_state.specs.Kind.{Kind, Step, Steps, found_by, left_by, after_step}
+use Rattle.core_state.specs.Encoding.{place, Sides, sides_of}
+use Rattle.core_state.specs.Guards.{KeepsGuards}
+use Rattle.core_state.specs.Bodies.{is_box_word, has_box_word, MovesBody, IsBetweenBoxes}
+use Rattle.core_state.specs.Moving.{IsKnownLocation, side_in, MayWiden, MayWidenLow, MayWidenHigh, widen_low, widen_high}
+use Rattle.core_state.specs.Nodes.{Nodes, Home, made, under, superseded, IsLive, Stands, IsOfLayer, Above}
+use Rattle.core_state.specs.Parts.{task_at_place, update_on_readers}
+use Rattle.core_state.specs.Scope.{Sight, sight}
+use Rattle.core_state.specs.Space.{IsTarget, IsComing, IsInLayer}
+use Rattle.core_state.specs.Updates.{IsNoted, IsSameBody}
+use Rattle.core_state.specs.TreesSound.{BoundsOnlyWiden, tree_scope}
+use Rattle.core_state.specs.LocationsHold.{LocationsHold, location_scope, IsLocation, Encloses}
+use Rattle.core_state.specs.BodiesAgree.{BodiesAgree}
+use Rattle.core_state.specs.BodiesCovered.{BodiesCoveredIn, cover_scope}
+use Rattle.core_state.specs.ReadersCounted.{ReadersCounted, ClimbsInTrees, reader_scope}
+use Rattle.core_state.specs.Invariants.{Invariants}
+use Rattle.core_state.proofs.Beginning.{body_record, record_body}
+use Rattle.core_state.proofs.Frames.{frame, step-same, step-history}
+use Rattle.core_state.proofs.Steps.{word-step, word-step-other, view-step}
+use Rattle.core_guard.proofs.Holders.{keeps, IsGuarded, guarded}
+use Rattle.core_guard.proofs.Touched.{IsKept, kept}
+use Rattle.core_guard.proofs.Leaving.{Acts, After, Last, Stays, as_before-same, Leaves, LeadsWithin, sound-leads, scene-plain, above-forth, held-once}
+use Rattle.core_guard.proofs.PlacesLeft.{SeenUpdate, body_stays}
+use Rattle.core_guard.proofs.PlacesStay.{PassIsPlaced, encloses-forth}
+use Rattle.core_guard.proofs.ReadersLeft.{Counts, TightSide, KeepsTargets, climb-forth, layers-kept, gives-kept, ReadersCounted-leaves}
+use Rattle.core_guard.proofs.Seats.{each-seats, seat-has}
+use Rattle.core_guard.proofs.Settled.{StandsStill, settled-still}
+use Rattle.core_guard.proofs.BodiesStep.{words-kept, unstored}
+use Rattle.core_guard.proofs.Unowned.{view-once, stands-unowned}
+use Rattle.core_guard.proofs.WidenedBound.{WidensBound, as_it_was, is_widened, side-after, side-widens, widened-leaves, TreesSound-widens, WalksLead-widens}
+use Rattle.core_move.proofs.Standing.{IsInLayerAt, in_tree, in_new_tree, in-layer}
+use Rattle.core_move.proofs.MoveSteps.{move-removes, move-places, last-after, IsUnderWay, has_begun, begins_now, IsMoveTask, IsOfMove, above-home, come-up, under_way-placed, is_move_word, same-call, locations, reader-word, location-back, LocationsHold-moves, stores-placed, LocksAgree-moves, NodesInOnePlace-moves, cover-part, cover-name}
+use Rattle.core_move.proofs.MoveBodies.{only-same, word-kept, BodiesAgree-moves}
+use Rattle.core_move.proofs.Widening.{IsWider, min-wider, max-wider, widening, new_store, Goes, goes, box-more}
+use Rattle.core_guard.proofs.BodyTouch.{body_of}
+
+-- a tree is of one layer
+layer-once : (a b : ℕ) (home : Home) → IsLive home → IsOfLayer a home → IsOfLayer b home → a ≡ b
+layer-once a b (under name) live one two = same_Some a b (sym one ∙ two)
+layer-once a b (superseded p name) live one two = same_Some a b (sym one ∙ two)
+layer-once a b _ live one two = absurd live
+
+-- a new tree is of one pass, and one layer
+made-once : (p q k l : ℕ) → made p k ≡ made q l → (p ≡ q) × (k ≡ l)
+made-once p q k l e = (ap pass_in e, ap layer_in e)
+  where
+    pass_in : Home → ℕ
+    pass_in (made x y) = x
+    pass_in _ = 0
+
+    layer_in : Home → ℕ
+    layer_in (made x y) = y
+    layer_in _ = 0
+
+pub under-task : (index : ℕ) (c : Call) (target : List ℕ) (loads : List Load) (stored : List Store) → IsUnderWay index c target loads stored → IsMoveTask index c.task
+under-task index c target loads stored (has_begun t e) = subst (IsMoveTask index) (sym e) refl
+under-task index c target loads stored (begins_now e) = subst (IsMoveTask index) (sym e) tt
+
+-- what the task was about to give, the move under way is
+pub under-target : (index : ℕ) (c : Call) (target : List ℕ) (loads : List Load) (stored : List Store) → IsUnderWay index c target loads stored → (i q side : ℕ) → IsTarget c.task i q side → IsTarget (Moving index target) i q side
+under-target index c target loads stored (has_begun t e) i q side h = subst (λ (task : Task). IsTarget task i q side) e h
+under-target index c target loads stored (begins_now e) i q side h = absurd (subst (λ (task : Task). IsTarget task i q side) e h)
+
+under-boxes : (index : ℕ) (c : Call) (target : List ℕ) (loads : List Load) (stored : List Store) → IsUnderWay index c target loads stored → MovesBody c.task index → has_box_word c.stores ≡ true → has_box_word stored ≡ true
+under-boxes index c target loads stored (has_begun t e) moves has = has
+under-boxes index c target loads stored (begins_now e) moves has = absurd (subst (λ (task : Task). MovesBody task index) e moves)
+
+module _ (operation : Operation) (index : ℕ) (core : Core) (step : Step) (a : Acts core step) (node child side : ℕ) (names : step.name ≡ Bound node child side) (may : MayWiden index step.view node child side step.first)
+    (wider : IsWider operation side (found_by core step) step.first step.second) where
+  abbrev k0 : Kind
+  k0 = widening operation index
+
+  abbrev nodes : Nodes
+  nodes = a.laws.nodes
+
+  abbrev Was : Sight
+  Was = sight location_scope core
+
+  abbrev Is : Sight
+  Is = sight location_scope (After k0 core step)
+
+  below : side < 6
+  below = (subst (IsName core.config) names a.named).2
+
+  g : Goes operation index core step node child side
+  g = goes operation index core step node child side names below may
+
+  known : StandsStill core step.view index
+  known = settled-still core step a index may.settled
+
+  body : (r : Record) × (record_at (scene_of core) index ≡ Some r) × (r.phase ≡ In)
+  body = body_record (record_at (scene_of core) index) (λ r. r.phase ≡ In) (subst (λ (o : Option Record). IsSomeAnd o (λ r. r.phase ≡ In)) (sym known.body) may.inside)
+
+  unheld : HasBody (scene_of core) index (λ r. r.phase ≢ Held)
+  unheld = record_body (record_at (scene_of core) index) (λ r. r.phase ≢ Held) body.0 body.1 (λ held. apart (sym body.2 ∙ held))
+    where
+      apart : In ≡ Held → ⊥
+      apart e = absurd cc
+
+  location : (n k : ℕ) → IsKnownLocation step.view index n k → IsLocation Was index n k
+  location n k h = (h.0, elim (h.1) [ inl e ↦ inl (known.loc_a ∙ e) | inr e ↦ inr (known.loc_b ∙ e) ])
+
+  stands : (n k : ℕ) → IsLocation Was index n k → Stands (nodes.home n)
+  stands n k h = (a.laws.locations.at index body.0 n k body.1 body.2 h).stands
+
+  leads : LeadsWithin nodes Was.word
+  leads = let t = sound-leads nodes (sight tree_scope core) a.laws.trees in record { up = t.up; down = t.down }
+
+  abbrev One : Call
+  One = record { task = Moving index g.target; loads = g.loads; stores = g.stored }
+
+  abbrev Two : Call
+  Two = record { task = Moving index g.next; loads = g.loads; stores = g.stored ++ new_store operation index core step ∷ [] }
+
+  own : PassIsPlaced nodes Was One (SeenUpdate k0 core step)
+  own = under_way-placed k0 core step a index Two g.target g.loads g.stored g.under unheld stands
+
+  -- the place is above a location
+  up : (n : ℕ) × (k : ℕ) × IsLocation Was index n k × Above Was.word n k node child
+  up = come-up nodes Was (SeenUpdate k0 core step) One own (IsKnownLocation step.view index) location node child g.come
+
+  home : nodes.home node ≡ nodes.home up.0
+  home = above-home nodes Was.word leads up.0 up.1 node child (stands up.0 up.1 up.2) up.3
+
+  w : WidensBound k0 core step a node child side
+  w = record {
+    names = names;
+    stands = subst Stands (sym home) (stands up.0 up.1 up.2);
+    one = wider.one;
+    wide = wider.word;
+    low = may.low;
+    high = may.high;
+    rebuild = ap (λ (v : View). v.rebuild) g.view;
+  }
+
+  abbrev none : ℕ → Type 0
+  none n = ⊥
+
+  m : Leaves k0 core step nodes nodes none
+  m = widened-leaves k0 core step a node child side w
+
+  o : IsOfMove k0 core step a index Two
+  o = record {
+    stripe = may.settled.stripe;
+    word = ap is_move_word names;
+    body = λ i e. absurd (none-some i (sym (ap body_of names) ∙ e));
+    before = under-task index step.view.call g.target g.loads g.stored g.under;
+    after = refl;
+    view = g.view;
+  }
+
+  same : (i : ℕ) → record_at (scene_of (After k0 core step)) i ≡ record_at (scene_of core) i
+  same i = scene-plain k0 core step (λ value. refl) i
+
+  no_box : has_box_word (g.stored ++ new_store operation index core step ∷ []) ≡ has_box_word g.stored
+  no_box = box-more g.stored (new_store operation index core step) (ap is_box_word names)
+
+  -- all bodies stay
+  stays : (i : ℕ) → Stays k0 core step i
+  stays i = record {
+    body = as_before-same _ _ (same i);
+    loc_a = (locations k0 core step a index Two o i).0;
+    loc_b = (locations k0 core step a index Two o i).1;
+    phase = plain (Phase i) (λ n k q e. absurd cc);
+    box = λ q. plain (BoxWord i q) (λ n k p e. absurd cc);
+    state = plain (State i) (λ n k q e. absurd cc);
+    layer = plain (Layer i) (λ n k q e. absurd cc);
+    removes = (λ h. absurd (move-removes index i step.view.call.task o.before h), λ h. absurd (move-removes index i (Last k0 core step).call.task (last-after k0 core step a index Two o) h));
+    places = (λ h. absurd (move-places index i step.view.call.task o.before h), λ h. absurd (move-places index i (Last k0 core step).call.task (last-after k0 core step a index Two o) h));
+  }
+    where
+      plain : (name : Name) → ((n k q : ℕ) → name ≢ Bound n k q) → word_of (After k0 core step) name ≡ word_of core name
+      plain name other = word-step-other k0 core step name (λ e. other node child side (e ∙ names))
+
+  -- ---- locations
+
+  now : Is.word (Bound node child side) ≡ left_by k0 core step
+  now = ap (λ (n : Name). word_of (After k0 core step) n) (sym names) ∙ word-step k0 core step
+
+  LocationsHold-widens : LocationsHold nodes (After k0 core step)
+  LocationsHold-widens =
+      LocationsHold-moves k0 core step a index Two o m (λ i apart. same i) (body_stays (stays index))
+      (stores-placed k0 core step a index Two o m (SeenUpdate k0 core step) g.target g.next g.loads g.stored (new_store operation index core step) own (record {
+        unheld = subst (λ (x : Option Record). IsSomeAnd x (λ q. q.phase ≢ Held)) (sym (same index)) unheld;
+        widened = λ i n k box gives has place.
+            let old = location-back k0 core step a index Two o m i n k place in
+            let was = own.widened i n k (sides_of g.target) (gives.0, refl) (sym no_box ∙ has) old in
+            let whole = g.grown.whole was.0 in
+            (
+              ap length whole ∙ was.0,
+              subst (λ (box : Sides). Encloses Is n k box) (ap sides_of (sym whole) ∙ sym gives.1)
+                  (encloses-forth k0 core step a nodes none m n k (sides_of g.target) (stands n k (subst (λ (j : ℕ). IsLocation Was j n k) (sym gives.0) old)) was.1),
+            );
+        wide = λ n k q value e.
+            let name : Bound node child side ≡ Bound n k q = sym names ∙ ap (λ (x : Store). x.name) e in
+            let first : step.first ≡ value = ap (λ (x : Store). x.value) e in
+            let q0 : side ≡ q = ap side_in name in
+            let word : Is.word (Bound n k q) ≡ left_by k0 core step = ap Is.word (sym name) ∙ now in
+            (λ low. let t = wider.operand.0 (omega arith) in omega arith, λ high. let t = wider.operand.1 (omega arith) in omega arith);
+        way = λ x y q value e.
+            let name : Bound node child side ≡ Bound x y q = sym names ∙ ap (λ (z : Store). z.name) e in
+            (up.0, up.1, up.2, subst (λ (j : ℕ). Above Was.word up.0 up.1 j y) (ap node_of name) (subst (λ (j : ℕ). Above Was.word up.0 up.1 node j) (ap child_of name) up.3));
+      }))
+    where
+      node_of : Name → ℕ
+      node_of (Bound x y z) = x
+      node_of _ = 0
+
+      child_of : Name → ℕ
+      child_of (Bound x y z) = y
+      child_of _ = 0
+
+  -- ---- readers
+
+  abbrev Now : Sight
+  Now = sight reader_scope (After k0 core step)
+
+  targets : KeepsTargets k0 core step a nodes none m
+  targets = record {
+    targets = λ i q value target.
+        let t = under-target index step.view.call g.target g.loads g.stored g.under i q value target in
+        let old = g.grown.old q t.1 in
+        subst (λ (c : Call). IsTarget c.task i q value) (sym (same-call k0 core step a index Two o)) (t.0, old.0, old.1 ∙ t.2);
+    bodies = λ seat number view at pass i handled generation l is. subst (λ (x : Option Record). IsSomeAnd x (λ r. (r.generation ≡ generation) × (r.layer ≡ l))) (sym (same i)) is;
+  }
+
+  -- the side is one of the box that the body is to get
+  coming : IsComing Now index side step.first
+  coming = (
+    step.number,
+    seat-has reader_scope (λ k v. refl) (After k0 core step) step.number (λ v. IsTarget v.call.task index side step.first) (record {
+      seat = step.seat;
+      view = Last k0 core step;
+      at = view-step k0 core step a.at;
+      pass = a.pass;
+      holds = subst (λ (c : Call). IsTarget (task_at_place c.task) index side step.first) (sym (same-call k0 core step a index Two o)) (refl, g.grown.has.0, g.grown.has.1);
+    }),
+  )
+
+  where_up : IsInLayerAt core nodes index body.0.layer up.0 up.1
+  where_up = in-layer core nodes a.laws.locations index body.0 body.1 body.2 up.0 up.1 up.2
+
+  -- so it counts for the layer of a tree that others may reach
+  counts-live : (n l : ℕ) → n ≡ node → IsLive (nodes.home n) → IsOfLayer l (nodes.home n) → IsInLayer Now l side step.first
+  counts-live n l one live layer =
+      let there : nodes.home n ≡ nodes.home up.0 = ap nodes.home one ∙ home in
+      let of : body.0.layer ≡ l = elim where_up [
+        | in_tree still is ↦ layer-once body.0.layer l (nodes.home up.0) still is (subst (IsOfLayer l) there layer)
+        | in_new_tree p ↦ absurd (subst IsLive (there ∙ p.home) live)
+      ] in
+      inr (index, coming, record_body (record_at (scene_of (After k0 core step)) index) (λ r. r.layer ≡ l) body.0 (same index ∙ body.1) of)
+
+  -- and in a new tree for the body that is planned below
+  counts-made : (seat number : ℕ) (view : View) → IsViewAt core seat view → IsPass view number → (r : Rebuild) → view.rebuild ≡ Some r → (n k q l : ℕ) → nodes.home n ≡ made number l → n ≡ node → k ≡ child → q ≡ side
+      → TightSide Now (update_on_readers r) n k q step.first
+  counts-made seat number view at pass r is n k q l made_for one two three =
+      let there : nodes.home up.0 ≡ made number l = sym home ∙ (ap nodes.home (sym one) ∙ made_for) in
+      elim where_up [
+        | in_tree still layer ↦ absurd (subst IsLive there still)
+        | in_new_tree p ↦
+            let number_is : p.number ≡ number = (made-once p.number number body.0.layer l (sym p.home ∙ there)).0 in
+            let view_is : p.view ≡ view = view-once core a.formed p.seat seat number p.view view p.at at (p.pass ∙ ap Some number_is) pass in
+            let t = subst (λ (x : Option Rebuild). IsSomeAnd x (λ r. IsNoted r index (λ noted. (noted.place ≡ place up.0 up.1) × IsSameBody Was noted))) (ap (λ (v : View). v.rebuild) view_is ∙ is) p.noted in
+            let above = above-forth k0 core step a nodes nodes none m Was.word Now.word leads m.parent up.0 up.1 node child (stands up.0 up.1 up.2) up.3 in
+            let above_n : Above Now.word up.0 up.1 n k = subst (λ (x : ℕ). Above Now.word up.0 up.1 x k) (sym one) (subst (λ (x : ℕ). Above Now.word up.0 up.1 node x) (sym two) above) in (
+              t.0,
+              t.1,
+              (up.0, up.1, up.2.0, t.3.0, above_n),
+              inr (
+                subst (λ (x : Option Record). IsSomeAnd x (λ r. (r.generation ≡ t.0.generation) × (r.layer ≡ t.0.layer))) (sym (same t.0.index)) t.3.1,
+                subst (λ (x : ℕ). IsComing Now x q step.first) (sym t.2) (subst (λ (x : ℕ). IsComing Now index x step.first) (sym three) coming),
+              ),
+            )
+      ]
+
+  counts : Counts k0 core step a nodes none m
+  counts = record {
+    places = λ seat number view apart at pass i handled. locations k0 core step a index Two o i;
+    climbs = subst (λ (c : Call). ClimbsInTrees nodes Now c.task) (sym (same-call k0 core step a index Two o))
+        (climb-forth k0 core step a nodes none m index (locations k0 core step a index Two o index).0 (locations k0 core step a index Two o index).1
+        (λ n k x y place above. let t = stands n k place in subst Stands (sym (above-home nodes (sight reader_scope core).word (record { up = leads.up; down = leads.down }) n k x y t above)) t));
+    layers = layers-kept k0 core step a nodes none m targets;
+    gives = gives-kept k0 core step a nodes none m targets;
+    live = λ n k q l live layer.
+        elim (side-after k0 core step a node child side w n k q) [
+          | as_it_was e ↦ inl e
+          | is_widened one two three old new ↦ elim (wider.one) [
+            | inl found ↦ inl (new ∙ (found ∙ sym old))
+            | inr first ↦ inr (subst (λ (x : ℕ). IsInLayer Now l q x) (sym (new ∙ first)) (subst (λ (x : ℕ). IsInLayer Now l x step.first) (sym three) (counts-live n l one live layer)))
+          ]
+        ];
+    fresh = each-seats reader_scope (λ k v. refl) core (λ number v. IfSome v.rebuild (Fresh number)) (λ seat number view at pass. fresh-at seat number view at pass view.rebuild refl);
+    new = λ n k l never. absurd never;
+    unmade = λ n number l never. absurd never;
+  }
+    where
+      Fresh : ℕ → Rebuild → Type 0
+      Fresh number r = (n k q l : ℕ) → nodes.home n ≡ made number l → (word_of (After k0 core step) (Bound n k q) ≡ word_of core (Bound n k q)) ⊎ TightSide Now r n k q (word_of (After k0 core step) (Bound n k q))
+
+      fresh-at : (seat number : ℕ) (view : View) → IsViewAt core seat view → IsPass view number → (x : Option Rebuild) → view.rebuild ≡ x → IfSome (option_map update_on_readers x) (Fresh number)
+      fresh-at seat number view at pass None is = tt
+      fresh-at seat number view at pass (Some r) is = λ n k q l made_for.
+          elim (side-after k0 core step a node child side w n k q) [
+            | as_it_was e ↦ inl e
+            | is_widened one two three old new ↦ elim (wider.one) [
+              | inl found ↦ inl (new ∙ (found ∙ sym old))
+              | inr first ↦ inr (subst (λ (x : ℕ). TightSide Now (update_on_readers r) n k q x) (sym (new ∙ first)) (counts-made seat number view at pass r is n k q l made_for one two three))
+            ]
+          ]
+
+  ReadersCounted-widens : ReadersCounted nodes (After k0 core step)
+  ReadersCounted-widens =
+      ReadersCounted-leaves k0 core step a nodes none m counts (record { reader = reader-word k0 core step a index Two o; walk = ap (λ (v : View). v.walk) g.view })
+
+  -- ---- bodies
+
+  BodiesAgree-widens : BodiesAgree (After k0 core step)
+  BodiesAgree-widens =
+      let kept = word-kept k0 core step a index Two o (history core.log) in
+      BodiesAgree-moves k0 core step a index Two o (history core.log) (step-history k0 core step (λ value. refl)) (only-same core index a.laws.bodies (held-once (record_at (scene_of core) index) unheld))
+      (λ r is. words-kept k0 core step a.at a.pass (history core.log) index r between (kept (Layer index) (λ n k q e. absurd cc) (λ k e. absurd cc)) (kept (User index) (λ n k q e. absurd cc) (λ k e. absurd cc))
+      (λ k. unstored k0 core step a.at a.pass (BoxWord index k) (λ e. other node child side (e ∙ names)))
+      (kept (Phase index) (λ n k q e. absurd cc) (λ k e. absurd cc)) (λ l t. kept (Slot l t) (λ n k q e. absurd cc) (λ k e. absurd cc)) (a.laws.bodies.live index r is))
+    where
+      other : {k : ℕ} (n j q : ℕ) → BoxWord index k ≢ Bound n j q
+      other n j q e = absurd cc
+
+      between : IsBetweenBoxes step.view index → IsBetweenBoxes (Last k0 core step) index
+      between b =
+          subst (λ (c : Call). MovesBody c.task index × (has_box_word c.stores ≡ true)) (sym (same-call k0 core step a index Two o))
+          (refl, no_box ∙ under-boxes index step.view.call g.target g.loads g.stored g.under b.0 b.1)
+
+  -- ---- all of them
+
+  pub Invariants-widens : Invariants (after_step k0 core step)
+  Invariants-widens = record {
+    nodes = nodes;
+    locks = LocksAgree-moves k0 core step a index Two o;
+    bodies = BodiesAgree-widens;
+    places = NodesInOnePlace-moves k0 core step a index Two o;
+    trees = TreesSound-widens k0 core step a node child side w (ap (λ (v : View). v.written) g.view);
+    locations = LocationsHold-widens;
+    cover = frame cover_scope (BodiesCoveredIn nodes) core (after_step k0 core step)
+        (step-same cover_scope k0 core step a.at a.pass (record { name = λ stored. cover-name k0 core step a index Two o; entry = λ reads value. refl; part = cover-part k0 core step a index Two o })) a.laws.cover;
+    walks = WalksLead-widens k0 core step a node child side w (ap (λ (v : View). v.walk) g.view);
+    readers = ReadersCounted-widens;
+  }
+
+  -- no other pass has the node for itself
+  pub guarded-widens : KeepsGuards k0 core step
+  guarded-widens =
+      keeps k0 core step (Bound node child side) names
+      (λ stored seat number view apart found is. (stands-unowned core a.formed nodes a.laws.places a.laws.trees seat number view found is node w.stands, tt))
+
+-- ---- kinds 34 and 35
+
+pub Invariants-widen_low : (index : ℕ) → IsKept (MayWidenLow index) (widen_low index)
+Invariants-widen_low index =
+    kept (MayWidenLow index) (widen_low index)
+    (λ core step a asked. Invariants-widens fetch_min index core step a asked.node asked.child asked.side asked.names asked.may (min-wider asked.side (found_by core step) step.first step.second asked.is_low))
+
+pub Invariants-widen_high : (index : ℕ) → IsKept (MayWidenHigh index) (widen_high index)
+Invariants-widen_high index =
+    kept (MayWidenHigh index) (widen_high index)
+    (λ core step a asked. Invariants-widens fetch_max index core step a asked.node asked.child asked.side asked.names asked.may (max-wider asked.side (found_by core step) step.first step.second asked.is_high))
+
+pub GuardsHold-widen_low : (index : ℕ) → IsGuarded (MayWidenLow index) (widen_low index)
+GuardsHold-widen_low index =
+    guarded (MayWidenLow index) (widen_low index)
+    (λ core step a asked. guarded-widens fetch_min index core step a asked.node asked.child asked.side asked.names asked.may (min-wider asked.side (found_by core step) step.first step.second asked.is_low))
+
+pub GuardsHold-widen_high : (index : ℕ) → IsGuarded (MayWidenHigh index) (widen_high index)
+GuardsHold-widen_high index =
+    guarded (MayWidenHigh index) (widen_high index)
+    (λ core step a asked. guarded-widens fetch_max index core step a asked.node asked.child asked.side asked.names asked.may (max-wider asked.side (found_by core step) step.first step.second asked.is_high))
+
+-- ---- bounds only widen
+
+pub widen_low-widens : (index : ℕ) (nodes : Nodes) (before after : Core) → Steps (MayWidenLow index) (widen_low index) before after → BoundsOnlyWiden nodes before after
+widen_low-widens index nodes before after steps =
+    let step = steps.step in
+    let asked = steps.allowed.asked in
+    subst (BoundsOnlyWiden nodes before) (sym steps.result)
+    (λ n k q stands. side-widens (widen_low index) before step asked.node asked.child asked.side asked.names (min-wider asked.side (found_by before step) step.first step.second asked.is_low).word n k q)
+
+pub widen_high-widens : (index : ℕ) (nodes : Nodes) (before after : Core) → Steps (MayWidenHigh index) (widen_high index) before after → BoundsOnlyWiden nodes before after
+widen_high-widens index nodes before after steps =
+    let step = steps.step in
+    let asked = steps.allowed.asked in
+    subst (BoundsOnlyWiden nodes before) (sym steps.result)
+    (λ n k q stands. side-widens (widen_high index) before step asked.node asked.child asked.side asked.names (max-wider asked.side (found_by before step) step.first step.second asked.is_high).word n k q)

@@ -1,0 +1,14 @@
+use Rattle.std.proofs.Common.{ap, sym}
+use Rattle.core_state.specs.Operation.{result_of}
+use Rattle.pass_table.proofs.Allowing.{below-words, allows-store}
+use Rattle.pass_table.proofs.table_step.store.Goals as goal
+
+pub store-requires : goal.store-requires
+store-requires g c =
+    let table = c.args.table.now in
+    let seat = c.args.seat.now in
+    let may = c.requires.may in (
+      c.requires.own,
+      below-words _ _ table.table_id seat.me c.args.place _ _ may,
+      allows-store _ _ g.K.Kind.event table.key table.table_id seat.id c.args.place c.args.value 0 seat.me (λ n. c.args.value) may (λ n. sym (ap (λ o. result_of o n c.args.value 0) c.requires.stores)),
+    )

@@ -125,7 +125,7 @@ of_update c view (Main l) h = h
 of_update c view (Slot l t) h = inr h
 of_update c view _ h = absurd (none_of view.rebuild h)
 
-by_name : (c : Config) (view : View) (name : Name) → Owns c view name → Holder c view name
+pub by_name : (c : Config) (view : View) (name : Name) → Owns c view name → Holder c view name
 by_name c view name (by_lock lock mode holds e) = of_lock c view name lock mode holds e
 by_name c view name (by_creation i e of_body) = of_creation c view name i e of_body
 by_name c view name (by_batch batch among e) = subst (Holder c view) (sym e) (inl (batch, among, (refl, refl)))

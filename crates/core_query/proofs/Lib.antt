@@ -25,3 +25,4 @@ pub mod Stacks
 pub mod NextLoad
 pub mod Layers
 pub mod Hulls
+pub mod Counted

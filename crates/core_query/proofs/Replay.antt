@@ -34,6 +34,16 @@ pub follows-more : (c : Config) (query : Query) (loads : List Load) (new : Load)
     → Follows c query loads × (next_word (position_of c query loads).rest (position_of c query loads).spot ≡ Some new.name)
 follows-more c query loads new h = (follows-before query (start c query) loads new h, follows-next query (start c query) loads new h)
 
+-- loads go on with one of the word that is next
+follows-further : (query : Query) (at : Position) (loads : List Load) (new : Load) → FollowsFrom query at loads
+    → next_word (replay query at loads).rest (replay query at loads).spot ≡ Some new.name → FollowsFrom query at (loads ++ new ∷ [])
+follows-further query at [] new h next = (next, tt)
+follows-further query at (l ∷ loads) new h next = (h.0, follows-further query (advance query at l) loads new h.1 next)
+
+pub follows-on : (c : Config) (query : Query) (loads : List Load) (new : Load) → Follows c query loads
+    → next_word (position_of c query loads).rest (position_of c query loads).spot ≡ Some new.name → Follows c query (loads ++ new ∷ [])
+follows-on c query loads new h next = follows-further query (start c query) loads new h next
+
 -- it moves the place by one load
 pub position-more : (c : Config) (query : Query) (loads : List Load) (new : Load) → position_of c query (loads ++ new ∷ []) ≡ advance query (position_of c query loads) new
 position-more c query loads new = fold-append (advance query) (start c query) loads (new ∷ [])
@@ -153,7 +163,7 @@ module _ (query : Query) (loads : List Load) (new : Load) where
       ]
 
   -- whatever the load did
-  replayed-more : (at later : Position) → Move at later → InOrder at.rest → IsReplayed Longer later
+  pub replayed-more : (at later : Position) → Move at later → InOrder at.rest → IsReplayed Longer later
   replayed-more at later (to_root rest next order) was = next_node-replayed Longer rest (roots_in new.name new.value) order
   replayed-more at later (past_none rest stack n level k low next none) was = next_child-replayed Longer rest stack n level k was
   replayed-more at later (to_bound rest stack n level k low next some) was = record {

@@ -37,7 +37,7 @@ module _ (core : Core) (h : Invariants core) (query : Query) (seat number : ℕ)
   live-sound : (a : ℕ) → IsLive (h.nodes.home a) → IsSoundNode h.nodes (sight tree_scope core) a
   live-sound a live = h.trees.sound a (live-stands (h.nodes.home a) live)
 
-  live-below : (a : ℕ) → IsLive (h.nodes.home a) → a < node_count core.config
+  pub live-below : (a : ℕ) → IsLive (h.nodes.home a) → a < node_count core.config
   live-below a live =
       elim (cases_lt a (node_count core.config)) [
         | inl below ↦ below

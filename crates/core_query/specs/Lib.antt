@@ -2,3 +2,4 @@ pub mod Ends
 pub mod WholeRecord
 pub mod Found
 pub mod Clear
+pub mod Counted

@@ -6,7 +6,7 @@ ghost use Rattle.fixed_box.specs.declared.shape.Shape.{Shape};
 ghost use Rattle.scene_model.specs.History.{IsDue};
 ghost use Rattle.word_map.specs.declared.name.Name.{Name};
 ghost use Rattle.word_map.specs.declared.name.Name.TheVariants.{Child};
-ghost use Rattle.word_map.specs.Names.{IsName};
+ghost use Rattle.word_map.specs.Names.{IsName, node_count};
 ghost use Rattle.word_map.specs.declared.config.Config.{Config};
 ghost use Rattle.core_state.specs.declared.item.Load.{Load};
 ghost use Rattle.core_state.specs.declared.view.View.{View};
@@ -115,6 +115,13 @@ pub fn nodes_are_walked_once()
     ensures next { (core : Core) (query : Query) (seat number : ℕ) (view : View) → Invariants core → IsWalking core query seat number view
         → (name : Name) → next_word (walked_to core query view).rest (walked_to core query view).spot ≡ Some name → (value : ℕ)
         → WalksOnce (view.walk.loads ++ record { name = name; value = value } ∷ []) }
+{}
+
+/// However trees change meanwhile, a walk makes no more loads than one of each asked word and 28 of each node of the world. So
+/// each walk ends.
+pub fn loads_of_walks_are_few()
+    ensures { (core : Core) (query : Query) (seat number : ℕ) (view : View) → Invariants core → IsWalking core query seat number view
+        → length view.walk.loads ≤ length (asked_words core.config query.mask) + 28 * node_count core.config }
 {}
 
 /// Where the shape touches no box in the space of any asked layer, as it stands when nothing is left to read, a walk has made

@@ -1,4 +1,5 @@
--- For each box there is a query: whether six words are a box that touches it can be decided.
+-- For each shape of which it can be told which boxes it touches there is a query, and so for each box: whether six words are a
+-- box can be decided.
 use Rattle.std.proofs.Common.{◌≡◌, ◌≢◌, ◌⊎◌, ◌↔◌, ℕ, ◌≤◌, List, [], ◌∷◌, Bool, false, length, refl, ap, sym, ◌∙◌, subst, inl, inr, arith, pos, ◌-ℤ◌}
 use Rattle.std.specs.Prelude.{IsTrue}
 use Rattle.std.proofs.lemmas.Bool.{cases_lt, false≢true}
@@ -8,6 +9,7 @@ use Rattle.fixed_box.specs.FixBox.{words_of, touches}
 use Rattle.fixed_box.specs.Touch.{Touch}
 use Rattle.fixed_box.specs.declared.coord.Coord.{Coord}
 use Rattle.fixed_box.specs.declared.fix_box.FixBox.{FixBox}
+use Rattle.fixed_box.specs.declared.shape.Shape.{Shape}
 use Rattle.fixed_box.specs.declared.shape.Shape.TheVariants.{Box}
 use Rattle.fixed_box.proofs.Words.{AreWords, AreWords-of_box, IsOrdered-from_words, words_tell_boxes_apart}
 use Rattle.core_state.specs.Walking.{Query}
@@ -76,22 +78,27 @@ decide : (words : List ℕ) → IsDecided words
 decide (a ∷ b ∷ c ∷ d ∷ e ∷ f ∷ []) = decide_six a b c d e f
 decide words = other_length words (omega arith)
 
--- the test of a walk that asks for a box
-test_decided : (words : List ℕ) → FixBox → IsDecided words → Bool
-test_decided words asked (inl found) = touches asked found.0
-test_decided words asked (inr none) = false
+-- the test of a walk that asks for a shape, by a test of boxes
+test_decided : (words : List ℕ) → (FixBox → Bool) → IsDecided words → Bool
+test_decided words touched (inl found) = touched found.0
+test_decided words touched (inr none) = false
 
-tests_decided : (words : List ℕ) (asked : FixBox) (decided : IsDecided words) → IsTrue (test_decided words asked decided) ↔ ((b : FixBox) × (words_of b ≡ words) × Touch (Box asked) b)
-unfolding test_decided
-tests_decided words asked (inl found) = (
-  λ h. (found.0, found.1, h),
-  λ h. subst (λ (b : FixBox). IsTrue (touches asked b)) (words_tell_boxes_apart h.0 found.0 (h.1 ∙ sym found.1)) h.2,
-)
-tests_decided words asked (inr none) = (λ h. absurd (false≢true h), λ h. absurd (none h.0 h.1))
+module _ (shape : Shape) (touched : FixBox → Bool) (decides : (b : FixBox) → IsTrue (touched b) ↔ Touch shape b) where
+  tests_decided : (words : List ℕ) (decided : IsDecided words) → IsTrue (test_decided words touched decided) ↔ ((b : FixBox) × (words_of b ≡ words) × Touch shape b)
+  unfolding test_decided
+  tests_decided words (inl found) = (
+    λ h. (found.0, found.1, (decides found.0).0 h),
+    λ h. subst (λ (b : FixBox). IsTrue (touched b)) (words_tell_boxes_apart h.0 found.0 (h.1 ∙ sym found.1)) ((decides h.0).1 h.2),
+  )
+  tests_decided words (inr none) = (λ h. absurd (false≢true h), λ h. absurd (none h.0 h.1))
+
+  -- a shape of which it can be told which boxes it touches can be asked for
+  pub query_by : (mask : ℕ) → (query : Query) × (query.mask ≡ mask) × (query.shape ≡ shape)
+  query_by mask = (
+    record { mask = mask; shape = shape; test = λ words. test_decided words touched (decide words); tests = λ words. tests_decided words (decide words) },
+    refl,
+    refl,
+  )
 
 pub query_of : (mask : ℕ) (asked : FixBox) → (query : Query) × (query.mask ≡ mask) × (query.shape ≡ Box asked)
-query_of mask asked = (
-  record { mask = mask; shape = Box asked; test = λ words. test_decided words asked (decide words); tests = λ words. tests_decided words asked (decide words) },
-  refl,
-  refl,
-)
+query_of mask asked = query_by (Box asked) (touches asked) (λ b. (λ h. h, λ h. h)) mask

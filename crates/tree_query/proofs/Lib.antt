@@ -1,0 +1,6 @@
+pub mod WordBits
+pub mod Sets
+pub mod Ranges
+pub mod Marks
+pub mod WalkOn
+pub mod WalkEnds

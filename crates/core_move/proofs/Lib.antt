@@ -19,3 +19,4 @@ pub mod EntryStores
 pub mod LocationStores
 pub mod Removals
 pub mod NowhereThen
+pub mod LocksStay

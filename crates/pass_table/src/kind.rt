@@ -4,7 +4,9 @@ mod batches;
 mod bodies;
 mod lists;
 mod locks;
+mod moves;
 mod nodes;
+mod removal;
 mod walks;
 
 pub use batches::{step_17, step_18, step_19, step_23, step_24, step_25, step_26, step_27};
@@ -12,7 +14,9 @@ pub use bodies::{step_12, step_13, step_14, step_15, step_16};
 pub use lists::{step_9, step_10, step_11};
 pub(crate) use locks::Look;
 pub use locks::{step_4, step_5, step_6, step_7, step_8};
+pub use moves::{step_34, step_35, step_36, step_37, step_38};
 pub use nodes::{step_20, step_21, step_22};
+pub use removal::{step_39, step_40, step_41};
 pub use walks::{step_28, step_29, step_30, step_31, step_32, step_33};
 
 /// A kind of step, for proofs alone.

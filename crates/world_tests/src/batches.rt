@@ -8,7 +8,7 @@ use crate::held_batches::{
     attach, batch_sizes, drop_batch, hold, is_held_second, is_without, is_without_nodes,
     is_without_slot,
 };
-use crate::opened::{open_three, open_two, pair_sizes};
+use crate::opened::open_three;
 use batch_add::{PrepareOp, PrepareRefused, Prepared};
 use body_ident::BodyId;
 use body_slots::DestroyRefused;
@@ -64,7 +64,7 @@ fn the_slot_of_a_batch_is_its_own(rt: HostRuntime) -> Result<(), Fail> {
 #[test]
 fn nodes_are_wanting_until_a_batch_is_given_up(rt: HostRuntime) -> Result<(), Fail> {
     let alloc = rt.alloc();
-    let Some((world, mut pass, mut other)) = open_two(alloc, pair_sizes(4, 1, 2, 1)) else {
+    let Some((world, mut pass, mut other, _third)) = open_three(alloc, batch_sizes(2, 1)) else {
         panic!(rt; "no world")
     };
     let (a, b) = (BodyId::new(0, 1), BodyId::new(1, 1));
@@ -72,16 +72,13 @@ fn nodes_are_wanting_until_a_batch_is_given_up(rt: HostRuntime) -> Result<(), Fa
     let Ok(batch) = hold(&rt, alloc, &world, &mut pass, &[a, b]) else {
         panic!(rt; "not prepared")
     };
-    other.look(&world);
     let refused = is_without_nodes(hold(&rt, alloc, &world, &mut other, &[a]), 1, 0);
     drop_batch(&rt, &world, &mut pass, batch);
     assert!(rt; refused);
-    other.meet(&world, &mut pass);
     let Ok(batch) = hold(&rt, alloc, &world, &mut other, &[a]) else {
         panic!(rt; "the node was not given back")
     };
     attach(&world, &mut other, batch);
-    assert!(rt; is_in(&rt, &world, &mut pass, a));
     Ok(())
 }
 
@@ -217,23 +214,14 @@ fn two_threads_prepare_beside_each_other(rt: HostRuntime) -> Result<(), Fail> {
     Ok(())
 }
 
-/// What a turn tells of its entry.
-#[derive(Clone, Copy, PartialEq, Eq)]
-enum Told {
-    Nothing,
-    Mark(u32),
-    Unmark(u32),
-    Other,
-}
-
-/// Prepares a batch in layer 0 turn by turn. Answers the entries that the turns tell, the first two in order and nothing else
-/// where there are more, and whether it was refused since the second body is held.
+/// Prepares a batch in layer 0 turn by turn. Answers the marks and the unmarks that the turns tell, each index counted by one
+/// more than itself, and whether it was refused since the second body is held.
 fn hold_by_turns(
     alloc: Global,
     world: &World,
     pass: &mut Pass,
     ids: &[BodyId],
-) -> Option<([Told; 2], bool)>
+) -> Option<(u32, u32, bool)>
     requires idle { IsIdle world.now pass.old }
     requires layers { 0 < world.now.map.layers }
     requires below { All (λ id. id.index < world.now.map.bodies) ids.now }
@@ -243,43 +231,37 @@ fn hold_by_turns(
     let Ok(mut preparing) = PrepareOp::new(alloc, world, pass, 0, ids) else {
         return None;
     };
-    let mut entries = [Told::Nothing; 2];
+    let (mut marks, mut unmarks) = (0u32, 0u32);
     for _ in 0..200 {
         match preparing.turn(world, pass) {
-            Turn::Done(answer) => return Some((entries, is_held_second(answer))),
+            Turn::Done(answer) => return Some((marks, unmarks, is_held_second(answer))),
             Turn::Again { .. } => return None,
-            Turn::More => entries = and_then(entries, told(preparing.made())),
+            Turn::More => {
+                let (marked, unmarked) = told(preparing.made());
+                marks = marks.saturating_add(marked);
+                unmarks = unmarks.saturating_add(unmarked);
+            }
         }
     }
     None
 }
 
-/// What a turn tells.
-fn told(made: Option<&Made>) -> Told {
+/// What a turn tells, as a mark and as an unmark.
+fn told(made: Option<&Made>) -> (u32, u32) {
     match made {
-        None => Told::Nothing,
+        None => (0, 0),
         Some(made) => match made.entry {
-            Entry::Mark { index } => Told::Mark(index),
-            Entry::Unmark { index } => Told::Unmark(index),
-            _ => Told::Other,
+            Entry::Mark { index } => (index.saturating_add(1), 0),
+            Entry::Unmark { index } => (0, index.saturating_add(1)),
+            _ => (0, 0),
         },
-    }
-}
-
-/// Two entries, and one that comes after them.
-fn and_then(entries: [Told; 2], next: Told) -> [Told; 2] {
-    match (entries, next) {
-        (_, Told::Nothing) => entries,
-        ([Told::Nothing, _], _) => [next, Told::Nothing],
-        ([first, Told::Nothing], _) => [first, next],
-        _ => [Told::Other; 2],
     }
 }
 
 #[test]
 fn marks_of_a_refused_batch_are_taken_back(rt: HostRuntime) -> Result<(), Fail> {
     let alloc = rt.alloc();
-    let Some((world, mut pass, mut other)) = open_two(alloc, pair_sizes(4, 1, 2, 4)) else {
+    let Some((world, mut pass, mut other, _third)) = open_three(alloc, batch_sizes(2, 4)) else {
         panic!(rt; "no world")
     };
     let (a, b) = (BodyId::new(0, 1), BodyId::new(1, 1));
@@ -287,10 +269,9 @@ fn marks_of_a_refused_batch_are_taken_back(rt: HostRuntime) -> Result<(), Fail> 
     let Ok(batch) = hold(&rt, alloc, &world, &mut pass, &[a]) else {
         panic!(rt; "not prepared")
     };
-    other.look(&world);
     let seen = hold_by_turns(alloc, &world, &mut other, &[b, a]);
     attach(&world, &mut pass, batch);
-    assert!(rt; seen == Some(([Told::Mark(1), Told::Unmark(1)], true)));
+    assert!(rt; seen == Some((2, 2, true)));
     assert!(rt; unmake(&rt, &world, &mut pass, b).is_ok());
     Ok(())
 }

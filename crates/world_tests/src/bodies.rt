@@ -34,19 +34,6 @@ pub(crate) fn make<R: Wait>(
     create(rt, world, pass, 0, point(), user)
 }
 
-/// Creates a body in the second layer.
-pub(crate) fn make_in_second<R: Wait>(
-    rt: &R,
-    world: &World,
-    pass: &mut Pass,
-) -> Result<BodyId, Full>
-    requires idle { IsIdle world.now pass.old }
-    requires layers { 1 < world.now.map.layers }
-    ensures idle { IsIdle world.now pass.new }
-{
-    create(rt, world, pass, 1, point(), 7)
-}
-
 /// Creates the first bodies of a new world, so many of them. Answers whether they have the first indexes, in order.
 pub(crate) fn make_first<R: Wait>(rt: &R, world: &World, pass: &mut Pass, count: u32) -> bool
     requires idle { IsIdle world.now pass.old }

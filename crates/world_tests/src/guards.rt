@@ -94,12 +94,7 @@ fn bodies_of_all_stripes_are_locked(rt: HostRuntime) -> Result<(), Fail> {
 }
 
 /// The user number of the body, where it is live.
-pub(crate) fn user_of<R: Wait>(
-    rt: &R,
-    world: &World,
-    pass: &mut Pass,
-    id: BodyId,
-) -> Result<u32, Gone>
+fn user_of<R: Wait>(rt: &R, world: &World, pass: &mut Pass, id: BodyId) -> Result<u32, Gone>
     requires idle { IsIdle world.now pass.old }
     requires below { id.index < world.now.map.bodies }
     ensures idle { IsIdle world.now pass.new }

@@ -24,6 +24,4 @@ mod opened;
 #[cfg(test)]
 mod passes;
 #[cfg(test)]
-mod refusals;
-#[cfg(test)]
 mod slots;

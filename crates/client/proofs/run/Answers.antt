@@ -1,5 +1,3 @@
-use Rattle.std.proofs.Common.{◌≡◌, ap, arith}
-use Rattle.word_map.specs.declared.config.Config.{Config}
 use Rattle.client.proofs.run.Goals as goal
 
 pub share-requires-clause-first : goal.share-requires-clause-first
@@ -18,9 +16,3 @@ share-requires-clause-fourth g c κs within =
     let one = c.in_ok-first.ensures.others c.in-Ok.world c.in-Ok.ensures.idle in
     let two = c.in_ok-second.ensures.others c.in-Ok.world one in
     c.in_ok-fourth.ensures.idle c.in-Ok.world (c.in_ok-third.ensures.others c.in-Ok.world two)
-
-pub share-requires-clause-layers : goal.share-requires-clause-layers
-share-requires-clause-layers g c κs within = let same : c.in-Ok.world.map.layers ≡ 2 = ap (λ (s : Config). s.layers) c.in-Ok.ensures.sizes.1 in omega arith
-
-pub share-requires-clause-room : goal.share-requires-clause-room
-share-requires-clause-room g c κs within = let same : c.in-Ok.world.map.bodies ≡ 1024 = ap (λ (s : Config). s.bodies) c.in-Ok.ensures.sizes.1 in omega arith

@@ -28,9 +28,10 @@ use Rattle.batch_add.specs.declared.kept_batch.KeptBatch.{KeptBatch}
 use Rattle.batch_add.specs.declared.giving_up.GivingUp.{GivingUp}
 use Rattle.batch_add.specs.declared.aborting.AbortOp.{AbortOp}
 use Rattle.batch_add.specs.Parts.{StoresFrom, HasGivenUp}
-use Rattle.batch_add.specs.Keeping.{IsBegunFor}
-use Rattle.batch_add.specs.GivingUp.{IsGivingUp, HasGiven}
-use Rattle.batch_add.specs.Aborting.{kept_of, IsAborting, HasAborted, HasAbortedAny}
+use Rattle.batch_add.specs.stages.Keeping.{IsBegunFor}
+use Rattle.batch_add.specs.stages.GivingUp.{IsGivingUp, HasGiven}
+use Rattle.batch_add.specs.stages.Aborting.{kept_of, IsAborting, HasAbortedAny}
+use Rattle.batch_add.specs.Answers.{HasAborted}
 use Rattle.batch_add.proofs.Drawn.{root-made}
 use Rattle.batch_add.proofs.Staying.{goes-beside}
 

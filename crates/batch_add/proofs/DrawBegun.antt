@@ -20,7 +20,7 @@ use Rattle.batch_add.specs.declared.tree_drawing.TreeDrawing.{TreeDrawing}
 use Rattle.pass_table.specs.Work.{begun, HasWorked}
 use Rattle.batch_add.specs.Drawing.{IsMarkedAs, HasBodies}
 use Rattle.batch_add.specs.Parts.{IsNewest, marked_as, HasDrawn}
-use Rattle.batch_add.specs.DrawStages.{Planned, IsToDraw, IsBegun, before_child, IsDrawnFrom, HasDrawnUpTo, HasDrawnAll}
+use Rattle.batch_add.specs.stages.DrawStages.{Planned, IsToDraw, IsBegun, before_child, IsDrawnFrom, HasDrawnUpTo, HasDrawnAll}
 use Rattle.batch_add.proofs.Levels.{node-there}
 use Rattle.pass_table.proofs.Working.{worked-begun}
 

@@ -17,7 +17,7 @@ use Rattle.core_state.proofs.Beginning.{contains_first, contains_flat}
 use Rattle.core_batch.proofs.Lists.{contains_later, contains_map, map_from, pairs-across}
 use Rattle.core_batch.proofs.Mapped.{AreOtherBodies}
 use Rattle.batch_add.specs.Drawing.{node_at, IsMarkedAs, HasBodies}
-use Rattle.batch_add.specs.DrawStages.{Planned, ArePlacedUpTo, IsDrawnFrom}
+use Rattle.batch_add.specs.stages.DrawStages.{Planned, ArePlacedUpTo, IsDrawnFrom}
 
 -- ---- bodies that are placed
 

@@ -39,8 +39,8 @@ use Rattle.batch_add.specs.declared.tree_drawing.TreeDrawing.{TreeDrawing}
 use Rattle.pass_table.specs.Work.{is_told, HasWorked}
 use Rattle.batch_add.specs.Drawing.{node_at, child_word, parent_word, SaysPlanBy, ArePlaced, HasWritten, WritesOnly}
 use Rattle.batch_add.specs.Parts.{HasDrawn}
-use Rattle.batch_add.specs.DrawStages.{Planned, planned_of, Reached, before_child, reached, next_child, after_child, after_sides, after_side, SaysUpTo, ArePlacedUpTo, drawing_work, HasDrawnUpTo, AtDraw, stage_left, IsDrawTurn}
-use Rattle.batch_add.specs.DrawLater.{newest-among, drawn-nodes, node-inside, node-own}
+use Rattle.batch_add.specs.stages.DrawStages.{Planned, planned_of, Reached, before_child, reached, next_child, after_child, after_sides, after_side, SaysUpTo, ArePlacedUpTo, drawing_work, HasDrawnUpTo, AtDraw, stage_left, IsDrawTurn}
+use Rattle.batch_add.specs.stages.DrawLater.{newest-among, drawn-nodes, node-inside, node-own}
 use Rattle.pass_table.proofs.WorkLater.{worked-pass, worked-sizes, worked-batches, worked-loose, worked-written}
 use Rattle.pass_table.proofs.Working.{worked-untold, worked-done}
 use Rattle.batch_add.proofs.DrawWords.{StoresBeside, child-said, side-said, parent-said, sides-passed}

@@ -10,7 +10,7 @@ use Rattle.word_map.specs.declared.name.Name.{Name}
 use Rattle.word_map.specs.declared.name.Name.TheVariants.{Child, Bound, Parent}
 use Rattle.core_state.specs.Nodes.{node_in}
 use Rattle.batch_add.specs.Drawing.{node_at, child_word, parent_word}
-use Rattle.batch_add.specs.DrawStages.{Planned, Reached, SaysUpTo}
+use Rattle.batch_add.specs.stages.DrawStages.{Planned, Reached, SaysUpTo}
 use Rattle.batch_add.proofs.Drawn.{position, position-node_at}
 
 -- other nodes of the plan become other nodes

@@ -31,9 +31,9 @@ use Rattle.batch_add.specs.declared.giving_up.GiveStage.{GiveStage}
 use Rattle.batch_add.specs.declared.giving_up.GiveStage.TheVariants.{Striping, Striped, Cleared, Unmarked, Bare, Locking, Locked, Next, Headed, Linked, Given, Counted}
 use Rattle.pass_table.specs.Work.{HasWorked, begun as begun_work}
 use Rattle.pass_table.proofs.WorkLater.{worked-sizes, worked-batches, worked-loose, worked-written, worked-pass}
-use Rattle.batch_add.specs.Keeping.{index_at, IsKept, IsBegunFor}
-use Rattle.batch_add.specs.GivingUp.{WorksFree, WorksUnder, unmark_entries, with_marks, unplaced, unmarking_work, IsAtBody, UnderStripe, AtGiving, IsGivingUp, ComesNext}
-use Rattle.batch_add.specs.GivingLater.{under-stripe}
+use Rattle.batch_add.specs.stages.Keeping.{index_at, IsKept, IsBegunFor}
+use Rattle.batch_add.specs.stages.GivingUp.{WorksFree, WorksUnder, unmark_entries, with_marks, unplaced, unmarking_work, IsAtBody, UnderStripe, AtGiving, IsGivingUp, ComesNext}
+use Rattle.batch_add.specs.stages.GivingLater.{under-stripe}
 use Rattle.pass_table.proofs.Working.{worked-begun}
 use Rattle.batch_add.proofs.GiveLists.{body-gone, body-cleared}
 use Rattle.batch_add.proofs.GiveWork.{under-released, under-stored, under-made}

@@ -15,7 +15,7 @@ use Rattle.core_state.proofs.Beginning.{contains_flat, contains_first}
 use Rattle.core_batch.proofs.Lists.{contains_later, pairs-first, pairs-right, pairs-across}
 use Rattle.core_batch.proofs.Mapped.{AreOtherBodies}
 use Rattle.core_batch.proofs.SlotLists.{is_for-true, is_for-slot}
-use Rattle.batch_add.specs.GivingUp.{with_marks, unplaced}
+use Rattle.batch_add.specs.stages.GivingUp.{with_marks, unplaced}
 
 -- ---- one element is taken out
 

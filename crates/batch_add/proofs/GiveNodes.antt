@@ -1,7 +1,6 @@
 -- How the nodes of a batch that is given up are put into the pool again.
-use Rattle.std.specs.Prelude.{flat_map}
+use Rattle.std.specs.Prelude.{flat_map, filter}
 use Rattle.std.proofs.Common.{◌≡◌, ◌≢◌, ℕ, zero, suc, ◌+◌, ◌<◌, ◌≤◌, ◌==◌, not, List, [], ◌∷◌, ◌++◌, None, Contains, AllPairs, length, take, drop, get_or, append_assoc, refl, ap, sym, ◌∙◌, subst, arith}
-use Rattle.std.specs.Prelude.{filter}
 use Rattle.std.proofs.lemmas.List.{length-append}
 use Rattle.std.proofs.lemmas.List.Elements.{Contains-append_right}
 use Rattle.word_map.specs.declared.config.Config.{Config}
@@ -37,9 +36,9 @@ use Rattle.free_list.specs.Pool.{taken_in, given_in, LoadedPoolHead, LoadedCount
 use Rattle.batch_add.specs.declared.kept_batch.KeptBatch.{KeptBatch}
 use Rattle.pass_table.proofs.WorkLater.{worked-sizes, worked-batches, worked-loose, worked-written, worked-pass, worked-role}
 use Rattle.batch_add.specs.Parts.{StoresFrom}
-use Rattle.batch_add.specs.Keeping.{node_of, IsKept, IsBegunFor}
-use Rattle.batch_add.specs.GivingUp.{WorksUnder, putting, giving_work, counted_work, IsAtNode, KnowsFree, IsPutting}
-use Rattle.batch_add.specs.GivingLater.{under-pool, pool-steady, under-more, put-later}
+use Rattle.batch_add.specs.stages.Keeping.{node_of, IsKept, IsBegunFor}
+use Rattle.batch_add.specs.stages.GivingUp.{WorksUnder, putting, giving_work, counted_work, IsAtNode, KnowsFree, IsPutting}
+use Rattle.batch_add.specs.stages.GivingLater.{under-pool, pool-steady, under-more, put-later}
 use Rattle.batch_add.proofs.GiveLists.{node-gone, written-more}
 use Rattle.batch_add.proofs.GiveWork.{under-stored, under-told}
 use Rattle.batch_add.proofs.GiveBodies.{nodes-many}

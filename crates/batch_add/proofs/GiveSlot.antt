@@ -23,8 +23,8 @@ use Rattle.batch_add.specs.declared.kept_batch.KeptBatch.{KeptBatch}
 use Rattle.pass_table.specs.Work.{HasDone}
 use Rattle.pass_table.proofs.WorkLater.{worked-batches, worked-loose, worked-written, worked-pass}
 use Rattle.batch_add.specs.Parts.{stored_as, StoresFrom, given_stores, HasGivenUp}
-use Rattle.batch_add.specs.Keeping.{IsBegunFor}
-use Rattle.batch_add.specs.GivingUp.{WorksFree, with_marks, unmark_entries, unmarking_work, giving_work, counted_work}
+use Rattle.batch_add.specs.stages.Keeping.{IsBegunFor}
+use Rattle.batch_add.specs.stages.GivingUp.{WorksFree, with_marks, unmark_entries, unmarking_work, giving_work, counted_work}
 use Rattle.batch_add.proofs.GiveLists.{batch-gone, batch-found, written-none}
 use Rattle.batch_add.proofs.GiveWork.{free-told, free-done}
 

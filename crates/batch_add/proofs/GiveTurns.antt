@@ -14,8 +14,8 @@ use Rattle.batch_add.specs.declared.giving_up.GiveStage.{GiveStage}
 use Rattle.batch_add.specs.declared.giving_up.GiveStage.TheVariants.{Striping, Striped, Cleared, Unmarked, Bare, Locking, Locked, Next, Headed, Linked, Given, Counted}
 use Rattle.batch_add.specs.declared.giving_up.GivingUp.{GivingUp}
 use Rattle.batch_add.specs.Parts.{HasGivenUp}
-use Rattle.batch_add.specs.Keeping.{IsBegunFor}
-use Rattle.batch_add.specs.GivingUp.{AtGiving, ComesNext, IsGivingUp, HasGiven, left_at, takes_at, IsGiveTurn}
+use Rattle.batch_add.specs.stages.Keeping.{IsBegunFor}
+use Rattle.batch_add.specs.stages.GivingUp.{AtGiving, ComesNext, IsGivingUp, HasGiven, left_at, takes_at, IsGiveTurn}
 
 -- a turn that goes from a stage to a stage keeps to the stages of the operation
 abbrev pub KeepsStage : KeptBatch → View → View → GiveStage → GiveStage → Type 0

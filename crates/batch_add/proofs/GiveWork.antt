@@ -26,7 +26,7 @@ use Rattle.pass_table.proofs.TakingTurns.{taking-anew}
 use Rattle.pass_table.specs.Calls.{StoresWord}
 use Rattle.pass_table.specs.Work.{is_told, Work, HasWorked, HasDone, outcome_of}
 use Rattle.batch_add.specs.Parts.{stored_as}
-use Rattle.batch_add.specs.GivingUp.{at_locks, WorksFree, WorksUnder}
+use Rattle.batch_add.specs.stages.GivingUp.{at_locks, WorksFree, WorksUnder}
 use Rattle.pass_table.proofs.Working.{worked-waited, worked-taken, worked-released, worked-told, worked-untold, worked-done}
 
 -- ---- locks

@@ -11,12 +11,12 @@ use Rattle.core_state.specs.declared.view.View.{View}
 use Rattle.core_state.specs.View.{IsPass}
 use Rattle.pass_table.specs.Holding.{IsAtRest}
 use Rattle.body_look.specs.declared.look_op.LookDepth.TheVariants.{Phase as ItsPhase}
-use Rattle.body_look.specs.Looking.{looking_of, IsLooking}
+use Rattle.body_look.specs.stages.Looking.{looking_of, IsLooking}
 use Rattle.batch_add.specs.declared.mark_op.MarkStage.TheVariants.{Looking}
 use Rattle.batch_add.specs.declared.mark_op.Marking.{Marking}
 use Rattle.pass_table.specs.Work.{HasWorked, begun as begun_work}
 use Rattle.batch_add.specs.Parts.{IsNewest}
-use Rattle.batch_add.specs.Marking.{marks_of, current, IsForNewest, AreFirst, marks_work, AtMark, IsMarking}
+use Rattle.batch_add.specs.stages.Marking.{marks_of, current, IsForNewest, AreFirst, marks_work, AtMark, IsMarking}
 use Rattle.pass_table.proofs.Working.{worked-begun}
 
 -- nothing is marked yet

@@ -28,15 +28,15 @@ use Rattle.pass_table.proofs.Knowing.{known-more}
 use Rattle.pass_table.proofs.Calling.{point-later, released-step, released-made}
 use Rattle.body_look.specs.declared.look_op.LookDepth.TheVariants.{Phase as ItsPhase}
 use Rattle.body_look.specs.declared.look_op.LookOp.{LookOp}
-use Rattle.body_look.specs.Looking.{looking_of, IsLooking}
+use Rattle.body_look.specs.stages.Looking.{looking_of, IsLooking}
 use Rattle.batch_add.specs.declared.mark_op.MarkRefused.{MarkRefused}
 use Rattle.batch_add.specs.declared.mark_op.MarkStage.{MarkStage}
 use Rattle.batch_add.specs.declared.mark_op.MarkStage.TheVariants.{Looking, Boxed, Leaving, Refusing}
 use Rattle.batch_add.specs.declared.mark_op.Marking.{Marking}
 use Rattle.pass_table.specs.Work.{HasWorked, HasDone}
 use Rattle.batch_add.specs.Parts.{IsNewest, HasMarked, HasMarkedBefore, marks_outcome, IsMarkRefusedAt}
-use Rattle.batch_add.specs.Marking.{Marks, marks_of, marked_bodies, current, IsBegunFor, marks_work, HasStripe, AtMark, PastLook, GoesOnFrom, IsMarking, Notes, mark_left, IsMarkTurn, takes_at}
-use Rattle.batch_add.specs.MarkLater.{stripe-held}
+use Rattle.batch_add.specs.stages.Marking.{Marks, marks_of, marked_bodies, current, IsBegunFor, marks_work, HasStripe, AtMark, PastLook, GoesOnFrom, IsMarking, Notes, mark_left, IsMarkTurn, takes_at}
+use Rattle.batch_add.specs.stages.MarkLater.{stripe-held}
 use Rattle.pass_table.proofs.WorkLater.{worked-sizes}
 use Rattle.pass_table.proofs.Working.{worked-released, worked-done}
 use Rattle.batch_add.proofs.MarkLocks.{free-again}

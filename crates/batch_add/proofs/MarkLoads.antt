@@ -17,15 +17,15 @@ use Rattle.pass_table.proofs.WorkLater.{worked-sizes}
 use Rattle.body_look.specs.declared.body_found.BodyFound.{BodyFound}
 use Rattle.body_look.specs.declared.body_found.BodyFound.TheVariants.{Gone as FoundGone, Live as FoundLive, Out as FoundOut, In as FoundIn, Held as FoundHeld, Joined as FoundJoined}
 use Rattle.body_look.specs.declared.look_op.LookDepth.TheVariants.{Phase as ItsPhase}
-use Rattle.body_look.specs.Looking.{HasLooked, HasStripe as HasItsStripe}
-use Rattle.body_look.specs.LookLater.{is-guarded}
+use Rattle.body_look.specs.stages.Looking.{HasLooked, HasStripe as HasItsStripe}
+use Rattle.body_look.specs.stages.LookLater.{is-guarded}
 use Rattle.body_look.proofs.Answering.{worked-looked}
 use Rattle.batch_add.specs.declared.mark_op.MarkRefused.{MarkRefused}
 use Rattle.batch_add.specs.declared.mark_op.MarkRefused.TheVariants.{Gone, Held, AlreadyIn, WrongLayer}
 use Rattle.batch_add.specs.declared.mark_op.MarkStage.TheVariants.{Outside, Refusing}
 use Rattle.batch_add.specs.Parts.{IsMarkRefusedAt}
-use Rattle.batch_add.specs.Marking.{Marks, current, IsBegunFor, IsBetween, IsAtBody, KnowsOut, after_look, PastLook}
-use Rattle.batch_add.specs.MarkLater.{body-guarded, out-later, body-later}
+use Rattle.batch_add.specs.stages.Marking.{Marks, current, IsBegunFor, IsBetween, IsAtBody, KnowsOut, after_look, PastLook}
+use Rattle.batch_add.specs.stages.MarkLater.{body-guarded, out-later, body-later}
 
 -- ---- the next body
 

@@ -5,7 +5,7 @@ use Rattle.core_state.specs.declared.view.Mode.TheVariants.{Write}
 use Rattle.core_state.specs.declared.view.LockStep.{LockStep}
 use Rattle.core_state.specs.declared.view.LockStep.TheVariants.{Taken as TakenStep, Released}
 use Rattle.core_state.specs.View.{mode_of}
-use Rattle.batch_add.specs.MarkLater.{mode-last}
+use Rattle.batch_add.specs.stages.MarkLater.{mode-last}
 
 -- no lock is held after these steps
 abbrev NoneHeld : List LockStep → Type 0

@@ -12,8 +12,8 @@ use Rattle.core_state.specs.declared.view.View.{View}
 use Rattle.core_state.specs.View.{known_word}
 use Rattle.pass_table.specs.Bodies.{IsGuarded, IsTold, Loaded}
 use Rattle.batch_add.specs.declared.mark_op.MarkStage.TheVariants.{Outside, Sides, Boxed}
-use Rattle.batch_add.specs.Marking.{Marks, current, IsBegunFor, IsAtBody, KnowsHere, KnowsSides, PastLook}
-use Rattle.batch_add.specs.MarkLater.{here-later, sides-later}
+use Rattle.batch_add.specs.stages.Marking.{Marks, current, IsBegunFor, IsAtBody, KnowsHere, KnowsSides, PastLook}
+use Rattle.batch_add.specs.stages.MarkLater.{here-later, sides-later}
 use Rattle.batch_add.proofs.MarkLoads.{body-then, guarded-before, told-then, out-body, out-known}
 
 -- a body that is out is in the layer of the batch: its box comes next

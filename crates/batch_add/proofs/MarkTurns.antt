@@ -12,14 +12,14 @@ use Rattle.body_look.specs.declared.body_found.BodyFound.{BodyFound}
 use Rattle.body_look.specs.declared.body_found.BodyFound.TheVariants.{Gone as FoundGone, Live as FoundLive, Out as FoundOut, In as FoundIn, Held as FoundHeld, Joined as FoundJoined}
 use Rattle.body_look.specs.declared.look_op.LookDepth.TheVariants.{Phase as ItsPhase}
 use Rattle.body_look.specs.declared.look_op.LookOp.{LookOp}
-use Rattle.body_look.specs.Looking.{looking_of, IsLooking, look_left, look_takes}
+use Rattle.body_look.specs.stages.Looking.{looking_of, IsLooking, look_left, look_takes}
 use Rattle.body_look.proofs.Answering.{turn-left}
 use Rattle.batch_add.specs.declared.mark_op.MarkRefused.{MarkRefused}
 use Rattle.batch_add.specs.declared.mark_op.MarkRefused.TheVariants.{Gone, Held, AlreadyIn}
 use Rattle.batch_add.specs.declared.mark_op.MarkStage.{MarkStage}
 use Rattle.batch_add.specs.declared.mark_op.MarkStage.TheVariants.{Looking, Outside, Refusing}
 use Rattle.batch_add.specs.declared.mark_op.Marking.{Marking}
-use Rattle.batch_add.specs.Marking.{marks_of, current, IsBegunFor, IsAtLook, after_look, AtMark, PastLook, IsMarking, HasMadeMarks, stage_left, turns_each, bodies_left, IsMarkTurn, takes_at}
+use Rattle.batch_add.specs.stages.Marking.{marks_of, current, IsBegunFor, IsAtLook, after_look, AtMark, PastLook, IsMarking, HasMadeMarks, stage_left, turns_each, bodies_left, IsMarkTurn, takes_at}
 
 abbrev pub MarkTurn : Type 0
 MarkTurn = Turn (Result (Unit {0}) MarkRefused)

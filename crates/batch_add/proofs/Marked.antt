@@ -44,8 +44,8 @@ use Rattle.pass_table.proofs.Calling.{stepped-sizes, steady-now, stores-word, st
 use Rattle.batch_add.specs.declared.mark_op.MarkStage.TheVariants.{Boxed, Leaving}
 use Rattle.pass_table.specs.Work.{HasWorked}
 use Rattle.batch_add.specs.Parts.{marked_as}
-use Rattle.batch_add.specs.Marking.{Marks, current, AreFirst, IsBegunFor, marks_work, PastLook}
-use Rattle.batch_add.specs.MarkLater.{body-held}
+use Rattle.batch_add.specs.stages.Marking.{Marks, current, AreFirst, IsBegunFor, marks_work, PastLook}
+use Rattle.batch_add.specs.stages.MarkLater.{body-held}
 use Rattle.pass_table.proofs.WorkLater.{worked-batches, worked-loose, worked-written}
 use Rattle.pass_table.proofs.Working.{worked-untold}
 

@@ -22,11 +22,11 @@ use Rattle.batch_add.specs.declared.prepare_op.Undone.TheVariants.{NoNodes}
 use Rattle.batch_add.specs.declared.prepare_op.PrepareStage.TheVariants.{TakingNodes, Marking as MarkingStage}
 use Rattle.batch_add.specs.declared.prepare_op.PrepareOp.{PrepareOp}
 use Rattle.batch_add.specs.Parts.{HasReserved, HasNodes, FoundFewNodes}
-use Rattle.batch_add.specs.TakingNodes.{IsTakingNodes, HasTakenNodes, nodes_left, nodes_takes}
-use Rattle.batch_add.specs.Marking.{IsForNewest, IsMarking, mark_left, mark_takes}
-use Rattle.batch_add.specs.Keeping.{IsBegunFor}
-use Rattle.batch_add.specs.GivingUp.{IsGivingUp, stage_left as give_stage_left, left_at, give_left}
-use Rattle.batch_add.specs.Preparing.{ids_of, count_of, need_of, CanPlan, IsInSome, HasSlotAndNodes, with_slot_nodes, CameToGive, AtPrepare, IsPreparing, left_after, part_left, stage_left, prepare_left, entry_at, entry_of, kept_of, BeginsUndoing, IsPrepareTurn, takes_at}
+use Rattle.batch_add.specs.stages.TakingNodes.{IsTakingNodes, HasTakenNodes, nodes_left, nodes_takes}
+use Rattle.batch_add.specs.stages.Marking.{IsForNewest, IsMarking, mark_left, mark_takes}
+use Rattle.batch_add.specs.stages.Keeping.{IsBegunFor}
+use Rattle.batch_add.specs.stages.GivingUp.{IsGivingUp, stage_left as give_stage_left, left_at, give_left}
+use Rattle.batch_add.specs.stages.Preparing.{ids_of, count_of, need_of, CanPlan, IsInSome, HasSlotAndNodes, with_slot_nodes, CameToGive, AtPrepare, IsPreparing, left_after, part_left, stage_left, prepare_left, entry_at, entry_of, kept_of, BeginsUndoing, IsPrepareTurn, takes_at}
 use Rattle.batch_add.proofs.Searching.{reserved-newest}
 use Rattle.batch_add.proofs.TakingNodes.{taken-newest}
 use Rattle.batch_add.proofs.PartTurns.{goes-on, part-more, part-again, undoing-loads}

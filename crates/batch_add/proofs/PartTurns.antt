@@ -11,8 +11,8 @@ use Rattle.batch_add.specs.declared.answers.PrepareRefused.{PrepareRefused}
 use Rattle.batch_add.specs.declared.prepared.Prepared.{Prepared}
 use Rattle.batch_add.specs.declared.prepare_op.PrepareOp.{PrepareOp}
 use Rattle.batch_add.specs.declared.prepare_op.Undone.{Undone}
-use Rattle.batch_add.specs.GivingUp.{give_takes}
-use Rattle.batch_add.specs.Preparing.{BeginsUndoing, entry_of, prepare_left, takes_at, prepare_takes, IsPreparing, IsPrepareTurn}
+use Rattle.batch_add.specs.stages.GivingUp.{give_takes}
+use Rattle.batch_add.specs.stages.Preparing.{BeginsUndoing, entry_of, prepare_left, takes_at, prepare_takes, IsPreparing, IsPrepareTurn}
 
 module _ (before after : PrepareOp) (view next : View) (step : AtMostOneStep view next) (made : MadeBy view next (entry_of after))
     (keeps : (first : PrepareOp) (start : View) → IsPreparing first start before view → IsPreparing first start after next) where

@@ -10,9 +10,9 @@ use Rattle.batch_add.specs.declared.node_taking.NodeStage.TheVariants.{Locking, 
 use Rattle.batch_add.specs.declared.node_taking.NodeTaking.{NodeTaking}
 use Rattle.batch_add.specs.declared.giving_up.GiveStage.{GiveStage}
 use Rattle.batch_add.specs.declared.giving_up.GiveStage.TheVariants.{Striping, Striped, Cleared, Unmarked, Bare, Locking as PoolLocking, Locked as PoolLocked, Next as PutNext, Headed, Linked as PutLinked, Given, Counted}
-use Rattle.batch_add.specs.Searching.{slot_turns, search_left}
-use Rattle.batch_add.specs.TakingNodes.{AtNodes, IsTakingNodes, stage_left, nodes_left}
-use Rattle.batch_add.specs.GivingUp.{stage_left as give_stage_left}
+use Rattle.batch_add.specs.stages.Searching.{slot_turns, search_left}
+use Rattle.batch_add.specs.stages.TakingNodes.{AtNodes, IsTakingNodes, stage_left, nodes_left}
+use Rattle.batch_add.specs.stages.GivingUp.{stage_left as give_stage_left}
 
 -- a tree over some bodies has some nodes
 pub need-some : (n : ℕ) → 0 < n → 0 < need n

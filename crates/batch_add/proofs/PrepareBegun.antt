@@ -12,8 +12,8 @@ use Rattle.batch_add.specs.declared.answers.PrepareRefused.TheVariants.{Empty as
 use Rattle.batch_add.specs.declared.prepare_op.PrepareStage.TheVariants.{Empty, Searching}
 use Rattle.batch_add.specs.declared.prepare_op.PrepareOp.{PrepareOp}
 use Rattle.pass_table.specs.Work.{begun}
-use Rattle.batch_add.specs.Searching.{IsSearching}
-use Rattle.batch_add.specs.Preparing.{ids_of, count_of, need_of, CanPlan, AtPrepare, IsPreparing, entry_at, IsPrepareTurn}
+use Rattle.batch_add.specs.stages.Searching.{IsSearching}
+use Rattle.batch_add.specs.stages.Preparing.{ids_of, count_of, need_of, CanPlan, AtPrepare, IsPreparing, entry_at, IsPrepareTurn}
 use Rattle.pass_table.proofs.Working.{worked-begun, worked-done}
 use Rattle.tree_plan.specs.declared.node_count.TheConstants.{MAX_TREE_BODIES}
 

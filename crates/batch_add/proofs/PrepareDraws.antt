@@ -34,9 +34,10 @@ use Rattle.pass_table.proofs.WorkLater.{same_pass}
 use Rattle.batch_add.specs.Parts.{stored_as, StoresFrom, HasMarked, marked_as, reserved_outcome, nodes_outcome, marks_outcome, drawn_outcome}
 use Rattle.batch_add.specs.Drawing.{IsWritten}
 use Rattle.batch_add.specs.Prepared.{IsTheBatch}
-use Rattle.batch_add.specs.TakingNodes.{from-later}
-use Rattle.batch_add.specs.DrawStages.{IsDrawing, HasDrawnAll, draw_left}
-use Rattle.batch_add.specs.Preparing.{ids_of, need_of, prepared_outcome, HasPrepared, HasPreparedOr, HasSlotAndNodes, with_slot_nodes, with_marks, IsInPart, IsInSome, CameToDraw, AtPrepare, IsPreparing, part_left, stage_left, prepare_left, entry_at, entry_of, IsPrepareTurn, takes_at}
+use Rattle.batch_add.specs.stages.TakingNodes.{from-later}
+use Rattle.batch_add.specs.stages.DrawStages.{IsDrawing, HasDrawnAll, draw_left}
+use Rattle.batch_add.specs.stages.Preparing.{ids_of, need_of, HasPreparedOr, HasSlotAndNodes, with_slot_nodes, with_marks, IsInPart, IsInSome, CameToDraw, AtPrepare, IsPreparing, part_left, stage_left, prepare_left, entry_at, entry_of, IsPrepareTurn, takes_at}
+use Rattle.batch_add.specs.Answers.{prepared_outcome, HasPrepared}
 use Rattle.pass_table.proofs.Working.{done-then, done-prefix}
 use Rattle.batch_add.proofs.DrawBegun.{IsDrawnNow, drawn-newest}
 use Rattle.batch_add.proofs.Known.{fresh-unwritten}

@@ -32,9 +32,10 @@ use Rattle.batch_add.specs.declared.prepare_op.PrepareOp.{PrepareOp}
 use Rattle.batch_add.specs.declared.giving_up.GivingUp.{GivingUp}
 use Rattle.pass_table.specs.Work.{Outcome, HasDone, followed, idle}
 use Rattle.batch_add.specs.Parts.{stored_as, StoresFrom, reserved_outcome, nodes_outcome, marks_outcome, marked_as, IsMarkRefusedAt, given_stores, given_outcome, HasGivenUp}
-use Rattle.batch_add.specs.GivingUp.{IsGivingUp, HasGiven, give_left, give_takes}
-use Rattle.batch_add.specs.GivingLater.{from-later}
-use Rattle.batch_add.specs.Preparing.{ids_of, need_of, HadFewNodes, HadBadId, WasRefused, IsInPart, IsInSome, CameToGive, HasSlotAndNodes, HasFailed, AtPrepare, IsPreparing, with_slot_nodes, with_marks, refusal_of, refusal_of_mark, part_left, stage_left, prepare_left, entry_at, entry_of, IsPrepareTurn, prepare_takes, takes_at}
+use Rattle.batch_add.specs.stages.GivingUp.{IsGivingUp, HasGiven, give_left, give_takes}
+use Rattle.batch_add.specs.stages.GivingLater.{from-later}
+use Rattle.batch_add.specs.stages.Preparing.{ids_of, need_of, IsInPart, IsInSome, CameToGive, HasSlotAndNodes, HasFailed, AtPrepare, IsPreparing, with_slot_nodes, with_marks, refusal_of, refusal_of_mark, part_left, stage_left, prepare_left, entry_at, entry_of, IsPrepareTurn, prepare_takes, takes_at}
+use Rattle.batch_add.specs.Answers.{HadFewNodes, HadBadId, WasRefused}
 use Rattle.pass_table.proofs.Working.{done-then, done-prefix, point-from}
 use Rattle.batch_add.proofs.GiveLists.{written-none}
 use Rattle.batch_add.proofs.Known.{fresh-unwritten}

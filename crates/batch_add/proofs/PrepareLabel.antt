@@ -18,9 +18,9 @@ use Rattle.batch_add.specs.declared.mark_op.Marking.{Marking}
 use Rattle.batch_add.specs.declared.prepare_op.PrepareStage.{PrepareStage}
 use Rattle.batch_add.specs.declared.prepare_op.PrepareStage.TheVariants.{Marking as MarkingStage}
 use Rattle.batch_add.specs.declared.prepare_op.PrepareOp.{PrepareOp}
-use Rattle.batch_add.specs.Marking.{IsMarking, HasMadeMarks}
+use Rattle.batch_add.specs.stages.Marking.{IsMarking, HasMadeMarks}
 use Rattle.batch_add.specs.Parts.{stored_as, HasMarked, reserved_outcome, nodes_outcome, marks_outcome}
-use Rattle.batch_add.specs.Preparing.{ids_of, HasSlotAndNodes, with_slot_nodes, with_marks, BeginsTree, stage_label, label_of, marked_outcome, HasAllMarked, label_says, KeepsLabel}
+use Rattle.batch_add.specs.stages.Preparing.{ids_of, HasSlotAndNodes, with_slot_nodes, with_marks, BeginsTree, stage_label, label_of, marked_outcome, HasAllMarked, label_says, KeepsLabel}
 use Rattle.batch_add.proofs.PrepareMarks.{map_twice, all_marked}
 
 -- a turn after which the label is not reached

@@ -33,11 +33,11 @@ use Rattle.batch_add.specs.declared.prepare_op.PrepareStage.{PrepareStage}
 use Rattle.batch_add.specs.declared.prepare_op.PrepareStage.TheVariants.{Marking as MarkingStage}
 use Rattle.batch_add.specs.declared.prepare_op.PrepareOp.{PrepareOp}
 use Rattle.batch_add.specs.Parts.{HasReserved, HasNodes, HasMarked, HasMarkedBefore, marked_as}
-use Rattle.batch_add.specs.Marking.{IsMarking, HasMadeMarks, mark_left, marked_bodies, mark_takes}
-use Rattle.batch_add.specs.DrawStages.{IsToDraw, IsOfPlan, IsDrawing, draw_left, stage_left as draw_stage_left}
-use Rattle.batch_add.specs.Keeping.{IsBegunFor}
-use Rattle.batch_add.specs.GivingUp.{IsGivingUp, give_left, stage_left as give_stage_left, left_at}
-use Rattle.batch_add.specs.Preparing.{CanPlan, ids_of, count_of, need_of, HasSlotAndNodes, with_slot_nodes, with_marks, IsWanted, IsInPart, IsInSome, CameToMarks, CameToDraw, CameToGive, AtPrepare, IsPreparing, BeginsTree, BeginsUndoing, kept_of, left_after, part_left, stage_left, prepare_left, entry_at, entry_of, IsPrepareTurn, takes_at}
+use Rattle.batch_add.specs.stages.Marking.{IsMarking, HasMadeMarks, mark_left, marked_bodies, mark_takes}
+use Rattle.batch_add.specs.stages.DrawStages.{IsToDraw, IsOfPlan, IsDrawing, draw_left, stage_left as draw_stage_left}
+use Rattle.batch_add.specs.stages.Keeping.{IsBegunFor}
+use Rattle.batch_add.specs.stages.GivingUp.{IsGivingUp, give_left, stage_left as give_stage_left, left_at}
+use Rattle.batch_add.specs.stages.Preparing.{CanPlan, ids_of, count_of, need_of, HasSlotAndNodes, with_slot_nodes, with_marks, IsWanted, IsInPart, IsInSome, CameToMarks, CameToDraw, CameToGive, AtPrepare, IsPreparing, BeginsTree, BeginsUndoing, kept_of, left_after, part_left, stage_left, prepare_left, entry_at, entry_of, IsPrepareTurn, takes_at}
 use Rattle.batch_add.proofs.TakingNodes.{taken-newest}
 use Rattle.batch_add.proofs.PartTurns.{goes-on, part-more, part-again, undoing-loads}
 use Rattle.tree_plan.specs.declared.node_count.TheConstants.{MAX_TREE_BODIES}

@@ -9,8 +9,7 @@ use Rattle.batch_add.specs.declared.answers.PrepareRefused.{PrepareRefused}
 use Rattle.batch_add.specs.declared.answers.PrepareRefused.TheVariants.{Memory, Empty, NoSlot, NoNodes, Gone, Held, AlreadyIn, WrongLayer}
 use Rattle.batch_add.specs.declared.prepared.Prepared.{Prepared}
 use Rattle.batch_add.specs.Prepared.{IsGood, IsApart, HasAttached}
-use Rattle.batch_add.specs.Preparing.{PrepareAnswers}
-use Rattle.batch_add.specs.Aborting.{HasAborted}
+use Rattle.batch_add.specs.Answers.{PrepareAnswers, HasAborted}
 use Rattle.batch_add.proofs.Staying.{good-kept, apart-back}
 
 pub prepare-rest : (layer : ℕ) (ids : List Id) (start next : View) (answer : Result Prepared PrepareRefused) → IsAtRest start → PrepareAnswers layer ids start next answer → IsAtRest next

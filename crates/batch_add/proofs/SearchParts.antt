@@ -15,9 +15,9 @@ use Rattle.batch_add.specs.declared.prepare_op.PrepareStage.{PrepareStage}
 use Rattle.batch_add.specs.declared.prepare_op.PrepareStage.TheVariants.{Searching, TakingNodes}
 use Rattle.batch_add.specs.declared.prepare_op.PrepareOp.{PrepareOp}
 use Rattle.batch_add.specs.Parts.{HasReserved, FoundNoSlot}
-use Rattle.batch_add.specs.Searching.{IsSearching, HasSearched, search_left}
-use Rattle.batch_add.specs.TakingNodes.{IsTakingNodes, nodes_left, nodes_takes}
-use Rattle.batch_add.specs.Preparing.{ids_of, count_of, need_of, AtPrepare, IsPreparing, left_after, stage_left, prepare_left, entry_at, entry_of, label_of, stage_label, IsPrepareTurn, takes_at}
+use Rattle.batch_add.specs.stages.Searching.{IsSearching, HasSearched, search_left}
+use Rattle.batch_add.specs.stages.TakingNodes.{IsTakingNodes, nodes_left, nodes_takes}
+use Rattle.batch_add.specs.stages.Preparing.{ids_of, count_of, need_of, AtPrepare, IsPreparing, left_after, stage_left, prepare_left, entry_at, entry_of, label_of, stage_label, IsPrepareTurn, takes_at}
 use Rattle.batch_add.proofs.PartTurns.{goes-on, part-more, part-again}
 use Rattle.batch_add.proofs.PartsLeft.{search-some, nodes-most, nodes-after, some-ids}
 

@@ -34,7 +34,7 @@ use Rattle.free_list.proofs.Pool.{now-by}
 use Rattle.batch_add.specs.declared.slot_search.SlotSearch.{SlotSearch}
 use Rattle.pass_table.specs.Work.{begun, HasWorked}
 use Rattle.batch_add.specs.Parts.{StoresFrom, IsNewest, HasReserved, FoundNoSlot}
-use Rattle.batch_add.specs.Searching.{WasFound, WereFound, IsSearching, HasSearched, slot_turns, search_left, IsSearchTurn, HasNoted, searching-later}
+use Rattle.batch_add.specs.stages.Searching.{WasFound, WereFound, IsSearching, HasSearched, slot_turns, search_left, IsSearchTurn, HasNoted, searching-later}
 use Rattle.pass_table.proofs.WorkLater.{worked-sizes, worked-batches, worked-loose, worked-written}
 use Rattle.pass_table.proofs.Working.{worked-told, worked-done}
 

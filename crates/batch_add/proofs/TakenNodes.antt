@@ -1,8 +1,7 @@
 -- The nodes that a pass has taken for its newest batch are batch nodes, each another, and none that it had before.
-use Rattle.std.specs.Prelude.{flat_map, nat_eq}
+use Rattle.std.specs.Prelude.{flat_map, nat_eq, All}
 use Rattle.std.specs.List.{IsDistinct}
 use Rattle.std.proofs.Common.{◌≡◌, ◌≢◌, ℕ, ◌<◌, List, [], ◌∷◌, ◌++◌, true, eqb, get_or, Contains, append_assoc, inl, inr, refl, ap, sym, ◌∙◌, subst}
-use Rattle.std.specs.Prelude.{All}
 use Rattle.std.proofs.lemmas.Bool.{eq-eqb, eqb-true}
 use Rattle.std.proofs.lemmas.List.{append-nil}
 use Rattle.std.proofs.lemmas.List.Elements.{Contains-get_or, Contains-append_left, Contains-append_right, Contains-append_cases}
@@ -20,7 +19,7 @@ use Rattle.core_batch.proofs.Lists.{pairs-left, pairs-right, pairs-across}
 use Rattle.core_batch.proofs.Owning.{batch-below}
 use Rattle.core_guard.proofs.NodesLeft.{seen-nodes}
 use Rattle.batch_add.specs.Parts.{IsNewest, with_nodes}
-use Rattle.batch_add.specs.TakingNodes.{with_more}
+use Rattle.batch_add.specs.stages.TakingNodes.{with_more}
 
 -- ---- the newest batch
 

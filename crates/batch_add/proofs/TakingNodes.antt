@@ -44,7 +44,7 @@ use Rattle.batch_add.specs.declared.node_taking.NodeTaking.{NodeTaking}
 use Rattle.pass_table.specs.Work.{Work, begun, with_lock, HasWorked, HasDone, outcome_of}
 use Rattle.pass_table.proofs.WorkLater.{worked-sizes, worked-pass, worked-batches, worked-loose, worked-written, worked-more}
 use Rattle.batch_add.specs.Parts.{with_nodes, StoresFrom, IsNewest, HasNodes, FoundFewNodes}
-use Rattle.batch_add.specs.TakingNodes.{with_more, pooling, pool_step, locked_work, taking_work, counted_work, HasTakenSome, IsFirstNode, AtEnd, AtNodes, IsTakingNodes, IsNodesAnswer, HasTakenNodes, stage_left, nodes_left, IsNodesTurn, HasNotedNode, pool-locked, pool-steady, from-later, some-later, first-later, nodes_takes, takes_at}
+use Rattle.batch_add.specs.stages.TakingNodes.{with_more, pooling, pool_step, locked_work, taking_work, counted_work, HasTakenSome, IsFirstNode, AtEnd, AtNodes, IsTakingNodes, IsNodesAnswer, HasTakenNodes, stage_left, nodes_left, IsNodesTurn, HasNotedNode, pool-locked, pool-steady, from-later, some-later, first-later, nodes_takes, takes_at}
 use Rattle.pass_table.proofs.Working.{worked-begun, worked-waited, worked-taken, worked-released, worked-told, worked-untold, worked-done}
 use Rattle.batch_add.proofs.TakenNodes.{some-newest, newest-some, with-none, with-one, with-some, with-newest, taken-distinct, taken-others, taken-below}
 

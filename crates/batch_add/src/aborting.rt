@@ -2,7 +2,8 @@
 ghost use Rattle.std.specs.Prelude.{◌≡◌, None, ⊤};
 ghost use Rattle.pass_table.specs.Passes.{view_of, IsIdle};
 ghost use Rattle.batch_add.specs.Prepared.{IsGood};
-ghost use Rattle.batch_add.specs.Aborting.{kept_of, IsAborting, HasAborted};
+ghost use Rattle.batch_add.specs.stages.Aborting.{kept_of, IsAborting};
+ghost use Rattle.batch_add.specs.Answers.{HasAborted};
 
 use crate::giving_up::GivingUp;
 use crate::kept_batch::KeptBatch;
@@ -19,9 +20,9 @@ pub struct AbortOp {
 }
 
 impl Operation for AbortOp {
-    ghost use Rattle.batch_add.specs.GivingUp.{give_left, give_takes};
-    ghost use Rattle.batch_add.specs.Aborting.{IsAborting, HasAbortedAny};
-    ghost use Rattle.batch_add.specs.AbortLater.{aborting-later};
+    ghost use Rattle.batch_add.specs.stages.GivingUp.{give_left, give_takes};
+    ghost use Rattle.batch_add.specs.stages.Aborting.{IsAborting, HasAbortedAny};
+    ghost use Rattle.batch_add.specs.stages.AbortLater.{aborting-later};
 
     type Done = ();
 

@@ -6,8 +6,7 @@ ghost use Rattle.batch_add.specs.declared.prepared.Prepared.{Prepared};
 ghost use Rattle.batch_add.specs.declared.prepared_list.PreparedList.{PreparedList};
 ghost use Rattle.batch_add.specs.Prepared.{IsGood, IsApart};
 ghost use Rattle.batch_add.specs.PreparedLists.{AreGood, IsBeside};
-ghost use Rattle.batch_add.specs.Preparing.{PrepareAnswers};
-ghost use Rattle.batch_add.specs.Aborting.{HasAborted};
+ghost use Rattle.batch_add.specs.Answers.{PrepareAnswers, HasAborted};
 
 use crate::aborting::AbortOp;
 use crate::answers::PrepareRefused;

@@ -8,8 +8,8 @@ ghost use Rattle.pass_table.specs.Passes.{view_of, IsOf};
 ghost use Rattle.pass_table.specs.Turning.{IsUnderWay};
 ghost use Rattle.pass_table.specs.TakeTurns.{LoadedNone};
 ghost use Rattle.batch_add.specs.declared.giving_up.GiveStage.TheVariants.{Striping, Striped, Cleared, Unmarked, Bare, Locking, Locked, Next, Headed, Linked, Given, Counted};
-ghost use Rattle.batch_add.specs.Keeping.{IsBegunFor};
-ghost use Rattle.batch_add.specs.GivingUp.{ComesNext, takes_at, give_takes, IsGivingUp, IsGiveTurn};
+ghost use Rattle.batch_add.specs.stages.Keeping.{IsBegunFor};
+ghost use Rattle.batch_add.specs.stages.GivingUp.{ComesNext, takes_at, give_takes, IsGivingUp, IsGiveTurn};
 
 use crate::kept_batch::KeptBatch;
 use core_state::Mode;
@@ -57,8 +57,8 @@ pub(crate) struct GivingUp {
 }
 
 impl Operation for GivingUp {
-    ghost use Rattle.batch_add.specs.GivingUp.{IsGivingUp, HasGiven, give_left, give_takes};
-    ghost use Rattle.batch_add.specs.GivingLater.{giving-later};
+    ghost use Rattle.batch_add.specs.stages.GivingUp.{IsGivingUp, HasGiven, give_left, give_takes};
+    ghost use Rattle.batch_add.specs.stages.GivingLater.{giving-later};
 
     type Done = ();
 

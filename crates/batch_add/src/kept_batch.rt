@@ -1,7 +1,7 @@
 //! What is kept of a batch until it is attached or given up.
 ghost use Rattle.std.specs.Prelude.{◌≡◌, ◌<◌, ◌≤◌, ℕ, length, slice_index_or};
 ghost use Rattle.word_map.specs.Names.{stripe_of};
-ghost use Rattle.batch_add.specs.Keeping.{index_at, node_of};
+ghost use Rattle.batch_add.specs.stages.Keeping.{index_at, node_of};
 
 use pass_table::World;
 

@@ -10,7 +10,7 @@ ghost use Rattle.pass_table.specs.TakeTurns.{LoadedNone};
 ghost use Rattle.batch_add.specs.declared.mark_op.MarkStage.TheVariants.{Looking, Outside, Sides, Boxed, Leaving, Refusing};
 ghost use Rattle.body_look.specs.declared.look_op.LookDepth.TheVariants.{Phase as ItsPhase};
 ghost use Rattle.body_look.specs.Found.{IsAsked};
-ghost use Rattle.batch_add.specs.Marking.{marks_of, after_look, current, IsForNewest, IsMarking, IsMarkTurn, Notes, mark_left, mark_takes};
+ghost use Rattle.batch_add.specs.stages.Marking.{marks_of, after_look, current, IsForNewest, IsMarking, IsMarkTurn, Notes, mark_left, mark_takes};
 
 use crate::mark_op::{MarkRefused, MarkStage, Marking};
 use body_ident::BodyId;
@@ -22,8 +22,8 @@ use scene_model::{Entry, Made};
 use word_map::{Name, PhaseWord};
 
 impl Operation for Marking {
-    ghost use Rattle.batch_add.specs.Marking.{IsMarking, HasMadeMarks, mark_left, mark_takes};
-    ghost use Rattle.batch_add.specs.MarkLater.{marking-later};
+    ghost use Rattle.batch_add.specs.stages.Marking.{IsMarking, HasMadeMarks, mark_left, mark_takes};
+    ghost use Rattle.batch_add.specs.stages.MarkLater.{marking-later};
 
     type Done = Result<(), MarkRefused>;
 

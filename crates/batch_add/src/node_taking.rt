@@ -6,7 +6,7 @@ ghost use Rattle.pass_table.specs.Passes.{view_of, IsOf};
 ghost use Rattle.pass_table.specs.Turning.{IsUnderWay};
 ghost use Rattle.pass_table.specs.TakeTurns.{LoadedNone};
 ghost use Rattle.batch_add.specs.declared.node_taking.NodeStage.TheVariants.{Locking, Locked, Next, First, Linked, Taken, Leaving};
-ghost use Rattle.batch_add.specs.TakingNodes.{IsTakingNodes, HasNotedNode, nodes_takes, IsNodesTurn};
+ghost use Rattle.batch_add.specs.stages.TakingNodes.{IsTakingNodes, HasNotedNode, nodes_takes, IsNodesTurn};
 
 use core_state::Mode;
 use free_list::{load_count, load_pool_head, load_pool_link, store_count, take_node_off};
@@ -49,7 +49,7 @@ pub(crate) struct NodeTaking {
 }
 
 impl Operation for NodeTaking {
-    ghost use Rattle.batch_add.specs.TakingNodes.{IsTakingNodes, HasTakenNodes, nodes_left, nodes_takes, taking_nodes-later};
+    ghost use Rattle.batch_add.specs.stages.TakingNodes.{IsTakingNodes, HasTakenNodes, nodes_left, nodes_takes, taking_nodes-later};
 
     type Done = Result<(), u32>;
 

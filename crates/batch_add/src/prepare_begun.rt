@@ -3,7 +3,7 @@ ghost use Rattle.std.specs.Prelude.{◌≡◌, ◌<◌, ◌≤◌, length, map, 
 ghost use Rattle.tree_plan.specs.declared.node_count.TheConstants.{MAX_TREE_BODIES};
 ghost use Rattle.scene_model.specs.Need.{need};
 ghost use Rattle.pass_table.specs.Passes.{view_of, IsIdle};
-ghost use Rattle.batch_add.specs.Preparing.{ids_of, IsPreparing, CanPlan};
+ghost use Rattle.batch_add.specs.stages.Preparing.{ids_of, IsPreparing, CanPlan};
 
 use crate::mark_op::{MarkStage, Marking};
 use crate::node_taking::{NodeStage, NodeTaking};

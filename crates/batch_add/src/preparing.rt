@@ -5,10 +5,10 @@ ghost use Rattle.pass_table.specs.Holding.{IsAtRest};
 ghost use Rattle.pass_table.specs.Passes.{view_of, IsOf};
 ghost use Rattle.pass_table.specs.Turning.{IsUnderWay, Labelled};
 ghost use Rattle.batch_add.specs.declared.prepare_op.PrepareStage.TheVariants.{Searching, TakingNodes, Marking as MarkingStage, Drawing, GivingUp as GivingUpStage};
-ghost use Rattle.batch_add.specs.Marking.{IsForNewest};
-ghost use Rattle.batch_add.specs.DrawStages.{IsToDraw};
-ghost use Rattle.batch_add.specs.Keeping.{IsBegunFor};
-ghost use Rattle.batch_add.specs.Preparing.{IsPreparing, IsPrepareTurn, CanPlan, BeginsNodes, BeginsMarks, BeginsTree, BeginsUndoing, kept_of, refusal_of, label_of, KeepsLabel};
+ghost use Rattle.batch_add.specs.stages.Marking.{IsForNewest};
+ghost use Rattle.batch_add.specs.stages.DrawStages.{IsToDraw};
+ghost use Rattle.batch_add.specs.stages.Keeping.{IsBegunFor};
+ghost use Rattle.batch_add.specs.stages.Preparing.{IsPreparing, IsPrepareTurn, CanPlan, BeginsNodes, BeginsMarks, BeginsTree, BeginsUndoing, kept_of, refusal_of, label_of, KeepsLabel};
 
 use crate::answers::{PrepareRefused, SlotWords};
 use crate::giving_up::GivingUp;
@@ -23,9 +23,9 @@ use scene_model::Made;
 use std::mem;
 
 impl Operation for PrepareOp {
-    ghost use Rattle.batch_add.specs.Preparing.{IsPreparing, HasPreparedOr, prepare_left, prepare_takes, label_of, label_says, entry_of};
+    ghost use Rattle.batch_add.specs.stages.Preparing.{IsPreparing, HasPreparedOr, prepare_left, prepare_takes, label_of, label_says, entry_of};
     ghost use Rattle.pass_table.specs.Labels.{IsRefusal};
-    ghost use Rattle.batch_add.specs.PrepareLater.{preparing-later};
+    ghost use Rattle.batch_add.specs.stages.PrepareLater.{preparing-later};
 
     type Done = Result<Prepared, PrepareRefused>;
 

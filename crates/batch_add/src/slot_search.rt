@@ -4,7 +4,7 @@ ghost use Rattle.pass_table.specs.declared.turn.Turn.TheVariants.{Done, More};
 ghost use Rattle.pass_table.specs.Holding.{IsAtRest};
 ghost use Rattle.pass_table.specs.Passes.{view_of, IsOf};
 ghost use Rattle.pass_table.specs.Turning.{IsUnderWay};
-ghost use Rattle.batch_add.specs.Searching.{IsSearching, HasNoted, IsSearchTurn};
+ghost use Rattle.batch_add.specs.stages.Searching.{IsSearching, HasNoted, IsSearchTurn};
 
 use pass_table::{Label, Operation, Pass, Turn, World, step_17, step_18};
 use scene_model::Made;
@@ -25,7 +25,7 @@ pub(crate) struct SlotSearch {
 }
 
 impl Operation for SlotSearch {
-    ghost use Rattle.batch_add.specs.Searching.{IsSearching, HasSearched, search_left, searching-later};
+    ghost use Rattle.batch_add.specs.stages.Searching.{IsSearching, HasSearched, search_left, searching-later};
 
     type Done = Option<u32>;
 

@@ -11,7 +11,7 @@ ghost use Rattle.pass_table.specs.Passes.{view_of, IsOf};
 ghost use Rattle.pass_table.specs.Turning.{IsUnderWay};
 ghost use Rattle.batch_add.specs.declared.draw_stage.DrawStage.TheVariants.{Child, Side, Placing, Parent};
 ghost use Rattle.batch_add.specs.Drawing.{node_at, child_word, parent_word};
-ghost use Rattle.batch_add.specs.DrawStages.{IsToDraw, next_child, after_child, after_side, HasNodesFor, IsDrawing, IsDrawTurn};
+ghost use Rattle.batch_add.specs.stages.DrawStages.{IsToDraw, next_child, after_child, after_side, HasNodesFor, IsDrawing, IsDrawTurn};
 
 use crate::draw_stage::DrawStage;
 use fixed_box::FixBox;
@@ -37,8 +37,8 @@ pub(crate) struct TreeDrawing {
 }
 
 impl Operation for TreeDrawing {
-    ghost use Rattle.batch_add.specs.DrawStages.{IsDrawing, HasDrawnAll, draw_left};
-    ghost use Rattle.batch_add.specs.DrawLater.{drawing-later};
+    ghost use Rattle.batch_add.specs.stages.DrawStages.{IsDrawing, HasDrawnAll, draw_left};
+    ghost use Rattle.batch_add.specs.stages.DrawLater.{drawing-later};
 
     type Done = ();
 

@@ -15,7 +15,7 @@ use Rattle.pass_table.specs.Holding.{MayLetGo, LetGo, IsAtRest}
 use Rattle.pass_table.specs.Turning.{IsUnderWay, Turned, AtMostOneStep, MadeBy, LoadsNow}
 use Rattle.pass_table.specs.declared.turn.Turn.TheVariants.{Done, More, Again}
 use Rattle.pass_table.specs.Calls.{Adds}
-use Rattle.pass_table.specs.Bodies.{IsGoneAt}
+use Rattle.pass_table.specs.Bodies.{IsGoneAt, IsAlone}
 use Rattle.pass_table.specs.Work.{IsCalling, Tells}
 use Rattle.pass_table.specs.Belongings.{belongings_of}
 use Rattle.pass_table.proofs.Calling.{point-later}
@@ -27,8 +27,8 @@ use Rattle.body_look.specs.declared.body_found.BodyFound.{BodyFound}
 use Rattle.body_look.specs.declared.body_found.BodyFound.TheVariants.{Gone as FoundNone, Live as FoundLive, Out as FoundOut, In as FoundIn, Held as FoundHeld, Joined as FoundJoined}
 use Rattle.body_look.specs.declared.look_op.LookDepth.TheVariants.{Life}
 use Rattle.body_look.specs.declared.look_op.LookOp.{LookOp}
-use Rattle.body_look.specs.Looking.{looking_of, look_left, look_takes, IsLooking, HasLooked, Guards, GuardsFound}
-use Rattle.body_look.specs.LookLater.{stripe-mode}
+use Rattle.body_look.specs.stages.Looking.{looking_of, look_left, look_takes, IsLooking, HasLooked, Guards, GuardsFound}
+use Rattle.body_look.specs.stages.LookLater.{stripe-mode}
 use Rattle.body_look.proofs.Answering.{turn-left, no-other, gone-point, stripe-sizes}
 use Rattle.body_lock.specs.declared.gone.Gone.{Gone}
 use Rattle.body_lock.specs.declared.body_read.BodyRead.{BodyRead}
@@ -36,8 +36,8 @@ use Rattle.body_lock.specs.declared.body_write.BodyWrite.{BodyWrite}
 use Rattle.body_lock.specs.declared.lock_op.LockOp.{LockOp}
 use Rattle.body_lock.specs.declared.lock_op.LockStage.{LockStage}
 use Rattle.body_lock.specs.declared.lock_op.LockStage.TheVariants.{Looking, Leaving}
-use Rattle.pass_table.specs.Bodies.{IsAlone}
-use Rattle.body_lock.specs.Locking.{turns_from, lock_left, FoundGone, IsAtStage, IsLocking, IsLockingSo, HasLocked, HasReadLock, HasWriteLock, WasGone, LockAnswers, ReadAnswers, WriteAnswers, IsLockTurn, takes_at}
+use Rattle.body_lock.specs.stages.Locking.{turns_from, lock_left, FoundGone, IsAtStage, IsLocking, IsLockingSo, IsLockTurn, takes_at}
+use Rattle.body_lock.specs.Answers.{HasLocked, HasReadLock, HasWriteLock, WasGone, LockAnswers, ReadAnswers, WriteAnswers}
 use Rattle.body_lock.proofs.Letting.{let-go-step, let-go-made}
 
 -- ---- the look

@@ -40,7 +40,8 @@ use Rattle.pass_table.specs.Work.{IsCalling}
 use Rattle.body_lock.specs.Stripes.{has_stripe, IsNext, HasNone, AreStripesOf, HoldsAll}
 use Rattle.body_lock.specs.Multi.{IsReachGood, IsEntryGood}
 use Rattle.body_lock.specs.Settled.{IsEntrySettled}
-use Rattle.body_lock.specs.LockingAll.{wanted_ids, body_ids, turns_of, multi_left, IsEntryRight, IsReachRight, takes_below, taken_to, HeldSince, ReadsStates, IsAtMulti, IsLockingAll, HasMultiLock, SaysEntry, MayLoadState, ReadsEntry, entries-later, held-later}
+use Rattle.body_lock.specs.Answers.{wanted_ids, body_ids, IsEntryRight, IsReachRight, takes_below, HeldSince, HasMultiLock}
+use Rattle.body_lock.specs.stages.LockingAll.{turns_of, multi_left, taken_to, ReadsStates, IsAtMulti, IsLockingAll, SaysEntry, MayLoadState, ReadsEntry, entries-later, held-later}
 use Rattle.body_lock.proofs.Guards.{holds-more}
 use Rattle.body_lock.proofs.TakingAll.{takes-none}
 use Rattle.body_lock.proofs.Settling.{entry-settled}

@@ -17,7 +17,7 @@ use Rattle.body_lock.specs.declared.multi_guard.MultiEntry.TheVariants.{Reached,
 use Rattle.body_lock.specs.declared.multi_guard.LockedBody.{LockedBody}
 use Rattle.pass_table.specs.Bodies.{IsGuarding, IsCurrent, IsTold, IsGoneAt}
 use Rattle.body_lock.specs.Settled.{NamesCreation, IsLiveAt, IsGoneSince, IsReachSettled, IsEntrySettled}
-use Rattle.body_lock.specs.LockingAll.{IsReachRight, IsEntryRight}
+use Rattle.body_lock.specs.Answers.{IsReachRight, IsEntryRight}
 use Rattle.body_lock.proofs.Seeing.{history-append, creations-more}
 use Rattle.body_lock.proofs.StayingGone.{stays-gone}
 use Rattle.pass_table.proofs.LockedBodies.{tells}

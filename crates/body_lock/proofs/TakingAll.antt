@@ -32,7 +32,8 @@ use Rattle.body_lock.specs.declared.multi_op.MultiStage.TheVariants.{Taking, Hel
 use Rattle.body_lock.specs.declared.multi_op.LockMultiOp.{LockMultiOp}
 use Rattle.body_lock.specs.declared.stripe_set.StripeSet.{StripeSet}
 use Rattle.body_lock.specs.Stripes.{has_stripe, stripes_below, IsNext, HasNone, AreStripesOf, HoldsBelow, HoldsAll}
-use Rattle.body_lock.specs.LockingAll.{wanted_ids, body_ids, turns_of, multi_left, IsEntryRight, takes_below, taken_to, TakesNext, IsAtMulti, IsLockingAll, IsMultiTurn, ComesAfter, multi_takes, takes_at}
+use Rattle.body_lock.specs.Answers.{wanted_ids, body_ids, IsEntryRight, takes_below}
+use Rattle.body_lock.specs.stages.LockingAll.{turns_of, multi_left, taken_to, TakesNext, IsAtMulti, IsLockingAll, IsMultiTurn, ComesAfter, multi_takes, takes_at}
 
 -- ---- the stripes of ids
 

@@ -2,7 +2,7 @@ pub mod Stripes
 pub mod Guarding
 pub mod Seeing
 pub mod Settled
-pub mod Locking
 pub mod Staying
 pub mod Multi
-pub mod LockingAll
+pub mod Answers
+pub mod stages

@@ -5,8 +5,7 @@ ghost use Rattle.pass_table.specs.Calls.{Adds};
 ghost use Rattle.pass_table.specs.Work.{Tells};
 ghost use Rattle.pass_table.specs.Belongings.{belongings_of};
 ghost use Rattle.pass_table.specs.Passes.{view_of, IsOf, IsIdle};
-ghost use Rattle.body_lock.specs.LockingAll.{LocksAll};
-ghost use Rattle.body_lock.specs.Locking.{ReadAnswers, WriteAnswers};
+ghost use Rattle.body_lock.specs.Answers.{LocksAll, ReadAnswers, WriteAnswers};
 
 use crate::body_read::BodyRead;
 use crate::body_write::BodyWrite;

@@ -3,7 +3,8 @@ ghost use Rattle.std.specs.Prelude.{◌≡◌, ◌<◌, None, ⊤};
 ghost use Rattle.pass_table.specs.Turning.{IsUnderWay};
 ghost use Rattle.pass_table.specs.Passes.{view_of, IsOf, IsIdle};
 ghost use Rattle.body_lock.specs.declared.lock_op.LockStage.TheVariants.{Looking, Leaving};
-ghost use Rattle.body_lock.specs.Locking.{locking_of, lock_left, lock_takes, IsLocking, LockAnswers, IsLockTurn};
+ghost use Rattle.body_lock.specs.stages.Locking.{locking_of, lock_left, lock_takes, IsLocking, IsLockTurn};
+ghost use Rattle.body_lock.specs.Answers.{LockAnswers};
 
 use crate::gone::Gone;
 use crate::lock_op::{LockOp, LockStage};
@@ -15,7 +16,7 @@ use pass_table::{Label, Operation, Pass, Turn, World};
 use scene_model::Made;
 
 impl Operation for LockOp {
-    ghost use Rattle.body_lock.specs.Locking.{locking-later};
+    ghost use Rattle.body_lock.specs.stages.Locking.{locking-later};
 
     type Done = Result<(), Gone>;
 

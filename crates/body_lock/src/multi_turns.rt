@@ -7,7 +7,8 @@ ghost use Rattle.pass_table.specs.Passes.{view_of, IsOf, IsIdle};
 ghost use Rattle.body_lock.specs.declared.multi_op.Wanted.{Wanted};
 ghost use Rattle.body_lock.specs.declared.multi_op.MultiStage.TheVariants.{Taking, Held};
 ghost use Rattle.body_lock.specs.Stripes.{has_stripe, AreStripesOf, HoldsBelow};
-ghost use Rattle.body_lock.specs.LockingAll.{wanted_ids, multi_left, takes_at, multi_takes, IsLockingAll, HasMultiLock, IsMultiTurn, ComesAfter, SaysEntry, MayLoadState, ReadsEntry};
+ghost use Rattle.body_lock.specs.Answers.{wanted_ids, HasMultiLock};
+ghost use Rattle.body_lock.specs.stages.LockingAll.{multi_left, takes_at, multi_takes, IsLockingAll, IsMultiTurn, ComesAfter, SaysEntry, MayLoadState, ReadsEntry};
 
 use crate::multi_guard::{LockedBody, MOST, MultiEntry, MultiGuard};
 use crate::multi_op::{LockMultiOp, MultiStage, Wanted};
@@ -21,7 +22,7 @@ use std::mem;
 use word_map::{Name, StateWord};
 
 impl Operation for LockMultiOp {
-    ghost use Rattle.body_lock.specs.LockingAll.{locking_all-later};
+    ghost use Rattle.body_lock.specs.stages.LockingAll.{locking_all-later};
 
     type Done = MultiGuard;
 

@@ -2,7 +2,7 @@
 ghost use Rattle.std.specs.Prelude.{◌≡◌, ◌<◌, None, ⊤};
 ghost use Rattle.core_state.specs.declared.view.Mode.TheVariants.{Read};
 ghost use Rattle.pass_table.specs.Passes.{view_of, IsIdle};
-ghost use Rattle.body_lock.specs.Locking.{locking_of, IsLockingSo};
+ghost use Rattle.body_lock.specs.stages.Locking.{locking_of, IsLockingSo};
 
 use crate::body_read::BodyRead;
 use crate::gone::Gone;
@@ -20,8 +20,9 @@ pub struct LockReadOp {
 }
 
 impl Operation for LockReadOp {
-    ghost use Rattle.body_lock.specs.Locking.{lock_left, lock_takes, IsLockingSo, ReadAnswers};
-    ghost use Rattle.body_lock.specs.Locking.{locking_so-later};
+    ghost use Rattle.body_lock.specs.stages.Locking.{lock_left, lock_takes, IsLockingSo};
+    ghost use Rattle.body_lock.specs.Answers.{ReadAnswers};
+    ghost use Rattle.body_lock.specs.stages.Locking.{locking_so-later};
 
     type Done = Result<BodyRead, Gone>;
 

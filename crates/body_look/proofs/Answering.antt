@@ -35,8 +35,8 @@ use Rattle.body_look.specs.declared.look_op.LookDepth.TheVariants.{Life, Phase a
 use Rattle.body_look.specs.declared.look_op.LookStage.{LookStage}
 use Rattle.body_look.specs.declared.look_op.LookStage.TheVariants.{Taking, Striped, Live, Joining, Placed}
 use Rattle.body_look.specs.declared.look_op.LookOp.{LookOp}
-use Rattle.body_look.specs.Looking.{HasStripe, left_at, look_left}
-use Rattle.body_look.specs.LookLater.{only-sizes}
+use Rattle.body_look.specs.stages.Looking.{HasStripe, left_at, look_left}
+use Rattle.body_look.specs.stages.LookLater.{only-sizes}
 
 -- ---- turns left
 

@@ -35,8 +35,8 @@ use Rattle.body_look.specs.declared.look_op.LookStage.{LookStage}
 use Rattle.body_look.specs.declared.look_op.LookStage.TheVariants.{Taking, Striped, Live, Joining, Placed}
 use Rattle.body_look.specs.declared.look_op.LookOp.{LookOp}
 use Rattle.body_look.specs.Found.{IsAsked, IsFound}
-use Rattle.body_look.specs.Looking.{loads_of, left_at, look_left, HasStripe, Guards, AtLive, AtLook, IsLooking, GuardsFound, HasLooked, takes_at, IsLookTurn}
-use Rattle.body_look.specs.LookLater.{only-role, only-sizes, only-quiet, only-more, stripe-mode, is-guarded, live-more, join-more, guarded}
+use Rattle.body_look.specs.stages.Looking.{loads_of, left_at, look_left, HasStripe, Guards, AtLive, AtLook, IsLooking, GuardsFound, HasLooked, takes_at, IsLookTurn}
+use Rattle.body_look.specs.stages.LookLater.{only-role, only-sizes, only-quiet, only-more, stripe-mode, is-guarded, live-more, join-more, guarded}
 use Rattle.body_look.proofs.Finding.{finds-out, finds-in, names-slot, finds-held, finds-joined}
 
 -- ---- turns by stages

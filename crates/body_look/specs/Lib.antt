@@ -1,3 +1,2 @@
 pub mod Found
-pub mod Looking
-pub mod LookLater
+pub mod stages

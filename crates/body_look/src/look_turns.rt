@@ -3,7 +3,7 @@ ghost use Rattle.std.specs.Prelude.{◌≡◌, ◌<◌, None, ⊤};
 ghost use Rattle.pass_table.specs.Turning.{IsUnderWay};
 ghost use Rattle.pass_table.specs.Passes.{view_of, IsOf, IsIdle};
 ghost use Rattle.body_look.specs.declared.look_op.LookStage.TheVariants.{Taking, Striped, Live, Joining, Placed};
-ghost use Rattle.body_look.specs.Looking.{looking_of, IsLooking, IsLookTurn};
+ghost use Rattle.body_look.specs.stages.Looking.{looking_of, IsLooking, IsLookTurn};
 
 use crate::body_found::BodyFound;
 use crate::look_op::{LookDepth, LookOp, LookStage};
@@ -16,8 +16,8 @@ use word_map::{Name, PhaseWord, SlotWord, StateWord};
 
 /// The stripe is held when it is done, whatever it answers; the caller lets it go.
 impl Operation for LookOp {
-    ghost use Rattle.body_look.specs.Looking.{look_left, look_takes, HasLooked};
-    ghost use Rattle.body_look.specs.LookLater.{looking-later};
+    ghost use Rattle.body_look.specs.stages.Looking.{look_left, look_takes, HasLooked};
+    ghost use Rattle.body_look.specs.stages.LookLater.{looking-later};
 
     type Done = BodyFound;
 

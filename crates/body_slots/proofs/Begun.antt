@@ -18,20 +18,20 @@ use Rattle.pass_table.proofs.Working.{worked-begun}
 use Rattle.pass_table.specs.Work.{IsCalling}
 use Rattle.body_look.specs.declared.look_op.LookDepth.TheVariants.{Phase as ItsPhase}
 use Rattle.body_look.specs.declared.look_op.LookOp.{LookOp}
-use Rattle.body_look.specs.Looking.{looking_of, IsLooking}
+use Rattle.body_look.specs.stages.Looking.{looking_of, IsLooking}
 use Rattle.body_slots.specs.declared.create_op.CreateOp.{CreateOp}
 use Rattle.body_slots.specs.declared.create_op.CreateStage.TheVariants.{Taking}
 use Rattle.body_slots.specs.declared.destroy_op.DestroyOp.{DestroyOp}
 use Rattle.body_slots.specs.declared.destroy_op.DestroyStage.TheVariants.{Looking}
-use Rattle.body_slots.specs.Creating.{IsMaking}
-use Rattle.body_slots.specs.Destroying.{IsUnmaking}
+use Rattle.body_slots.specs.stages.Creating.{CreatesBody}
+use Rattle.body_slots.specs.stages.Destroying.{DestroysBody}
 
 module _ (layer : ℕ) (bounds : FixBox) (user : ℕ) (view next : View) (taking : TakeOp) where
   abbrev Begun : CreateOp
   Begun = record { layer = layer; bounds = bounds; user = user; stage = Taking taking; made = None }
 
   pub creating-begun : (lock number : ℕ) → lock ≡ index_lock view.config → IsPass view number → layer < view.config.layers → user < 2 ^ 32 → IsAtRest view → next ≡ view
-      → IsTaking (taking_of lock Write) view taking next → IsMaking Begun view Begun next
+      → IsTaking (taking_of lock Write) view taking next → CreatesBody Begun view Begun next
   creating-begun lock number same pass below fits rest still goes = (
     record { layer_as = refl; bounds_as = refl; user_as = refl; in_layers = below; fits = fits; rest = rest },
     (
@@ -48,7 +48,7 @@ module _ (id : Id) (view next : View) (look : LookOp) where
   abbrev BegunFor : DestroyOp
   BegunFor = record { id = id; look = look; stage = Looking; made = None }
 
-  pub destroying-begun : IsConfig view.config → id.index < view.config.bodies → IsAtRest view → look ≡ looking_of view.config id Write ItsPhase → IsLooking look view look next → IsUnmaking BegunFor view BegunFor next
+  pub destroying-begun : IsConfig view.config → id.index < view.config.bodies → IsAtRest view → look ≡ looking_of view.config id Write ItsPhase → IsLooking look view look next → DestroysBody BegunFor view BegunFor next
   destroying-begun limits below rest is looking = (
     refl,
     record { below = below; striped = stripe-first view.config id.index limits; rest = rest },

@@ -33,9 +33,8 @@ use Rattle.pass_table.specs.declared.take_op.TakeOp.{TakeOp}
 use Rattle.pass_table.specs.declared.turn.Turn.TheVariants.{Done, More}
 use Rattle.pass_table.specs.Stepping.{step_by, Stored}
 use Rattle.pass_table.specs.TakeTurns.{taking_of, IsTaking, HasTaken}
-use Rattle.pass_table.specs.Turning.{AtMostOneStep, MadeBy}
+use Rattle.pass_table.specs.Turning.{AtMostOneStep, MadeBy, IsUnderWay}
 use Rattle.pass_table.specs.Holding.{MayLetGo, LetGo, IsAtRest}
-use Rattle.pass_table.specs.Turning.{IsUnderWay}
 use Rattle.pass_table.proofs.Knowing.{known-more, step-alone}
 use Rattle.pass_table.proofs.TakingTurns.{taking-anew}
 use Rattle.pass_table.proofs.Turning.{one-step}
@@ -48,8 +47,8 @@ use Rattle.body_slots.specs.declared.create_op.CreateStage.{CreateStage}
 use Rattle.body_slots.specs.declared.create_op.CreateStage.TheVariants.{Taking, Locked, Filled, Leaving}
 use Rattle.body_slots.specs.declared.create_op.CreateOp.{CreateOp}
 use Rattle.body_slots.specs.Answers.{IsNextId, HasCreated}
-use Rattle.body_slots.specs.Creating.{list_taken, AtCreate, IsBegun, IsMaking, HasMade, stage_left, IsCreateTurn}
-use Rattle.body_slots.specs.Later.{list-held, answer-later}
+use Rattle.body_slots.specs.stages.Creating.{list_taken, AtCreate, IsBegun, CreatesBody, CreateAnswers, stage_left, IsCreateTurn}
+use Rattle.body_slots.specs.stages.Later.{list-held, answer-later}
 use Rattle.body_slots.proofs.CreateTurns.{is-creating}
 
 -- ---- taking the lock
@@ -193,7 +192,7 @@ module _ (first : CreateOp) (start view : View) (answer : Result Id Full) (rest 
       go true = refl
       go false = refl
 
-  pub has-left : (next : View) (found : ℕ) → LetGo view (index_lock start.config) found next → HasMade first start next answer
+  pub has-left : (next : View) (found : ℕ) → LetGo view (index_lock start.config) found next → CreateAnswers first start next answer
   has-left next found go =
       let lock = index_lock start.config in
       let by = released-made view next lock found go at.1.adds.number (worked-pass start view _ at.1) in
@@ -208,7 +207,7 @@ module _ (first : CreateOp) (start view : View) (answer : Result Id Full) (rest 
       )
 
 -- the lock may be let go
-pub may-leave-list : (before : CreateOp) (answer : Result Id Full) (view : View) (lock : ℕ) → IsUnderWay IsMaking before view → before.stage ≡ Leaving answer → lock ≡ index_lock view.config → MayLetGo view lock
+pub may-leave-list : (before : CreateOp) (answer : Result Id Full) (view : View) (lock : ℕ) → IsUnderWay CreatesBody before view → before.stage ≡ Leaving answer → lock ≡ index_lock view.config → MayLetGo view lock
 may-leave-list before answer view lock way at same =
     let there = subst (AtCreate way.first way.start view) at way.goes.1 in
     subst (MayLetGo view) (sym (same ∙ ap (λ (c : Config). index_lock c) (worked-sizes way.start view _ there.1))) (may-leave way.first way.start view answer way.goes.0.rest there)
@@ -234,13 +233,13 @@ own_begun first start layer bounds user begun =
     record { layer_as = refl; bounds_as = refl; user_as = refl; in_layers = begun.in_layers; fits = begun.fits; rest = begun.rest }
 
 -- the store of the state word may be made
-pub may-create : (before first : CreateOp) (start view : View) (index state value : ℕ) → IsMaking first start before view → before.stage ≡ Filled index state → value ≡ created_state state
+pub may-create : (before first : CreateOp) (start view : View) (index state value : ℕ) → CreatesBody first start before view → before.stage ≡ Filled index state → value ≡ created_state state
     → MayCreate view (State index) value 0
 may-create before first start view index state value making at is =
     asks_create first start view index state value (own_begun first start before.layer before.bounds before.user making.0) (subst (AtCreate first start view) at making.1) is
 
 -- and it is the turn that creates the body
-pub create-turn : (before first : CreateOp) (start view next : View) (number index state value : ℕ) (id : Id) → IsMaking first start before view → IsPass view number → before.stage ≡ Filled index state
+pub create-turn : (before first : CreateOp) (start view next : View) (number index state value : ℕ) (id : Id) → CreatesBody first start before view → IsPass view number → before.stage ≡ Filled index state
     → value ≡ created_state state → Stored MayCreate create view (State index) value next → id.index ≡ index → id.seq ≡ (state % 256 + 1) % 256
     → IsCreateTurn More before (record before { stage = Leaving (Ok id); made = Some (record { pass = number; entry = Create index before.layer before.bounds before.user }) }) view next
 create-turn before first start view next number index state value id making pass at is stored named sequence =
@@ -266,5 +265,5 @@ create-turn before first start view next number index state value id making pass
       answered = λ other begin goes. tt;
     }
   where
-    same : IsMaking first start before view → record first { stage = before.stage; made = before.made } ≡ before
+    same : CreatesBody first start before view → record first { stage = before.stage; made = before.made } ≡ before
     same m = λ i. record { layer = sym m.0.layer_as i; bounds = sym m.0.bounds_as i; user = sym m.0.user_as i; stage = before.stage; made = before.made }

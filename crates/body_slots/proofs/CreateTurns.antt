@@ -33,9 +33,9 @@ use Rattle.body_slots.specs.declared.create_op.CreateStage.{CreateStage}
 use Rattle.body_slots.specs.declared.create_op.CreateStage.TheVariants.{Locked, First, Linked, Taken, Fields, Filled, Leaving}
 use Rattle.body_slots.specs.declared.create_op.CreateOp.{CreateOp}
 use Rattle.body_slots.specs.Answers.{IsFullAt}
-use Rattle.body_slots.specs.Creating.{field_name, field_values, field_value, HasFieldsOf, list_taken, IsTakenOff, AtCreate, IsBegun, IsMaking, HasMade, stage_left, takes_at}
+use Rattle.body_slots.specs.stages.Creating.{field_name, field_values, field_value, HasFieldsOf, list_taken, IsTakenOff, AtCreate, IsBegun, CreatesBody, CreateAnswers, stage_left, takes_at}
 use Rattle.pass_table.proofs.Stages.{Staged}
-use Rattle.body_slots.specs.Later.{list-held, listed-steady, created-steady, field_of}
+use Rattle.body_slots.specs.stages.Later.{list-held, listed-steady, created-steady, field_of}
 
 -- ---- what the steps on the list ask
 
@@ -48,8 +48,8 @@ has-list start view rest calling = record { lock = list-held start view Nothing 
 -- a creation goes from stage to stage
 abbrev pub create_stages : Staged (Result Id Full) CreateOp CreateStage
 create_stages = record {
-  under_way = IsMaking;
-  answers = HasMade;
+  under_way = CreatesBody;
+  answers = CreateAnswers;
   made = λ operation. operation.made;
   stage = λ operation. operation.stage;
   left = stage_left;

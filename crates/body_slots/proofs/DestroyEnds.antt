@@ -30,9 +30,8 @@ use Rattle.core_state.specs.Locking.{MayRelease, release}
 use Rattle.core_guard.proofs.LivesAgree.{destroy_out}
 use Rattle.pass_table.specs.declared.turn.Turn.TheVariants.{Done, More}
 use Rattle.pass_table.specs.Stepping.{step_by, Stored}
-use Rattle.pass_table.specs.Turning.{AtMostOneStep, MadeBy}
+use Rattle.pass_table.specs.Turning.{AtMostOneStep, MadeBy, IsUnderWay}
 use Rattle.pass_table.specs.Holding.{MayLetGo, LetGo}
-use Rattle.pass_table.specs.Turning.{IsUnderWay}
 use Rattle.pass_table.specs.Calls.{StoresWord}
 use Rattle.pass_table.proofs.Knowing.{known-more, step-alone}
 use Rattle.pass_table.proofs.Turning.{one-step}
@@ -49,8 +48,9 @@ use Rattle.body_slots.specs.declared.answers.DestroyRefused.{DestroyRefused}
 use Rattle.body_slots.specs.declared.destroy_op.DestroyStage.{DestroyStage}
 use Rattle.body_slots.specs.declared.destroy_op.DestroyStage.TheVariants.{Locked, Headed, Linked, InFront, Destroyed, Leaving}
 use Rattle.body_slots.specs.declared.destroy_op.DestroyOp.{DestroyOp}
-use Rattle.body_slots.specs.Destroying.{HasDestroyed, both_taken, KnowsOut, HasStripeAlone, AtDestroy, PastLook, IsBegunFor, IsUnmaking, HasUnmade, stage_left, IsDestroyTurn}
-use Rattle.body_slots.specs.DestroyLater.{first-taken, both-stripe, both-list, out-more, destroyed-later, answer-later}
+use Rattle.body_slots.specs.Answers.{HasDestroyed}
+use Rattle.body_slots.specs.stages.Destroying.{both_taken, KnowsOut, HasStripeAlone, AtDestroy, PastLook, IsBegunFor, DestroysBody, DestroyAnswers, stage_left, IsDestroyTurn}
+use Rattle.body_slots.specs.stages.DestroyLater.{first-taken, both-stripe, both-list, out-more, destroyed-later, answer-later}
 use Rattle.body_slots.proofs.CreateTurns.{doing-left}
 use Rattle.body_slots.proofs.DestroyTurns.{has-list, has-out}
 
@@ -176,11 +176,11 @@ module _ (id : Id) (start view : View) (value : ℕ) (begun : IsBegunFor id star
     }
 
 -- the store of the state word may be made
-pub may-destroy : (before first : DestroyOp) (start view : View) (value : ℕ) → IsUnmaking first start before view → before.stage ≡ InFront → value ≡ first.id.seq → MayDestroy view (State first.id.index) value 0
+pub may-destroy : (before first : DestroyOp) (start view : View) (value : ℕ) → DestroysBody first start before view → before.stage ≡ InFront → value ≡ first.id.seq → MayDestroy view (State first.id.index) value 0
 may-destroy before first start view value making at is = asks_destroy first.id start view value making.1 (subst (AtDestroy first.id start view before.look) at making.2) is
 
 -- and it is the turn that destroys the body
-pub destroy-turn : (before first : DestroyOp) (start view next : View) (number value : ℕ) → IsUnmaking first start before view → IsPass view number → before.stage ≡ InFront → value ≡ before.id.seq
+pub destroy-turn : (before first : DestroyOp) (start view next : View) (number value : ℕ) → DestroysBody first start before view → IsPass view number → before.stage ≡ InFront → value ≡ before.id.seq
     → Stored MayDestroy destroy view (State before.id.index) value next
     → IsDestroyTurn More before (record before { stage = Destroyed; made = Some (record { pass = number; entry = Destroy before.id.index }) }) view next
 destroy-turn before first start view next number value making pass at is stored =
@@ -244,7 +244,7 @@ module _ (id : Id) (start view : View) (answer : Result (Unit {0}) DestroyRefuse
   may-leave = record { mode = Write; holds = worked-mode start view _ at.2 begun.rest (stripe_of start.config id.index) ∙ at.3.held; done = at.2.doing }
 
 module _ (first : DestroyOp) (start view : View) (answer : Result (Unit {0}) DestroyRefused) (begun : IsBegunFor first.id start) (at : PastLook first.id start view (Leaving answer)) where
-  has_left : (next : View) (found : ℕ) → LetGo view (stripe_of start.config first.id.index) found next → HasUnmade first start next answer
+  has_left : (next : View) (found : ℕ) → LetGo view (stripe_of start.config first.id.index) found next → DestroyAnswers first start next answer
   has_left next found go =
       let lock = stripe_of start.config first.id.index in
       let by = released-made view next lock found go at.2.adds.number (worked-pass start view _ at.2) in
@@ -269,12 +269,12 @@ leave-turn before answer view next number lock found pass at same go = record {
 }
 
 -- both locks may be let go, each in its turn
-pub may-leave-list : (before : DestroyOp) (view : View) (lock : ℕ) → IsUnderWay IsUnmaking before view → before.stage ≡ Destroyed → lock ≡ index_lock view.config → MayLetGo view lock
+pub may-leave-list : (before : DestroyOp) (view : View) (lock : ℕ) → IsUnderWay DestroysBody before view → before.stage ≡ Destroyed → lock ≡ index_lock view.config → MayLetGo view lock
 may-leave-list before view lock way at same =
     let there = subst (AtDestroy way.first.id way.start view before.look) at way.goes.2 in
     subst (MayLetGo view) (sym (same ∙ ap (λ (c : Config). index_lock c) (worked-sizes way.start view _ there.0))) (may-leave_list way.first.id way.start view way.goes.1 there)
 
-pub may-leave-stripe : (before : DestroyOp) (answer : Result (Unit {0}) DestroyRefused) (view : View) (lock : ℕ) → IsUnderWay IsUnmaking before view → before.stage ≡ Leaving answer
+pub may-leave-stripe : (before : DestroyOp) (answer : Result (Unit {0}) DestroyRefused) (view : View) (lock : ℕ) → IsUnderWay DestroysBody before view → before.stage ≡ Leaving answer
     → lock ≡ stripe_of view.config before.id.index → MayLetGo view lock
 may-leave-stripe before answer view lock way at same =
     let there = subst (AtDestroy way.first.id way.start view before.look) at way.goes.2 in

@@ -33,24 +33,25 @@ use Rattle.body_look.specs.declared.body_found.BodyFound.TheVariants.{Gone as Fo
 use Rattle.body_look.specs.declared.look_op.LookDepth.TheVariants.{Phase as ItsPhase}
 use Rattle.body_look.specs.declared.look_op.LookOp.{LookOp}
 use Rattle.body_look.specs.Found.{phase_found, IsFound}
-use Rattle.body_look.specs.Looking.{looking_of, HasStripe, IsLooking, HasLooked, look_left, look_takes}
-use Rattle.body_look.specs.LookLater.{is-guarded}
+use Rattle.body_look.specs.stages.Looking.{looking_of, HasStripe, IsLooking, HasLooked, look_left, look_takes}
+use Rattle.body_look.specs.stages.LookLater.{is-guarded}
 use Rattle.body_look.proofs.Answering.{phase-told, stripe-sizes, looked-point, gone-point, no-other}
 use Rattle.body_slots.specs.declared.answers.DestroyRefused.{DestroyRefused}
 use Rattle.body_slots.specs.declared.answers.DestroyRefused.TheVariants.{Gone, InUse}
 use Rattle.body_slots.specs.declared.destroy_op.DestroyStage.{DestroyStage}
 use Rattle.body_slots.specs.declared.destroy_op.DestroyStage.TheVariants.{Looking, TakingList, Locked, Leaving}
 use Rattle.body_slots.specs.declared.destroy_op.DestroyOp.{DestroyOp}
-use Rattle.body_slots.specs.Destroying.{IsDestroyAnswer, IsInUseAt, stripe_taken, both_taken, KnowsOut, HasStripeAlone, AtDestroy, PastLook, IsBegunFor, IsUnmaking, HasUnmade, stage_left, takes_at, IsDestroyTurn}
-use Rattle.body_slots.specs.DestroyLater.{one-taken, stripe-held, both-stripe, both-list}
+use Rattle.body_slots.specs.Answers.{IsDestroyAnswer, IsInUseAt}
+use Rattle.body_slots.specs.stages.Destroying.{stripe_taken, both_taken, KnowsOut, HasStripeAlone, AtDestroy, PastLook, IsBegunFor, DestroysBody, DestroyAnswers, stage_left, takes_at, IsDestroyTurn}
+use Rattle.body_slots.specs.stages.DestroyLater.{one-taken, stripe-held, both-stripe, both-list}
 
 -- ---- stages
 
 -- a destruction goes from stage to stage, with the look as it is there
 abbrev pub destroy_stages : Staged (Result (Unit {0}) DestroyRefused) DestroyOp (LookOp × DestroyStage)
 destroy_stages = record {
-  under_way = IsUnmaking;
-  answers = HasUnmade;
+  under_way = DestroysBody;
+  answers = DestroyAnswers;
   made = λ operation. operation.made;
   stage = λ operation. (operation.look, operation.stage);
   left = λ at. stage_left at.0 at.1;
@@ -66,7 +67,7 @@ destroy_stages = record {
 -- one that has looked goes on, and the look stays as it is
 pub destroy-on : (turn : Turn (Result (Unit {0}) DestroyRefused)) (before new : DestroyOp) (stage after : DestroyStage) (view next : View) → turn ≡ More → new ≡ record before { stage = after; made = None }
     → before.stage ≡ stage → AtMostOneStep view next → MadeBy view next None → stage_left before.look after < stage_left before.look stage → LoadsNow view next (takes_at before.look after)
-    → ((first : DestroyOp) (start : View) → IsUnmaking first start before view → AtDestroy first.id start view before.look stage → AtDestroy first.id start next before.look after)
+    → ((first : DestroyOp) (start : View) → DestroysBody first start before view → AtDestroy first.id start view before.look stage → AtDestroy first.id start next before.look after)
     → IsDestroyTurn turn before new view next
 destroy-on turn before new stage after view next more is at step made less loads keeps =
     went-on destroy_stages turn before new (before.look, stage) (before.look, after) view next more is (λ i. (before.look, at i)) step made less loads keeps

@@ -1,5 +1,2 @@
 pub mod Answers
-pub mod Creating
-pub mod Later
-pub mod Destroying
-pub mod DestroyLater
+pub mod stages

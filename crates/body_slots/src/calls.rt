@@ -4,8 +4,7 @@ ghost use Rattle.pass_table.specs.Passes.{view_of, IsIdle};
 ghost use Rattle.pass_table.specs.Work.{Tells};
 ghost use Rattle.pass_table.specs.Belongings.{belongings_of};
 ghost use Rattle.pass_table.specs.Knowing.{KnowsLawful};
-ghost use Rattle.body_slots.specs.Answers.{HasCreated, WasFull};
-ghost use Rattle.body_slots.specs.Destroying.{HasDestroyed, WasRefused};
+ghost use Rattle.body_slots.specs.Answers.{HasCreated, WasFull, HasDestroyed, WasRefused};
 
 use crate::answers::{DestroyRefused, Full};
 use crate::create_op::CreateOp;

@@ -5,7 +5,7 @@ ghost use Rattle.pass_table.specs.declared.turn.Turn.TheVariants.{More};
 ghost use Rattle.pass_table.specs.Passes.{view_of, IsOf, IsIdle};
 ghost use Rattle.pass_table.specs.Turning.{IsUnderWay};
 ghost use Rattle.body_slots.specs.declared.create_op.CreateStage.TheVariants.{Taking, Locked, First, Linked, Taken, Fields, Filled, Leaving};
-ghost use Rattle.body_slots.specs.Creating.{field_name, field_value, IsMaking, IsCreateTurn};
+ghost use Rattle.body_slots.specs.stages.Creating.{field_name, field_value, CreatesBody, IsCreateTurn};
 
 use crate::answers::Full;
 use crate::create_op::{CreateOp, CreateStage};
@@ -21,14 +21,14 @@ use word_map::{Name, StateWord};
 pub(crate) const FIELDS: u32 = 8;
 
 impl Operation for CreateOp {
-    ghost use Rattle.body_slots.specs.Creating.{IsMaking, HasMade, create_left, create_takes};
-    ghost use Rattle.body_slots.specs.Later.{creating-later};
+    ghost use Rattle.body_slots.specs.stages.Creating.{CreatesBody, CreateAnswers, create_left, create_takes};
+    ghost use Rattle.body_slots.specs.stages.Later.{creating-later};
 
     type Done = Result<BodyId, Full>;
 
-    ghost under_way = { IsMaking };
+    ghost under_way = { CreatesBody };
 
-    ghost answers = { λ first start last next answer. HasMade first start next answer };
+    ghost answers = { λ first start last next answer. CreateAnswers first start next answer };
 
     ghost left = { create_left };
 
@@ -66,7 +66,7 @@ impl CreateOp {
         requires in_layers { layer < world.now.map.layers }
         ensures pass { pass.new ≡ pass.old }
         ensures begun { (result.layer ≡ layer) × (result.bounds ≡ bounds) × (result.user ≡ user) }
-        ensures under_way { IsMaking result (view_of pass.old) result (view_of pass.new) }
+        ensures under_way { CreatesBody result (view_of pass.old) result (view_of pass.new) }
     {
         let lock = world.index_lock();
         let taking = TakeOp::new(world, pass, lock, Mode::Write);
@@ -82,7 +82,7 @@ impl CreateOp {
     /// The turn of the stage that it is at.
     fn next_turn(&mut self, world: &World, pass: &mut Pass) -> Turn<Result<BodyId, Full>>
         requires of { IsOf world.now pass.old }
-        requires under_way { IsUnderWay IsMaking self.old (view_of pass.old) }
+        requires under_way { IsUnderWay CreatesBody self.old (view_of pass.old) }
         ensures of { IsOf world.now pass.new }
         ensures turn { IsCreateTurn result self.old self.new (view_of pass.old) (view_of pass.new) }
     {
@@ -115,7 +115,7 @@ impl CreateOp {
     /// A turn of taking the lock.
     fn take(&mut self, world: &World, pass: &mut Pass, taking: TakeOp) -> Turn<Result<BodyId, Full>>
         requires of { IsOf world.now pass.old }
-        requires under_way { IsUnderWay IsMaking self.old (view_of pass.old) }
+        requires under_way { IsUnderWay CreatesBody self.old (view_of pass.old) }
         requires stage { self.old.stage ≡ Taking taking }
         ensures of { IsOf world.now pass.new }
         ensures turn { IsCreateTurn result self.old self.new (view_of pass.old) (view_of pass.new) }
@@ -134,7 +134,7 @@ impl CreateOp {
     /// The turn that loads the head of the list.
     fn load_head(&mut self, world: &World, pass: &mut Pass) -> Turn<Result<BodyId, Full>>
         requires of { IsOf world.now pass.old }
-        requires under_way { IsUnderWay IsMaking self.old (view_of pass.old) }
+        requires under_way { IsUnderWay CreatesBody self.old (view_of pass.old) }
         requires stage { self.old.stage ≡ Locked }
         ensures of { IsOf world.now pass.new }
         ensures turn { IsCreateTurn result self.old self.new (view_of pass.old) (view_of pass.new) }
@@ -158,7 +158,7 @@ impl CreateOp {
         index: u32,
     ) -> Turn<Result<BodyId, Full>>
         requires of { IsOf world.now pass.old }
-        requires under_way { IsUnderWay IsMaking self.old (view_of pass.old) }
+        requires under_way { IsUnderWay CreatesBody self.old (view_of pass.old) }
         requires stage { self.old.stage ≡ First index }
         ensures of { IsOf world.now pass.new }
         ensures turn { IsCreateTurn result self.old self.new (view_of pass.old) (view_of pass.new) }
@@ -176,7 +176,7 @@ impl CreateOp {
         link: u64,
     ) -> Turn<Result<BodyId, Full>>
         requires of { IsOf world.now pass.old }
-        requires under_way { IsUnderWay IsMaking self.old (view_of pass.old) }
+        requires under_way { IsUnderWay CreatesBody self.old (view_of pass.old) }
         requires stage { self.old.stage ≡ Linked index link }
         ensures of { IsOf world.now pass.new }
         ensures turn { IsCreateTurn result self.old self.new (view_of pass.old) (view_of pass.new) }
@@ -193,7 +193,7 @@ impl CreateOp {
         index: u32,
     ) -> Turn<Result<BodyId, Full>>
         requires of { IsOf world.now pass.old }
-        requires under_way { IsUnderWay IsMaking self.old (view_of pass.old) }
+        requires under_way { IsUnderWay CreatesBody self.old (view_of pass.old) }
         requires stage { self.old.stage ≡ Taken index }
         ensures of { IsOf world.now pass.new }
         ensures turn { IsCreateTurn result self.old self.new (view_of pass.old) (view_of pass.new) }
@@ -235,7 +235,7 @@ impl CreateOp {
         stored: u32,
     ) -> Turn<Result<BodyId, Full>>
         requires of { IsOf world.now pass.old }
-        requires under_way { IsUnderWay IsMaking self.old (view_of pass.old) }
+        requires under_way { IsUnderWay CreatesBody self.old (view_of pass.old) }
         requires stage { self.old.stage ≡ Fields index state stored }
         ensures of { IsOf world.now pass.new }
         ensures turn { IsCreateTurn result self.old self.new (view_of pass.old) (view_of pass.new) }
@@ -262,7 +262,7 @@ impl CreateOp {
         state: u64,
     ) -> Turn<Result<BodyId, Full>>
         requires of { IsOf world.now pass.old }
-        requires under_way { IsUnderWay IsMaking self.old (view_of pass.old) }
+        requires under_way { IsUnderWay CreatesBody self.old (view_of pass.old) }
         requires stage { self.old.stage ≡ Filled index state }
         ensures of { IsOf world.now pass.new }
         ensures turn { IsCreateTurn result self.old self.new (view_of pass.old) (view_of pass.new) }
@@ -293,7 +293,7 @@ impl CreateOp {
         answer: Result<BodyId, Full>,
     ) -> Turn<Result<BodyId, Full>>
         requires of { IsOf world.now pass.old }
-        requires under_way { IsUnderWay IsMaking self.old (view_of pass.old) }
+        requires under_way { IsUnderWay CreatesBody self.old (view_of pass.old) }
         requires stage { self.old.stage ≡ Leaving answer }
         ensures of { IsOf world.now pass.new }
         ensures turn { IsCreateTurn result self.old self.new (view_of pass.old) (view_of pass.new) }

@@ -5,7 +5,7 @@ ghost use Rattle.pass_table.specs.Passes.{view_of, IsOf, IsIdle};
 ghost use Rattle.pass_table.specs.Turning.{IsUnderWay};
 ghost use Rattle.body_slots.specs.declared.answers.DestroyRefused.TheVariants.{InUse};
 ghost use Rattle.body_slots.specs.declared.destroy_op.DestroyStage.TheVariants.{Looking, TakingList, Locked, Headed, Linked, InFront, Destroyed, Leaving};
-ghost use Rattle.body_slots.specs.Destroying.{IsUnmaking, IsDestroyTurn};
+ghost use Rattle.body_slots.specs.stages.Destroying.{DestroysBody, IsDestroyTurn};
 
 use crate::answers::DestroyRefused;
 use crate::destroy_op::{DestroyOp, DestroyStage};
@@ -18,14 +18,14 @@ use scene_model::{Entry, Made, Phase};
 use word_map::Name;
 
 impl Operation for DestroyOp {
-    ghost use Rattle.body_slots.specs.Destroying.{IsUnmaking, HasUnmade, destroy_left, destroy_takes};
-    ghost use Rattle.body_slots.specs.DestroyLater.{destroying-later};
+    ghost use Rattle.body_slots.specs.stages.Destroying.{DestroysBody, DestroyAnswers, destroy_left, destroy_takes};
+    ghost use Rattle.body_slots.specs.stages.DestroyLater.{destroying-later};
 
     type Done = Result<(), DestroyRefused>;
 
-    ghost under_way = { IsUnmaking };
+    ghost under_way = { DestroysBody };
 
-    ghost answers = { λ first start last next answer. HasUnmade first start next answer };
+    ghost answers = { λ first start last next answer. DestroyAnswers first start next answer };
 
     ghost left = { destroy_left };
 
@@ -63,7 +63,7 @@ impl DestroyOp {
         requires below { id.index < world.now.map.bodies }
         ensures pass { pass.new ≡ pass.old }
         ensures begun { result.id ≡ id }
-        ensures under_way { IsUnmaking result (view_of pass.old) result (view_of pass.new) }
+        ensures under_way { DestroysBody result (view_of pass.old) result (view_of pass.new) }
     {
         let look = LookOp::new(world, pass, id, Mode::Write, LookDepth::Phase);
         DestroyOp {
@@ -77,7 +77,7 @@ impl DestroyOp {
     /// The turn of the stage that it is at.
     fn next_turn(&mut self, world: &World, pass: &mut Pass) -> Turn<Result<(), DestroyRefused>>
         requires of { IsOf world.now pass.old }
-        requires under_way { IsUnderWay IsUnmaking self.old (view_of pass.old) }
+        requires under_way { IsUnderWay DestroysBody self.old (view_of pass.old) }
         ensures of { IsOf world.now pass.new }
         ensures turn { IsDestroyTurn result self.old self.new (view_of pass.old) (view_of pass.new) }
     {
@@ -117,7 +117,7 @@ impl DestroyOp {
     #[inline(always)]
     fn look(&mut self, world: &World, pass: &mut Pass) -> Turn<Result<(), DestroyRefused>>
         requires of { IsOf world.now pass.old }
-        requires under_way { IsUnderWay IsUnmaking self.old (view_of pass.old) }
+        requires under_way { IsUnderWay DestroysBody self.old (view_of pass.old) }
         requires stage { self.old.stage ≡ Looking }
         ensures of { IsOf world.now pass.new }
         ensures turn { IsDestroyTurn result self.old self.new (view_of pass.old) (view_of pass.new) }
@@ -154,7 +154,7 @@ impl DestroyOp {
         taking: TakeOp,
     ) -> Turn<Result<(), DestroyRefused>>
         requires of { IsOf world.now pass.old }
-        requires under_way { IsUnderWay IsUnmaking self.old (view_of pass.old) }
+        requires under_way { IsUnderWay DestroysBody self.old (view_of pass.old) }
         requires stage { self.old.stage ≡ TakingList taking }
         ensures of { IsOf world.now pass.new }
         ensures turn { IsDestroyTurn result self.old self.new (view_of pass.old) (view_of pass.new) }
@@ -173,7 +173,7 @@ impl DestroyOp {
     /// The turn that loads the head of the list.
     fn load_head(&mut self, world: &World, pass: &mut Pass) -> Turn<Result<(), DestroyRefused>>
         requires of { IsOf world.now pass.old }
-        requires under_way { IsUnderWay IsUnmaking self.old (view_of pass.old) }
+        requires under_way { IsUnderWay DestroysBody self.old (view_of pass.old) }
         requires stage { self.old.stage ≡ Locked }
         ensures of { IsOf world.now pass.new }
         ensures turn { IsDestroyTurn result self.old self.new (view_of pass.old) (view_of pass.new) }
@@ -190,7 +190,7 @@ impl DestroyOp {
         head: u64,
     ) -> Turn<Result<(), DestroyRefused>>
         requires of { IsOf world.now pass.old }
-        requires under_way { IsUnderWay IsUnmaking self.old (view_of pass.old) }
+        requires under_way { IsUnderWay DestroysBody self.old (view_of pass.old) }
         requires stage { self.old.stage ≡ Headed head }
         ensures of { IsOf world.now pass.new }
         ensures turn { IsDestroyTurn result self.old self.new (view_of pass.old) (view_of pass.new) }
@@ -202,7 +202,7 @@ impl DestroyOp {
     /// The turn that puts the index in front.
     fn put_in_front(&mut self, world: &World, pass: &mut Pass) -> Turn<Result<(), DestroyRefused>>
         requires of { IsOf world.now pass.old }
-        requires under_way { IsUnderWay IsUnmaking self.old (view_of pass.old) }
+        requires under_way { IsUnderWay DestroysBody self.old (view_of pass.old) }
         requires stage { self.old.stage ≡ Linked }
         ensures of { IsOf world.now pass.new }
         ensures turn { IsDestroyTurn result self.old self.new (view_of pass.old) (view_of pass.new) }
@@ -214,7 +214,7 @@ impl DestroyOp {
     /// The turn that destroys the body.
     fn store_state(&mut self, world: &World, pass: &mut Pass) -> Turn<Result<(), DestroyRefused>>
         requires of { IsOf world.now pass.old }
-        requires under_way { IsUnderWay IsUnmaking self.old (view_of pass.old) }
+        requires under_way { IsUnderWay DestroysBody self.old (view_of pass.old) }
         requires stage { self.old.stage ≡ InFront }
         ensures of { IsOf world.now pass.new }
         ensures turn { IsDestroyTurn result self.old self.new (view_of pass.old) (view_of pass.new) }
@@ -232,7 +232,7 @@ impl DestroyOp {
     /// The turn that lets the lock of the list go.
     fn leave_list(&mut self, world: &World, pass: &mut Pass) -> Turn<Result<(), DestroyRefused>>
         requires of { IsOf world.now pass.old }
-        requires under_way { IsUnderWay IsUnmaking self.old (view_of pass.old) }
+        requires under_way { IsUnderWay DestroysBody self.old (view_of pass.old) }
         requires stage { self.old.stage ≡ Destroyed }
         ensures of { IsOf world.now pass.new }
         ensures turn { IsDestroyTurn result self.old self.new (view_of pass.old) (view_of pass.new) }
@@ -249,7 +249,7 @@ impl DestroyOp {
         answer: Result<(), DestroyRefused>,
     ) -> Turn<Result<(), DestroyRefused>>
         requires of { IsOf world.now pass.old }
-        requires under_way { IsUnderWay IsUnmaking self.old (view_of pass.old) }
+        requires under_way { IsUnderWay DestroysBody self.old (view_of pass.old) }
         requires stage { self.old.stage ≡ Leaving answer }
         ensures of { IsOf world.now pass.new }
         ensures turn { IsDestroyTurn result self.old self.new (view_of pass.old) (view_of pass.new) }

@@ -11,7 +11,7 @@ use Rattle.batch_add.specs.declared.prepared_list.PreparedList.{PreparedList}
 use Rattle.batch_add.specs.Prepared.{IsGood, IsApart}
 use Rattle.batch_add.specs.PreparedLists.{batches_of, AreGood, IsBeside}
 use Rattle.batch_add.proofs.PreparedLists.{all-kept, all-apart}
-use Rattle.batch_add.specs.Preparing.{IsPrepareAnswer, PrepareAnswers}
+use Rattle.batch_add.specs.Answers.{IsPrepareAnswer, PrepareAnswers}
 use Rattle.batch_add.proofs.Resting.{prepare-rest, prepare-keeps, prepare-others, prepare-good, prepare-apart, prepare-beside}
 use Rattle.batch_add.proofs.calls.prepare.Goals as goal
 

@@ -3,7 +3,7 @@ use Rattle.std.proofs.Common.{Ok, Err, Result, subst}
 use Rattle.body_ident.specs.Id.{Id}
 use Rattle.pass_table.specs.Passes.{view_of}
 use Rattle.body_slots.specs.declared.answers.DestroyRefused.{DestroyRefused}
-use Rattle.body_slots.specs.Destroying.{IsDestroyAnswer}
+use Rattle.body_slots.specs.Answers.{IsDestroyAnswer}
 use Rattle.body_slots.proofs.calls.destroy.Goals as goal
 
 -- what is so of an answer either way is so of each

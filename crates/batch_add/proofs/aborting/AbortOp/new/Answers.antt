@@ -2,8 +2,8 @@ use Rattle.std.proofs.Common.{◌≡◌, length, ap, subst, arith}
 use Rattle.word_map.specs.declared.config.Config.{Config}
 use Rattle.pass_table.specs.Passes.{view_of}
 use Rattle.batch_add.specs.declared.kept_batch.KeptBatch.{KeptBatch}
-use Rattle.batch_add.specs.Keeping.{IsBegunFor}
-use Rattle.batch_add.specs.Aborting.{kept_of}
+use Rattle.batch_add.specs.stages.Keeping.{IsBegunFor}
+use Rattle.batch_add.specs.stages.Aborting.{kept_of}
 use Rattle.batch_add.proofs.AbortBegun.{bodies-few, nodes-few, prepared-begun}
 use Rattle.batch_add.proofs.aborting.AbortOp.new.Goals as goal
 

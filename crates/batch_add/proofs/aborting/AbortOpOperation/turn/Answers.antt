@@ -1,6 +1,6 @@
 use Rattle.pass_table.specs.Passes.{view_of}
 use Rattle.pass_table.proofs.Turning.{goes-on}
-use Rattle.batch_add.specs.Aborting.{IsAborting}
+use Rattle.batch_add.specs.stages.Aborting.{IsAborting}
 use Rattle.batch_add.proofs.AbortBegun.{aborting-goes, aborting-answers}
 use Rattle.batch_add.proofs.aborting.AbortOpOperation.turn.Goals as goal
 

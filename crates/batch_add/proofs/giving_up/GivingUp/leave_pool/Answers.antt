@@ -10,7 +10,7 @@ use Rattle.pass_table.proofs.Knowing.{known-more}
 use Rattle.pass_table.proofs.Calling.{released-step, released-made}
 use Rattle.batch_add.specs.declared.giving_up.GiveStage.TheVariants.{Counted}
 use Rattle.pass_table.proofs.WorkLater.{worked-sizes}
-use Rattle.batch_add.specs.GivingLater.{under-lock, from-later}
+use Rattle.batch_add.specs.stages.GivingLater.{under-lock, from-later}
 use Rattle.batch_add.proofs.GiveTurns.{at-stage, ended}
 use Rattle.batch_add.proofs.GiveWork.{under-released}
 use Rattle.batch_add.proofs.GiveSlot.{gives-all}

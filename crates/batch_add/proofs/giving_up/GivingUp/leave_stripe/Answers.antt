@@ -7,8 +7,8 @@ use Rattle.pass_table.proofs.TakingTurns.{loads-none}
 use Rattle.pass_table.proofs.Calling.{released-step, released-made}
 use Rattle.batch_add.specs.declared.giving_up.GiveStage.TheVariants.{Unmarked}
 use Rattle.pass_table.proofs.WorkLater.{worked-sizes}
-use Rattle.batch_add.specs.GivingUp.{ComesNext, takes_at, IsGiveTurn}
-use Rattle.batch_add.specs.GivingLater.{free-lock, under-lock}
+use Rattle.batch_add.specs.stages.GivingUp.{ComesNext, takes_at, IsGiveTurn}
+use Rattle.batch_add.specs.stages.GivingLater.{free-lock, under-lock}
 use Rattle.batch_add.proofs.GiveTurns.{at-stage, went-on, next-less}
 use Rattle.batch_add.proofs.GiveBodies.{body-room, body-less, stripe-is, body-left, next-body}
 use Rattle.batch_add.proofs.giving_up.GivingUp.leave_stripe.Goals as goal

@@ -9,8 +9,8 @@ use Rattle.pass_table.specs.TakeTurns.{taking_of, IsTaking}
 use Rattle.pass_table.specs.Passes.{view_of}
 use Rattle.batch_add.specs.declared.giving_up.GiveStage.TheVariants.{Bare, Locking}
 use Rattle.pass_table.proofs.WorkLater.{worked-sizes}
-use Rattle.batch_add.specs.GivingUp.{IsGiveTurn}
-use Rattle.batch_add.specs.GivingLater.{free-lock}
+use Rattle.batch_add.specs.stages.GivingUp.{IsGiveTurn}
+use Rattle.batch_add.specs.stages.GivingLater.{free-lock}
 use Rattle.batch_add.proofs.GiveTurns.{at-stage, went-on, ended, few-left}
 use Rattle.batch_add.proofs.GiveBodies.{nodes-many}
 use Rattle.batch_add.proofs.GiveSlot.{asks-slot, slot-gone, slot-step, slot-turn-made, gives-none}

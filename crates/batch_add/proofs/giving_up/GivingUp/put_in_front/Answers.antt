@@ -5,7 +5,7 @@ use Rattle.core_state.specs.View.{known_word}
 use Rattle.pass_table.specs.Passes.{view_of}
 use Rattle.free_list.specs.Pool.{GaveNode}
 use Rattle.batch_add.specs.declared.giving_up.GiveStage.TheVariants.{Next, Linked, Given}
-use Rattle.batch_add.specs.GivingUp.{IsPutting}
+use Rattle.batch_add.specs.stages.GivingUp.{IsPutting}
 use Rattle.batch_add.proofs.GiveTurns.{at-stage, went-on}
 use Rattle.batch_add.proofs.GiveNodes.{node-kept, node-less, node-loose, front-step, front-made, front-all, front-next, has-pool}
 use Rattle.batch_add.proofs.giving_up.GivingUp.put_in_front.Goals as goal

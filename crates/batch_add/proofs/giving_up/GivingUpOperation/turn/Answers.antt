@@ -1,6 +1,6 @@
 use Rattle.pass_table.specs.Passes.{view_of}
 use Rattle.pass_table.proofs.Turning.{goes-on}
-use Rattle.batch_add.specs.GivingUp.{IsGivingUp}
+use Rattle.batch_add.specs.stages.GivingUp.{IsGivingUp}
 use Rattle.batch_add.proofs.giving_up.GivingUpOperation.turn.Goals as goal
 
 pub returns-clause-goes_on : goal.returns-clause-goes_on

@@ -5,7 +5,7 @@ use Rattle.word_map.specs.Names.{lock_count}
 use Rattle.core_state.specs.declared.view.View.{View}
 use Rattle.body_look.specs.declared.look_op.LookDepth.TheVariants.{Phase as ItsPhase}
 use Rattle.body_look.specs.declared.look_op.LookOp.{LookOp}
-use Rattle.body_look.specs.Looking.{looking_of, IsLooking, look_left, look_takes}
+use Rattle.body_look.specs.stages.Looking.{looking_of, IsLooking, look_left, look_takes}
 use Rattle.core_state.specs.declared.view.Mode.TheVariants.{Write}
 use Rattle.pass_table.specs.declared.pass.Pass.{Pass}
 use Rattle.pass_table.proofs.TakingTurns.{loads-none}
@@ -13,7 +13,7 @@ use Rattle.pass_table.specs.TakeTurns.{LoadedNone}
 use Rattle.pass_table.specs.Passes.{view_of}
 use Rattle.pass_table.proofs.Calling.{released-step, released-made}
 use Rattle.batch_add.specs.declared.mark_op.MarkStage.TheVariants.{Looking, Leaving}
-use Rattle.batch_add.specs.Marking.{marks_of, current, IsMarkTurn}
+use Rattle.batch_add.specs.stages.Marking.{marks_of, current, IsMarkTurn}
 use Rattle.pass_table.proofs.WorkLater.{worked-sizes}
 use Rattle.batch_add.proofs.MarkTurns.{went-on}
 use Rattle.batch_add.proofs.MarkEnds.{going-at, ends-with, then-next, next-below, done-turn, may-let_go}

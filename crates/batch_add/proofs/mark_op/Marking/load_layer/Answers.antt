@@ -5,8 +5,8 @@ use Rattle.pass_table.specs.Bodies.{IsGuarded, Loaded}
 use Rattle.pass_table.specs.Passes.{view_of}
 use Rattle.batch_add.specs.declared.mark_op.MarkRefused.TheVariants.{WrongLayer}
 use Rattle.batch_add.specs.declared.mark_op.MarkStage.TheVariants.{Outside, Sides, Refusing}
-use Rattle.batch_add.specs.Marking.{marks_of}
-use Rattle.batch_add.specs.MarkLater.{body-guarded}
+use Rattle.batch_add.specs.stages.Marking.{marks_of}
+use Rattle.batch_add.specs.stages.MarkLater.{body-guarded}
 use Rattle.batch_add.proofs.MarkTurns.{went-on}
 use Rattle.batch_add.proofs.MarkLoads.{layer-wrong}
 use Rattle.batch_add.proofs.MarkSides.{layer-here}

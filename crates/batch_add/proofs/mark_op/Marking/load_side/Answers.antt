@@ -4,9 +4,9 @@ use Rattle.word_map.specs.declared.name.Name.TheVariants.{BoxWord}
 use Rattle.pass_table.specs.Bodies.{IsGuarded, Loaded}
 use Rattle.pass_table.specs.Passes.{view_of}
 use Rattle.batch_add.specs.declared.mark_op.MarkStage.TheVariants.{Sides, Boxed}
-use Rattle.batch_add.specs.Marking.{marks_of}
+use Rattle.batch_add.specs.stages.Marking.{marks_of}
 use Rattle.batch_add.proofs.MarkTurns.{went-on}
-use Rattle.batch_add.specs.MarkLater.{body-guarded}
+use Rattle.batch_add.specs.stages.MarkLater.{body-guarded}
 use Rattle.batch_add.proofs.MarkSides.{side-next, side-last, side-box}
 use Rattle.batch_add.proofs.MarkEnds.{going-at}
 use Rattle.batch_add.proofs.mark_op.Marking.load_side.Goals as goal

@@ -2,9 +2,9 @@ use Rattle.std.proofs.Common.{refl}
 use Rattle.core_state.specs.declared.view.Mode.TheVariants.{Write}
 use Rattle.pass_table.specs.Passes.{view_of}
 use Rattle.body_look.specs.declared.look_op.LookDepth.TheVariants.{Phase as ItsPhase}
-use Rattle.body_look.specs.Looking.{looking_of}
+use Rattle.body_look.specs.stages.Looking.{looking_of}
 use Rattle.batch_add.specs.declared.mark_op.MarkStage.TheVariants.{Looking}
-use Rattle.batch_add.specs.Marking.{marks_of, current}
+use Rattle.batch_add.specs.stages.Marking.{marks_of, current}
 use Rattle.batch_add.proofs.MarkTurns.{look-more, look-again, look-done}
 use Rattle.batch_add.proofs.MarkLoads.{looked-at}
 use Rattle.batch_add.proofs.MarkEnds.{going-at}

@@ -9,7 +9,7 @@ use Rattle.core_state.specs.Batches.{MayMark, mark}
 use Rattle.pass_table.specs.Stepping.{Stored}
 use Rattle.pass_table.specs.Passes.{view_of}
 use Rattle.batch_add.specs.declared.mark_op.MarkStage.TheVariants.{Boxed}
-use Rattle.batch_add.specs.Marking.{marks_of, current, Notes}
+use Rattle.batch_add.specs.stages.Marking.{marks_of, current, Notes}
 use Rattle.pass_table.proofs.WorkLater.{worked-sizes}
 use Rattle.batch_add.proofs.MarkEnds.{marked-few, going-at, may-mark, mark-turn}
 use Rattle.batch_add.proofs.mark_op.Marking.mark.Goals as goal

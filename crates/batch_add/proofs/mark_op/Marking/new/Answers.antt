@@ -8,7 +8,7 @@ use Rattle.pass_table.specs.TakeTurns.{LoadedNone}
 use Rattle.pass_table.specs.Passes.{view_of}
 use Rattle.body_look.specs.declared.look_op.LookDepth.TheVariants.{Phase as ItsPhase}
 use Rattle.body_look.specs.declared.look_op.LookOp.{LookOp}
-use Rattle.body_look.specs.Looking.{looking_of, IsLooking, look_left, look_takes}
+use Rattle.body_look.specs.stages.Looking.{looking_of, IsLooking, look_left, look_takes}
 use Rattle.batch_add.proofs.MarkBegun.{marking-begun}
 use Rattle.batch_add.proofs.mark_op.Marking.new.Goals as goal
 

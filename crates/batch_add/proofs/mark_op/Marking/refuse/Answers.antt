@@ -4,7 +4,7 @@ use Rattle.word_map.specs.Names.{stripe_of}
 use Rattle.pass_table.specs.Holding.{MayLetGo}
 use Rattle.pass_table.specs.Passes.{view_of}
 use Rattle.batch_add.specs.declared.mark_op.MarkStage.TheVariants.{Refusing}
-use Rattle.batch_add.specs.Marking.{marks_of, current}
+use Rattle.batch_add.specs.stages.Marking.{marks_of, current}
 use Rattle.pass_table.proofs.WorkLater.{worked-sizes}
 use Rattle.batch_add.proofs.MarkEnds.{going-at, may-let_go, refused-turn}
 use Rattle.batch_add.proofs.mark_op.Marking.refuse.Goals as goal

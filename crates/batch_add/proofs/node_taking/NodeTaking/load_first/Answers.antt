@@ -3,7 +3,7 @@ use Rattle.word_map.specs.declared.config.Config.{Config}
 use Rattle.word_map.specs.declared.name.Name.TheVariants.{PoolHead}
 use Rattle.pass_table.specs.Passes.{view_of}
 use Rattle.batch_add.specs.declared.node_taking.NodeStage.TheVariants.{Next, First}
-use Rattle.batch_add.specs.TakingNodes.{AtNodes}
+use Rattle.batch_add.specs.stages.TakingNodes.{AtNodes}
 use Rattle.batch_add.proofs.TakingNodes.{nodes-on, pool-step, pool-made, head-some, head-first, taking-pool}
 use Rattle.batch_add.proofs.node_taking.NodeTaking.load_first.Goals as goal
 

@@ -1,7 +1,7 @@
 use Rattle.std.proofs.Common.{Err, refl, arith, subst}
 use Rattle.word_map.specs.declared.name.Name.TheVariants.{PoolFree}
 use Rattle.pass_table.specs.Passes.{view_of}
-use Rattle.batch_add.specs.TakingNodes.{AtNodes}
+use Rattle.batch_add.specs.stages.TakingNodes.{AtNodes}
 use Rattle.batch_add.specs.declared.node_taking.NodeStage.TheVariants.{Locked, Next, Leaving}
 use Rattle.batch_add.proofs.TakingNodes.{nodes-on, pool-step, pool-made, free-few, free-enough, locked-pool}
 use Rattle.batch_add.proofs.node_taking.NodeTaking.load_free.Goals as goal

@@ -3,7 +3,7 @@ use Rattle.word_map.specs.declared.name.Name.TheVariants.{PoolNext}
 use Rattle.pass_table.specs.Passes.{view_of}
 use Rattle.word_map.specs.declared.config.Config.{Config}
 use Rattle.pass_table.proofs.WorkLater.{worked-sizes}
-use Rattle.batch_add.specs.TakingNodes.{AtNodes}
+use Rattle.batch_add.specs.stages.TakingNodes.{AtNodes}
 use Rattle.batch_add.specs.declared.node_taking.NodeStage.TheVariants.{First, Linked}
 use Rattle.batch_add.proofs.TakingNodes.{nodes-on, pool-step, pool-made, link-linked, taking-pool}
 use Rattle.batch_add.proofs.node_taking.NodeTaking.load_link.Goals as goal

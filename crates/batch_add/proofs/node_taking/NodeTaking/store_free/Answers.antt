@@ -3,7 +3,7 @@ use Rattle.pass_table.specs.Passes.{view_of}
 use Rattle.word_map.specs.declared.name.Name.TheVariants.{PoolFree}
 use Rattle.core_state.specs.View.{known_word}
 use Rattle.free_list.specs.Pool.{taken_in, given_in}
-use Rattle.batch_add.specs.TakingNodes.{AtNodes}
+use Rattle.batch_add.specs.stages.TakingNodes.{AtNodes}
 use Rattle.batch_add.specs.declared.node_taking.NodeStage.TheVariants.{Taken, Leaving}
 use Rattle.batch_add.proofs.TakingNodes.{nodes-on, count-step, count-made, count-stored, may-count}
 use Rattle.batch_add.proofs.node_taking.NodeTaking.store_free.Goals as goal

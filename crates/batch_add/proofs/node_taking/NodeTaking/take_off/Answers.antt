@@ -2,7 +2,7 @@ use Rattle.std.proofs.Common.{length, ap, ◌∙◌, subst}
 use Rattle.std.proofs.lemmas.List.{length-set}
 use Rattle.pass_table.specs.Passes.{view_of}
 use Rattle.batch_add.specs.declared.node_taking.NodeStage.TheVariants.{Linked}
-use Rattle.batch_add.specs.TakingNodes.{AtNodes}
+use Rattle.batch_add.specs.stages.TakingNodes.{AtNodes}
 use Rattle.batch_add.proofs.TakingNodes.{noted-loads, nodes-on, takes-node, took-step, took-made, took-noted, noted-less, taking-pool}
 use Rattle.batch_add.proofs.node_taking.NodeTaking.take_off.Goals as goal
 

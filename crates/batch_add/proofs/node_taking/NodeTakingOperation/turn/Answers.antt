@@ -1,6 +1,6 @@
 use Rattle.pass_table.specs.Passes.{view_of}
 use Rattle.pass_table.proofs.Turning.{goes-on}
-use Rattle.batch_add.specs.TakingNodes.{IsTakingNodes}
+use Rattle.batch_add.specs.stages.TakingNodes.{IsTakingNodes}
 use Rattle.batch_add.proofs.node_taking.NodeTakingOperation.turn.Goals as goal
 
 pub returns-clause-goes_on : goal.returns-clause-goes_on

@@ -2,7 +2,7 @@ use Rattle.std.proofs.Common.{◌≤◌, ◌*◌, List, length, ◌∙◌, refl,
 use Rattle.body_ident.specs.Id.{Id}
 use Rattle.core_state.specs.declared.view.View.{View}
 use Rattle.pass_table.specs.Passes.{view_of}
-use Rattle.batch_add.specs.Marking.{IsMarking, mark_left}
+use Rattle.batch_add.specs.stages.Marking.{IsMarking, mark_left}
 use Rattle.batch_add.proofs.prepare_op.PrepareOp.begin_marks.Goals as goal
 
 pub returns-clause-begins : goal.returns-clause-begins

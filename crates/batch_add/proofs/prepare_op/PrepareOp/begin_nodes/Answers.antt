@@ -1,7 +1,7 @@
 use Rattle.std.proofs.Common.{refl, ap, subst}
 use Rattle.core_state.specs.declared.view.View.{View}
 use Rattle.pass_table.specs.Passes.{view_of}
-use Rattle.batch_add.specs.TakingNodes.{IsTakingNodes}
+use Rattle.batch_add.specs.stages.TakingNodes.{IsTakingNodes}
 use Rattle.batch_add.proofs.prepare_op.PrepareOp.begin_nodes.Goals as goal
 
 pub returns-clause-begins : goal.returns-clause-begins

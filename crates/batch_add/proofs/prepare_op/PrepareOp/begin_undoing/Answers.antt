@@ -3,8 +3,8 @@ use Rattle.pass_table.specs.declared.pass.Pass.{Pass}
 use Rattle.pass_table.specs.Passes.{view_of}
 use Rattle.batch_add.specs.declared.prepare_op.Undone.{Undone}
 use Rattle.batch_add.specs.declared.prepare_op.PrepareStage.TheVariants.{GivingUp as GivingUpStage}
-use Rattle.batch_add.specs.GivingUp.{IsGivingUp}
-use Rattle.batch_add.specs.Preparing.{marked_of, node_count_of}
+use Rattle.batch_add.specs.stages.GivingUp.{IsGivingUp}
+use Rattle.batch_add.specs.stages.Preparing.{marked_of, node_count_of}
 use Rattle.batch_add.proofs.prepare_op.PrepareOp.begin_undoing.Goals as goal
 use Rattle.batch_add.proofs.prepare_op.PrepareOp.begin_undoing.Goals.{in-NoNodes, in-Mark}
 

@@ -3,8 +3,8 @@ use Rattle.std.proofs.Common.{ap, sym, subst}
 use Rattle.core_state.specs.declared.view.View.{View}
 use Rattle.pass_table.specs.Passes.{view_of}
 use Rattle.pass_table.specs.declared.turn.Turn.TheVariants.{More, Again}
-use Rattle.batch_add.specs.Marking.{HasMadeMarks}
-use Rattle.batch_add.specs.Preparing.{IsPrepareTurn, stage_label}
+use Rattle.batch_add.specs.stages.Marking.{HasMadeMarks}
+use Rattle.batch_add.specs.stages.Preparing.{IsPrepareTurn, stage_label}
 use Rattle.batch_add.proofs.PrepareMarks.{marks-begun, marks-more, marks-again, all-rest, all-plans, all-to_draw, marks-done, undoing-begun, marks-refused}
 use Rattle.batch_add.proofs.prepare_op.PrepareOp.mark_bodies.Goals as goal
 

@@ -1,4 +1,4 @@
-use Rattle.batch_add.specs.Preparing.{stage_label}
+use Rattle.batch_add.specs.stages.Preparing.{stage_label}
 use Rattle.batch_add.proofs.PrepareLabel.{label-none}
 use Rattle.pass_table.specs.declared.turn.Turn.TheVariants.{Done}
 use Rattle.std.proofs.Common.{ap, Err, inl}

@@ -4,7 +4,7 @@ use Rattle.core_state.specs.declared.view.View.{View}
 use Rattle.pass_table.specs.declared.turn.Turn.TheVariants.{More, Done, Again}
 use Rattle.pass_table.specs.Passes.{view_of}
 use Rattle.batch_add.specs.declared.prepare_op.PrepareOp.{PrepareOp}
-use Rattle.batch_add.specs.Preparing.{IsPrepareTurn, label_of, stage_label}
+use Rattle.batch_add.specs.stages.Preparing.{IsPrepareTurn, label_of, stage_label}
 use Rattle.batch_add.proofs.Searching.{reserved-newest}
 use Rattle.batch_add.proofs.TakenNodes.{newest-some}
 use Rattle.batch_add.proofs.PartsLeft.{need-some}

@@ -5,7 +5,7 @@ use Rattle.core_state.specs.declared.view.View.{View}
 use Rattle.pass_table.specs.declared.turn.Turn.TheVariants.{More, Again}
 use Rattle.pass_table.specs.Passes.{view_of}
 use Rattle.batch_add.specs.declared.prepare_op.PrepareOp.{PrepareOp}
-use Rattle.batch_add.specs.Preparing.{ids_of, IsPrepareTurn, label_of, stage_label}
+use Rattle.batch_add.specs.stages.Preparing.{ids_of, IsPrepareTurn, label_of, stage_label}
 use Rattle.batch_add.proofs.NodeParts.{nodes-inside, nodes-count, nodes-room, nodes-answers, nodes-rest, nodes-below, nodes-newest, nodes-end, few-begun, nodes-few, nodes-more, nodes-again}
 use Rattle.batch_add.proofs.prepare_op.PrepareOp.take_nodes.Goals as goal
 

@@ -1,6 +1,6 @@
 use Rattle.pass_table.specs.Passes.{view_of}
 use Rattle.pass_table.proofs.Turning.{goes-on}
-use Rattle.batch_add.specs.Preparing.{IsPreparing}
+use Rattle.batch_add.specs.stages.Preparing.{IsPreparing}
 use Rattle.batch_add.proofs.preparing.PrepareOpOperation.turn.Goals as goal
 
 pub returns-clause-goes_on : goal.returns-clause-goes_on

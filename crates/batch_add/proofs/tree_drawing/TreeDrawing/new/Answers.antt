@@ -7,7 +7,7 @@ use Rattle.fixed_box.specs.declared.fix_box.FixBox.{FixBox}
 use Rattle.tree_plan.specs.Plan.{IsPlanOf}
 use Rattle.tree_bounds.specs.Held.{bound_of}
 use Rattle.pass_table.specs.Passes.{view_of}
-use Rattle.batch_add.specs.DrawStages.{before_child, HasDrawnUpTo}
+use Rattle.batch_add.specs.stages.DrawStages.{before_child, HasDrawnUpTo}
 use Rattle.batch_add.proofs.DrawBegun.{drawing-begun, first-node}
 use Rattle.batch_add.proofs.tree_drawing.TreeDrawing.new.Goals as goal
 

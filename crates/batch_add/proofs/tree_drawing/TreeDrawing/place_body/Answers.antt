@@ -5,7 +5,7 @@ use Rattle.core_state.specs.Batches.{MayPlace}
 use Rattle.core_state.specs.Encoding.{place}
 use Rattle.pass_table.specs.Passes.{view_of}
 use Rattle.batch_add.specs.Drawing.{node_at}
-use Rattle.batch_add.specs.DrawStages.{planned_of, AtDraw}
+use Rattle.batch_add.specs.stages.DrawStages.{planned_of, AtDraw}
 use Rattle.batch_add.proofs.DrawTurns.{may-place, index-below, placing-turn}
 use Rattle.batch_add.proofs.tree_drawing.TreeDrawing.place_body.Goals as goal
 

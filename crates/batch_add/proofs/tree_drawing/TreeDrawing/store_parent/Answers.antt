@@ -4,7 +4,7 @@ use Rattle.pass_table.specs.Passes.{view_of}
 use Rattle.tree_plan.specs.Plan.{node_count}
 use Rattle.pass_table.specs.declared.turn.Turn.TheVariants.{Done}
 use Rattle.batch_add.specs.declared.draw_stage.DrawStage.TheVariants.{Child, Parent}
-use Rattle.batch_add.specs.DrawStages.{planned_of, AtDraw, reached}
+use Rattle.batch_add.specs.stages.DrawStages.{planned_of, AtDraw, reached}
 use Rattle.batch_add.proofs.DrawTurns.{may-store, parent-turn, last-turn}
 use Rattle.batch_add.proofs.tree_drawing.TreeDrawing.store_parent.Goals as goal
 

@@ -2,7 +2,7 @@ use Rattle.std.proofs.Common.{Some, ap, subst}
 use Rattle.word_map.specs.declared.name.Name.TheVariants.{Bound as BoundWord}
 use Rattle.pass_table.specs.Passes.{view_of}
 use Rattle.batch_add.specs.declared.draw_stage.DrawStage.TheVariants.{Side}
-use Rattle.batch_add.specs.DrawStages.{planned_of, AtDraw, reached}
+use Rattle.batch_add.specs.stages.DrawStages.{planned_of, AtDraw, reached}
 use Rattle.batch_add.proofs.DrawTurns.{may-store, side-turn}
 use Rattle.batch_add.proofs.tree_drawing.TreeDrawing.store_side.Goals as goal
 

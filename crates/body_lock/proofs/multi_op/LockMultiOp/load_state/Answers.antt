@@ -1,4 +1,4 @@
-use Rattle.body_lock.specs.LockingAll.{takes_at}
+use Rattle.body_lock.specs.stages.LockingAll.{takes_at}
 use Rattle.pass_table.specs.Turning.{LoadsNow}
 use Rattle.std.proofs.Common.{length, inl, ◌∙◌, ap, arith, sym, subst}
 use Rattle.pass_table.specs.Passes.{view_of}

@@ -5,7 +5,7 @@ use Rattle.word_map.specs.declared.name.Name.TheVariants.{State}
 use Rattle.pass_table.specs.Passes.{view_of}
 use Rattle.pass_table.proofs.Bodies.{body-load-step}
 use Rattle.body_lock.specs.declared.multi_op.Wanted.{Wanted}
-use Rattle.body_lock.specs.LockingAll.{MayLoadState}
+use Rattle.body_lock.specs.stages.LockingAll.{MayLoadState}
 use Rattle.body_lock.proofs.ReadingAll.{entry-asks, entry-reads}
 use Rattle.body_lock.proofs.multi_op.LockMultiOp.read_entry.Goals as goal
 

@@ -1,4 +1,4 @@
-use Rattle.body_lock.specs.LockingAll.{IsLockingAll}
+use Rattle.body_lock.specs.stages.LockingAll.{IsLockingAll}
 use Rattle.pass_table.specs.Passes.{view_of}
 use Rattle.pass_table.proofs.Turning.{goes-on}
 use Rattle.body_lock.proofs.multi_turns.LockMultiOpOperation.turn.Goals as goal

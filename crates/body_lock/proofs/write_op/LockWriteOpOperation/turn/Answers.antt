@@ -1,6 +1,6 @@
 use Rattle.std.proofs.Common.{subst}
 use Rattle.pass_table.specs.Passes.{view_of}
-use Rattle.body_lock.specs.Locking.{LockAnswers}
+use Rattle.body_lock.specs.Answers.{LockAnswers}
 use Rattle.body_lock.proofs.Locking.{write-locked}
 use Rattle.body_lock.proofs.write_op.LockWriteOpOperation.turn.Goals as goal
 

@@ -1,6 +1,6 @@
 use Rattle.pass_table.specs.Passes.{view_of}
 use Rattle.pass_table.proofs.Turning.{goes-on}
-use Rattle.body_look.specs.Looking.{IsLooking}
+use Rattle.body_look.specs.stages.Looking.{IsLooking}
 use Rattle.body_look.proofs.look_turns.LookOpOperation.turn.Goals as goal
 
 pub returns-in-Taking-clause-goes_on : goal.returns-in-Taking-clause-goes_on

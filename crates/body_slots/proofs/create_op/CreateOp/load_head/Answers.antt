@@ -1,7 +1,7 @@
 use Rattle.std.proofs.Common.{◌≡◌, ℕ, suc, ◌-◌, ◌<◌, Err, subst, arith}
 use Rattle.word_map.specs.declared.config.Config.{Config}
 use Rattle.pass_table.specs.Passes.{view_of}
-use Rattle.body_slots.specs.Creating.{AtCreate}
+use Rattle.body_slots.specs.stages.Creating.{AtCreate}
 use Rattle.body_slots.specs.declared.create_op.CreateStage.TheVariants.{Locked, First, Leaving}
 use Rattle.pass_table.proofs.Stages.{went-on}
 use Rattle.body_slots.proofs.CreateTurns.{create_stages, head-step, head-made, head-first, head-none, has-list}

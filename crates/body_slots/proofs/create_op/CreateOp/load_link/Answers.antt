@@ -2,7 +2,7 @@ use Rattle.std.proofs.Common.{arith, subst, ◌<◌, sym, ◌∙◌}
 use Rattle.pass_table.specs.Passes.{view_of}
 use Rattle.pass_table.proofs.WorkLater.{worked-sizes}
 use Rattle.word_map.specs.declared.config.Config.{Config}
-use Rattle.body_slots.specs.Creating.{AtCreate}
+use Rattle.body_slots.specs.stages.Creating.{AtCreate}
 use Rattle.body_slots.specs.declared.create_op.CreateStage.TheVariants.{First, Linked}
 use Rattle.pass_table.proofs.Stages.{went-on}
 use Rattle.body_slots.proofs.CreateTurns.{create_stages, link-step, link-made, link-loaded, has-list}

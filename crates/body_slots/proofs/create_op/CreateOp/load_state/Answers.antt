@@ -4,8 +4,8 @@ use Rattle.core_state.specs.Lives.{under_list}
 use Rattle.pass_table.specs.Passes.{view_of}
 use Rattle.pass_table.proofs.Bodies.{body-load-step, body-load-made}
 use Rattle.body_slots.specs.declared.create_op.CreateStage.TheVariants.{Taken, Fields}
-use Rattle.body_slots.specs.Creating.{AtCreate}
-use Rattle.body_slots.specs.Later.{list-held}
+use Rattle.body_slots.specs.stages.Creating.{AtCreate}
+use Rattle.body_slots.specs.stages.Later.{list-held}
 use Rattle.pass_table.proofs.Stages.{went-on}
 use Rattle.body_slots.proofs.CreateTurns.{create_stages, state-loaded}
 use Rattle.body_slots.proofs.create_op.CreateOp.load_state.Goals as goal

@@ -4,7 +4,7 @@ use Rattle.core_state.specs.Lives.{MayStoreField, store_field}
 use Rattle.pass_table.specs.Stepping.{Stored}
 use Rattle.pass_table.specs.Passes.{view_of}
 use Rattle.body_slots.specs.declared.create_op.CreateStage.TheVariants.{Fields, Filled}
-use Rattle.body_slots.specs.Creating.{field_name, AtCreate}
+use Rattle.body_slots.specs.stages.Creating.{field_name, AtCreate}
 use Rattle.pass_table.proofs.Stages.{went-on}
 use Rattle.body_slots.proofs.CreateTurns.{create_stages, may-field, field-step, field-made, field-next, field-last, value-begun}
 use Rattle.body_slots.proofs.create_op.CreateOp.store_field.Goals as goal

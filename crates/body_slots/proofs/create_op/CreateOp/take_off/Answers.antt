@@ -1,7 +1,7 @@
 use Rattle.std.proofs.Common.{subst, arith}
 use Rattle.pass_table.specs.Passes.{view_of}
 use Rattle.body_slots.specs.declared.create_op.CreateStage.TheVariants.{Linked, Taken}
-use Rattle.body_slots.specs.Creating.{AtCreate}
+use Rattle.body_slots.specs.stages.Creating.{AtCreate}
 use Rattle.pass_table.proofs.Stages.{went-on}
 use Rattle.body_slots.proofs.CreateTurns.{create_stages, took-step, took-made, took-index, has-list}
 use Rattle.body_slots.proofs.create_op.CreateOp.take_off.Goals as goal

@@ -1,8 +1,8 @@
 use Rattle.pass_table.specs.Passes.{view_of}
 use Rattle.pass_table.proofs.Turning.{goes-on}
-use Rattle.body_slots.specs.Creating.{IsMaking}
+use Rattle.body_slots.specs.stages.Creating.{CreatesBody}
 use Rattle.body_slots.proofs.creating.CreateOpOperation.turn.Goals as goal
 
 pub returns-clause-goes_on : goal.returns-clause-goes_on
 returns-clause-goes_on c =
-    goes-on IsMaking c.next_turn.result c.args.self.now c.next_turn.new.self (view_of c.args.pass.now) (view_of c.next_turn.new.pass) c.next_turn.ensures.turn.keeps c.requires.under_way
+    goes-on CreatesBody c.next_turn.result c.args.self.now c.next_turn.new.self (view_of c.args.pass.now) (view_of c.next_turn.new.pass) c.next_turn.ensures.turn.keeps c.requires.under_way

@@ -1,6 +1,6 @@
 use Rattle.std.proofs.Common.{arith, subst}
 use Rattle.pass_table.specs.Passes.{view_of}
-use Rattle.body_slots.specs.Destroying.{AtDestroy}
+use Rattle.body_slots.specs.stages.Destroying.{AtDestroy}
 use Rattle.body_slots.specs.declared.destroy_op.DestroyStage.TheVariants.{Locked, Headed}
 use Rattle.body_slots.proofs.CreateTurns.{head-step, head-made}
 use Rattle.body_slots.proofs.DestroyTurns.{destroy-on, has-list}

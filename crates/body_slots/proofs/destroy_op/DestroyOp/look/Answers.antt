@@ -11,11 +11,11 @@ use Rattle.pass_table.specs.Turning.{LoadsNow}
 use Rattle.pass_table.specs.Passes.{view_of}
 use Rattle.body_look.specs.Found.{phase_found}
 use Rattle.body_look.specs.declared.look_op.LookDepth.TheVariants.{Phase as ItsPhase}
-use Rattle.body_look.specs.Looking.{looking_of}
+use Rattle.body_look.specs.stages.Looking.{looking_of}
 use Rattle.body_look.proofs.Answering.{stripe-sizes}
 use Rattle.body_slots.specs.declared.answers.DestroyRefused.TheVariants.{Gone, InUse}
 use Rattle.body_slots.specs.declared.destroy_op.DestroyStage.TheVariants.{TakingList, Leaving}
-use Rattle.body_slots.specs.Destroying.{AtDestroy, stage_left, IsDestroyTurn}
+use Rattle.body_slots.specs.stages.Destroying.{AtDestroy, stage_left, IsDestroyTurn}
 use Rattle.body_slots.proofs.DestroyTurns.{list-named, list-free, look-more, look-again, look-done, found-out, found-gone, found-used}
 use Rattle.body_slots.proofs.destroy_op.DestroyOp.look.Goals as goal
 

@@ -4,7 +4,7 @@ use Rattle.word_map.specs.Limits.{IsConfig}
 use Rattle.core_state.specs.declared.view.Mode.TheVariants.{Write}
 use Rattle.pass_table.specs.Passes.{view_of}
 use Rattle.body_look.specs.declared.look_op.LookDepth.TheVariants.{Phase as ItsPhase}
-use Rattle.body_look.specs.Looking.{looking_of}
+use Rattle.body_look.specs.stages.Looking.{looking_of}
 use Rattle.body_slots.proofs.Begun.{destroying-begun}
 use Rattle.body_slots.proofs.destroy_op.DestroyOp.new.Goals as goal
 

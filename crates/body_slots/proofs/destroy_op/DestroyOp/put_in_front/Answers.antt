@@ -5,7 +5,7 @@ use Rattle.free_list.specs.Heads.{PutInFront}
 use Rattle.core_state.specs.Lists.{IsLiveAndOut}
 use Rattle.word_map.specs.declared.name.Name.TheVariants.{SlotHead, SlotNext}
 use Rattle.core_state.specs.View.{known_word}
-use Rattle.body_slots.specs.Destroying.{AtDestroy}
+use Rattle.body_slots.specs.stages.Destroying.{AtDestroy}
 use Rattle.body_slots.specs.declared.destroy_op.DestroyStage.TheVariants.{Linked, InFront}
 use Rattle.body_slots.proofs.DestroyTurns.{destroy-on, has-list, has-out}
 use Rattle.body_slots.proofs.DestroyEnds.{put-step, put-made, put-first}

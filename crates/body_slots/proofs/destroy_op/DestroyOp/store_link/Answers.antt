@@ -3,7 +3,7 @@ use Rattle.body_ident.specs.Id.{Id}
 use Rattle.pass_table.specs.Passes.{view_of}
 use Rattle.free_list.specs.Heads.{LinkedTo}
 use Rattle.core_state.specs.Lists.{IsLiveAndOut}
-use Rattle.body_slots.specs.Destroying.{AtDestroy}
+use Rattle.body_slots.specs.stages.Destroying.{AtDestroy}
 use Rattle.body_slots.specs.declared.destroy_op.DestroyStage.TheVariants.{Headed, Linked}
 use Rattle.body_slots.proofs.DestroyTurns.{destroy-on, has-list, has-out}
 use Rattle.body_slots.proofs.DestroyEnds.{linked-step, linked-made, link-stored}

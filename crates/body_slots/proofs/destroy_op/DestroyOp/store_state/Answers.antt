@@ -8,7 +8,7 @@ use Rattle.pass_table.specs.Stepping.{Stored}
 use Rattle.pass_table.specs.declared.turn.Turn.TheVariants.{More}
 use Rattle.pass_table.specs.Passes.{view_of}
 use Rattle.body_slots.specs.declared.destroy_op.DestroyStage.TheVariants.{Destroyed}
-use Rattle.body_slots.specs.Destroying.{IsDestroyTurn}
+use Rattle.body_slots.specs.stages.Destroying.{IsDestroyTurn}
 use Rattle.body_slots.proofs.DestroyEnds.{destroy-turn}
 use Rattle.body_slots.proofs.destroy_op.DestroyOp.store_state.Goals as goal
 

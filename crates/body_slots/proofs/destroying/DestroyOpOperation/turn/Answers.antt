@@ -1,8 +1,8 @@
 use Rattle.pass_table.specs.Passes.{view_of}
 use Rattle.pass_table.proofs.Turning.{goes-on}
-use Rattle.body_slots.specs.Destroying.{IsUnmaking}
+use Rattle.body_slots.specs.stages.Destroying.{DestroysBody}
 use Rattle.body_slots.proofs.destroying.DestroyOpOperation.turn.Goals as goal
 
 pub returns-clause-goes_on : goal.returns-clause-goes_on
 returns-clause-goes_on c =
-    goes-on IsUnmaking c.next_turn.result c.args.self.now c.next_turn.new.self (view_of c.args.pass.now) (view_of c.next_turn.new.pass) c.next_turn.ensures.turn.keeps c.requires.under_way
+    goes-on DestroysBody c.next_turn.result c.args.self.now c.next_turn.new.self (view_of c.args.pass.now) (view_of c.next_turn.new.pass) c.next_turn.ensures.turn.keeps c.requires.under_way

@@ -24,7 +24,7 @@ use Rattle.batch_add.specs.declared.giving_up.GiveStage.TheVariants.{Striping, S
 use Rattle.batch_add.specs.declared.giving_up.GivingUp.{GivingUp}
 use Rattle.pass_table.specs.Work.{Work, begun, HasWorked}
 use Rattle.batch_add.specs.Parts.{stored_as, StoresFrom, HasGivenUp}
-use Rattle.batch_add.specs.Keeping.{index_at, IsBegunFor}
+use Rattle.batch_add.specs.stages.Keeping.{index_at, IsBegunFor}
 
 -- ---- work with no lock held, and with one
 

@@ -28,7 +28,7 @@ use Rattle.batch_add.specs.declared.giving_up.GivingUp.{GivingUp}
 use Rattle.pass_table.specs.Work.{Work}
 use Rattle.pass_table.proofs.WorkLater.{worked-sizes, worked-mode, worked-more}
 use Rattle.batch_add.specs.Parts.{StoresFrom}
-use Rattle.batch_add.specs.GivingUp.{WorksFree, WorksUnder, KnowsFree, IsPutting, AtGiving, IsGivingUp}
+use Rattle.batch_add.specs.stages.GivingUp.{WorksFree, WorksUnder, KnowsFree, IsPutting, AtGiving, IsGivingUp}
 
 -- ---- locks
 

@@ -1,34 +1,27 @@
 -- Locking a body by turns.
-use Rattle.std.specs.Prelude.{◌≡◌, ℕ, ◌+◌, ◌<◌, [], ◌∷◌, Option, None, Result, Ok, Err}
+use Rattle.std.specs.Prelude.{◌≡◌, ℕ, ◌+◌, ◌<◌, [], ◌∷◌, Option, None, Result}
 use Rattle.body_ident.specs.Id.{Id}
 use Rattle.word_map.specs.declared.config.Config.{Config}
 use Rattle.word_map.specs.Names.{stripe_of}
 use Rattle.core_state.specs.declared.view.Mode.{Mode}
-use Rattle.core_state.specs.declared.view.Mode.TheVariants.{Read, Write}
 use Rattle.core_state.specs.declared.view.LockStep.TheVariants.{Taken}
-use Rattle.core_state.specs.declared.view.Task.TheVariants.{Nothing}
 use Rattle.core_state.specs.declared.view.View.{View}
-use Rattle.core_state.specs.View.{IsPass}
 use Rattle.pass_table.specs.declared.turn.Turn.{Turn}
 use Rattle.pass_table.specs.declared.take_op.TakeOp.{TakeOp}
 use Rattle.pass_table.specs.Knowing.{KnowsMore}
 use Rattle.pass_table.specs.Holding.{IsAtRest}
 use Rattle.pass_table.specs.Calls.{AtPoint, IsTurn}
-use Rattle.pass_table.specs.Work.{IsCalling, HasDone, idle}
 use Rattle.pass_table.proofs.Calling.{point-later}
 use Rattle.body_look.specs.declared.look_op.LookDepth.TheVariants.{Life}
 use Rattle.body_look.specs.declared.look_op.LookOp.{LookOp}
-use Rattle.body_look.specs.Looking.{looking_of, look_left, look_takes, IsLooking, HasStripe as HoldsStripe}
-use Rattle.body_look.specs.LookLater.{looking-later, only-more}
+use Rattle.body_look.specs.stages.Looking.{looking_of, look_left, look_takes, IsLooking, HasStripe as HoldsStripe}
+use Rattle.body_look.specs.stages.LookLater.{looking-later, only-more}
 use Rattle.body_lock.specs.declared.gone.Gone.{Gone}
 use Rattle.body_lock.specs.declared.lock_op.LockOp.{LockOp}
 use Rattle.body_lock.specs.declared.lock_op.LockStage.{LockStage}
 use Rattle.body_lock.specs.declared.lock_op.LockStage.TheVariants.{Looking, Leaving}
-use Rattle.body_lock.specs.declared.body_read.BodyRead.{BodyRead}
-use Rattle.body_lock.specs.declared.body_write.BodyWrite.{BodyWrite}
-use Rattle.pass_table.specs.Bodies.{IsAlone}
-use Rattle.body_lock.specs.Guarding.{IsReading, IsWriting}
-use Rattle.pass_table.specs.Bodies.{IsCurrent, IsGoneAt}
+use Rattle.pass_table.specs.Bodies.{IsGoneAt}
+use Rattle.body_lock.specs.Answers.{LockAnswers}
 
 -- the operation before its first turn, in a world of these sizes
 abbrev pub locking_of : Config → Id → Mode → LockOp
@@ -41,10 +34,6 @@ turns_from look (Leaving state) = 1
 
 abbrev pub lock_left : LockOp → ℕ
 lock_left operation = turns_from operation.look operation.stage
-
--- a call that is under way holds this stripe, and else it is as it was begun
-abbrev pub HasStripe : Id → Mode → View → View → Type 0
-HasStripe id mode start view = IsCalling start view (Taken (stripe_of start.config id.index) mode ∷ []) Nothing []
 
 -- the look found that the body is gone, and has left the stripe held
 pub record FoundGone (id : Id) (mode : Mode) (start : View) (state : ℕ) (view : View) : Type 0 where
@@ -67,42 +56,6 @@ pub record IsLocking (first : LockOp) (start : View) (operation : LockOp) (view 
 pub record IsLockingSo (mode : Mode) (first : LockOp) (start : View) (operation : LockOp) (view : View) : Type 0 where
   pub so : first.mode ≡ mode
   pub locking : IsLocking first start operation view
-
--- it is locked: the pass guards it, holds no other lock, and all else but what it knows is as it was
-pub record HasLocked (id : Id) (mode : Mode) (start next : View) : Type 0 where
-  pub alone : (number : ℕ) → IsPass start number → IsAlone number id mode next
-  pub now : IsCurrent next
-  pub calling : HasStripe id mode start next
-
--- it was gone at a point: the pass is at rest again, and has added nothing
-pub record WasGone (id : Id) (start next : View) (state : ℕ) : Type 0 where
-  pub gone : AtPoint start next (IsGoneAt start.config id state)
-  pub done : HasDone start next (idle start)
-
--- the guards that are then handed out
-pub record HasReadLock (id : Id) (start next : View) (guard : BodyRead) : Type 0 where
-  pub names : guard.id ≡ id
-  pub good : IsReading guard next
-  pub now : IsCurrent next
-  pub calling : HasStripe id Read start next
-
-pub record HasWriteLock (id : Id) (start next : View) (guard : BodyWrite) : Type 0 where
-  pub names : guard.id ≡ id
-  pub good : IsWriting guard next
-  pub now : IsCurrent next
-  pub calling : HasStripe id Write start next
-
-abbrev pub ReadAnswers : Id → View → View → Result BodyRead Gone → Type 0
-ReadAnswers id start next (Ok guard) = HasReadLock id start next guard
-ReadAnswers id start next (Err refused) = WasGone id start next refused.state
-
-abbrev pub WriteAnswers : Id → View → View → Result BodyWrite Gone → Type 0
-WriteAnswers id start next (Ok guard) = HasWriteLock id start next guard
-WriteAnswers id start next (Err refused) = WasGone id start next refused.state
-
-abbrev pub LockAnswers : Id → Mode → View → View → Result (Unit {0}) Gone → Type 0
-LockAnswers id mode start next (Ok done) = HasLocked id mode start next
-LockAnswers id mode start next (Err refused) = WasGone id start next refused.state
 
 -- the lock that it takes
 abbrev pub takes_at : LookOp → LockStage → Option TakeOp

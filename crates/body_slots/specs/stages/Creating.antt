@@ -79,12 +79,12 @@ pub record IsBegun (first : CreateOp) (start : View) (layer : ℕ) (bounds : Fix
   pub fits : first.user < 2 ^ 32
   pub rest : IsAtRest start
 
-abbrev pub IsMaking : CreateOp → View → CreateOp → View → Type 0
-IsMaking first start operation view = IsBegun first start operation.layer operation.bounds operation.user × AtCreate first start view operation.stage
+abbrev pub CreatesBody : CreateOp → View → CreateOp → View → Type 0
+CreatesBody first start operation view = IsBegun first start operation.layer operation.bounds operation.user × AtCreate first start view operation.stage
 
 -- at its end
-abbrev pub HasMade : CreateOp → View → View → Result Id Full → Type 0
-HasMade first start next answer = HasEnded start next × IsCreateAnswer first.layer first.bounds first.user start next answer
+abbrev pub CreateAnswers : CreateOp → View → View → Result Id Full → Type 0
+CreateAnswers first start next answer = HasEnded start next × IsCreateAnswer first.layer first.bounds first.user start next answer
 
 -- ---- turns
 
@@ -110,4 +110,4 @@ abbrev pub create_takes : CreateOp → Option TakeOp
 create_takes operation = takes_at operation.stage
 
 abbrev pub IsCreateTurn : Turn (Result Id Full) → CreateOp → CreateOp → View → View → Type 0
-IsCreateTurn turn before after view next = IsTurn IsMaking HasMade create_left (λ operation. operation.made) create_takes turn before after view next
+IsCreateTurn turn before after view next = IsTurn CreatesBody CreateAnswers create_left (λ operation. operation.made) create_takes turn before after view next

@@ -1,30 +1,25 @@
 -- Locking several bodies by turns.
-use Rattle.std.specs.Prelude.{◌≡◌, ◌≢◌, ℕ, ◌+◌, ◌-◌, ◌*◌, ◌<◌, ◌≤◌, true, List, [], All, map, length, take, Option, Some, None}
+use Rattle.std.specs.Prelude.{◌≡◌, ◌≢◌, ℕ, ◌+◌, ◌-◌, ◌*◌, ◌<◌, ◌≤◌, true, List, [], All, length, take, Option, Some, None}
 use Rattle.body_ident.specs.Id.{Id}
 use Rattle.core_state.specs.declared.view.Mode.{Mode}
-use Rattle.core_state.specs.declared.view.LockStep.{LockStep}
-use Rattle.core_state.specs.declared.view.LockStep.TheVariants.{Taken}
 use Rattle.core_state.specs.declared.view.Task.TheVariants.{Nothing}
 use Rattle.core_state.specs.declared.view.View.{View}
-use Rattle.core_state.specs.Log.{IsPrefix}
-use Rattle.core_state.specs.View.{IsPass}
+use Rattle.core_state.specs.View.{IsPass, mode_of, Holds}
 use Rattle.pass_table.specs.declared.turn.Turn.{Turn}
 use Rattle.pass_table.specs.declared.take_op.TakeOp.{TakeOp}
-use Rattle.pass_table.specs.TakeTurns.{taking_of, IsTaking, turns_left}
+use Rattle.pass_table.specs.TakeTurns.{taking_of, IsTaking, turns_left, taking-later}
 use Rattle.pass_table.specs.Knowing.{KnowsMore}
 use Rattle.pass_table.specs.Holding.{IsAtRest}
-use Rattle.pass_table.specs.Calls.{AtPoint, IsTurn}
+use Rattle.pass_table.specs.Calls.{IsTurn}
 use Rattle.pass_table.specs.Work.{IsCalling}
 use Rattle.std.proofs.Common.{ap, ◌∙◌}
 use Rattle.std.proofs.lemmas.List.Elements.{All-weaker}
-use Rattle.pass_table.specs.TakeTurns.{taking-later}
 use Rattle.pass_table.proofs.TakingTurns.{taking-anew}
 use Rattle.pass_table.proofs.Calling.{point-later}
 use Rattle.pass_table.proofs.WorkLater.{worked-more}
 use Rattle.pass_table.proofs.Between.{more-trans}
 use Rattle.pass_table.proofs.LockedBodies.{guarding-more}
-use Rattle.pass_table.specs.Bodies.{live_state, IsGuarding, IsCurrent, Loaded, IsGoneAt}
-use Rattle.core_state.specs.View.{mode_of, Holds}
+use Rattle.pass_table.specs.Bodies.{live_state, Loaded, IsGoneAt}
 use Rattle.word_map.specs.Names.{stripe_of}
 use Rattle.word_map.specs.declared.name.Name.TheVariants.{State}
 use Rattle.body_lock.specs.declared.multi_guard.MultiEntry.{MultiEntry}
@@ -35,16 +30,8 @@ use Rattle.body_lock.specs.declared.multi_op.Wanted.{Wanted}
 use Rattle.body_lock.specs.declared.multi_op.MultiStage.{MultiStage}
 use Rattle.body_lock.specs.declared.multi_op.MultiStage.TheVariants.{Taking, Held}
 use Rattle.body_lock.specs.declared.multi_op.LockMultiOp.{LockMultiOp}
-use Rattle.body_lock.specs.Stripes.{has_stripe, stripes_below, IsNext, HasNone, AreStripesOf, HoldsBelow, HoldsAll}
-use Rattle.body_lock.specs.Multi.{IsMultiGood}
-use Rattle.body_lock.specs.Settled.{IsEntrySettled}
-
--- the ids of bodies that are wanted, and of those that were looked at
-abbrev pub wanted_ids : List Wanted → List Id
-wanted_ids wanted = map (λ w. w.id) wanted
-
-abbrev pub body_ids : List LockedBody → List Id
-body_ids bodies = map (λ b. b.id) bodies
+use Rattle.body_lock.specs.Stripes.{has_stripe, IsNext, HasNone, AreStripesOf, HoldsBelow}
+use Rattle.body_lock.specs.Answers.{HasMultiLock, HeldSince, IsEntryRight, IsReachRight, body_ids, takes_below, wanted_ids}
 
 -- two turns for each stripe at most, and then one for each body
 abbrev pub turns_of : ℕ → ℕ → MultiStage → ℕ
@@ -54,14 +41,6 @@ turns_of wanted read Held = wanted - read
 abbrev pub multi_left : LockMultiOp → ℕ
 multi_left operation = turns_of (length operation.wanted.items) (length operation.bodies.items) operation.stage
 
--- What was found of a body is right: it is guarded, or at a point since all were held its state word said that it is gone
-abbrev pub IsReachRight : ℕ → Mode → View → View → Id → MultiEntry → Type 0
-IsReachRight number mode held view id Reached = IsGuarding number id mode view
-IsReachRight number mode held view id (Gone state) = AtPoint held view (IsGoneAt held.config id state)
-
-abbrev pub IsEntryRight : ℕ → Mode → View → View → LockedBody → Type 0
-IsEntryRight number mode held view body = IsReachRight number mode held view body.id body.entry
-
 -- this stripe is being taken, and of all locks just those of the set below it are held
 pub record TakesNext (bits : ℕ) (mode : Mode) (bodies : List LockedBody) (stripe : ℕ) (taking : TakeOp) (view : View) : Type 0 where
   pub goes : IsTaking (taking_of stripe mode) view taking view
@@ -69,12 +48,6 @@ pub record TakesNext (bits : ℕ) (mode : Mode) (bodies : List LockedBody) (stri
   pub low : stripe < 64
   pub holds : HoldsBelow view bits mode stripe
   pub none : bodies ≡ []
-
--- at one point all of them were held, and they are since
-pub record HeldSince (bits : ℕ) (mode : Mode) (start held view : View) : Type 0 where
-  pub reached : IsPrefix start.known held.known
-  pub all : HoldsAll held bits mode
-  pub since : KnowsMore held view
 
 -- the state words are being read
 pub record ReadsStates (number bits : ℕ) (mode : Mode) (wanted : List Wanted) (bodies : List LockedBody) (start view : View) : Type 0 where
@@ -87,10 +60,6 @@ pub record ReadsStates (number bits : ℕ) (mode : Mode) (wanted : List Wanted) 
 abbrev pub IsAtMulti : ℕ → ℕ → Mode → List Wanted → List LockedBody → View → MultiStage → View → Type 0
 IsAtMulti number bits mode wanted bodies start (Taking stripe taking) view = TakesNext bits mode bodies stripe taking view
 IsAtMulti number bits mode wanted bodies start Held view = ReadsStates number bits mode wanted bodies start view
-
--- the steps that take the stripes of the set below this one: each once, ascending
-abbrev pub takes_below : ℕ → Mode → ℕ → List LockStep
-takes_below bits mode end = map (λ stripe. Taken stripe mode) (stripes_below bits end)
 
 -- the stripes of the set below this one are taken
 abbrev pub taken_to : MultiStage → ℕ
@@ -117,21 +86,6 @@ pub record IsLockingAll (first : LockMultiOp) (start : View) (operation : LockMu
   pub calling : IsCalling start view (takes_below first.stripes.bits first.mode (taken_to operation.stage)) Nothing []
   pub stage : IsAtMulti number first.stripes.bits first.mode first.wanted.items operation.bodies.items start operation.stage view
 
--- All bodies are locked: their stripes were taken in ascending order, each once, were all held at one point and are since;
--- what was found of each body is right; at one point, that at which the call ends, it is so of all of them; and the pass has
--- added nothing
-pub record HasMultiLock (first : LockMultiOp) (start next : View) (guard : MultiGuard) : Type 0 where
-  pub good : IsMultiGood guard next
-  pub mode : guard.mode ≡ first.mode
-  pub ids : body_ids guard.bodies.items ≡ wanted_ids first.wanted.items
-  pub stripes : AreStripesOf start.config (body_ids guard.bodies.items) guard.stripes.bits
-  pub held : View
-  pub holds : HeldSince guard.stripes.bits guard.mode start held next
-  pub each : All (IsEntryRight guard.number guard.mode held next) guard.bodies.items
-  pub settled : All (IsEntrySettled start.config start.known next.known) guard.bodies.items
-  pub now : IsCurrent next
-  pub calling : IsCalling start next (takes_below guard.stripes.bits guard.mode 64) Nothing []
-
 -- the lock that it takes
 abbrev pub takes_at : MultiStage → Option TakeOp
 takes_at (Taking stripe taking) = Some taking
@@ -143,13 +97,6 @@ multi_takes operation = takes_at operation.stage
 -- what a turn of it owes
 abbrev pub IsMultiTurn : Turn MultiGuard → LockMultiOp → LockMultiOp → View → View → Type 0
 IsMultiTurn turn before after view next = IsTurn IsLockingAll HasMultiLock multi_left (λ operation. None) multi_takes turn before after view next
-
--- the same, by the ids and the mode that were asked for
-pub record LocksAll (ids : List Id) (asked : Mode) (start next : View) (guard : MultiGuard) : Type 0 where
-  pub first : LockMultiOp
-  pub wants : wanted_ids first.wanted.items ≡ ids
-  pub so : first.mode ≡ asked
-  pub locked : HasMultiLock first start next guard
 
 -- what comes once the stripes below one are held: the next one, or none is left
 abbrev pub ComesAfter : ℕ → Mode → ℕ → View → MultiStage → Type 0

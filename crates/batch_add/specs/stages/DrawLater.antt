@@ -13,7 +13,7 @@ use Rattle.core_state.proofs.Beginning.{contains_first, contains_flat}
 use Rattle.pass_table.specs.Knowing.{KnowsMore}
 use Rattle.batch_add.specs.declared.tree_drawing.TreeDrawing.{TreeDrawing}
 use Rattle.batch_add.specs.Drawing.{node_at}
-use Rattle.batch_add.specs.DrawStages.{Planned, Reached, HasDrawnUpTo, reached, IsDrawing}
+use Rattle.batch_add.specs.stages.DrawStages.{Planned, Reached, HasDrawnUpTo, reached, IsDrawing}
 use Rattle.pass_table.proofs.WorkLater.{worked-more, worked-batches}
 
 -- ---- own nodes

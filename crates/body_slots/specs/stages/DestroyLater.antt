@@ -24,14 +24,15 @@ use Rattle.pass_table.proofs.LockedBodies.{phase-steady, live-more}
 use Rattle.pass_table.proofs.WorkLater.{worked-role, worked-sizes, worked-mode, worked-more}
 use Rattle.pass_table.specs.Work.{IsCalling}
 use Rattle.body_look.specs.declared.look_op.LookOp.{LookOp}
-use Rattle.body_look.specs.LookLater.{looking-later}
+use Rattle.body_look.specs.stages.LookLater.{looking-later}
 use Rattle.body_slots.specs.declared.answers.DestroyRefused.{DestroyRefused}
 use Rattle.body_slots.specs.declared.answers.DestroyRefused.TheVariants.{Gone, InUse}
 use Rattle.body_slots.specs.declared.destroy_op.DestroyStage.{DestroyStage}
 use Rattle.body_slots.specs.declared.destroy_op.DestroyStage.TheVariants.{Looking, TakingList, Locked, Headed, Linked, InFront, Destroyed, Leaving}
 use Rattle.body_slots.specs.declared.destroy_op.DestroyOp.{DestroyOp}
-use Rattle.body_slots.specs.Later.{makes-later, listed-steady}
-use Rattle.body_slots.specs.Destroying.{HasDestroyed, IsDestroyAnswer, stripe_taken, both_taken, KnowsOut, AtDestroy, IsUnmaking}
+use Rattle.body_slots.specs.stages.Later.{makes-later, listed-steady}
+use Rattle.body_slots.specs.Answers.{HasDestroyed, IsDestroyAnswer}
+use Rattle.body_slots.specs.stages.Destroying.{stripe_taken, both_taken, KnowsOut, AtDestroy, DestroysBody}
 
 -- ---- locks
 
@@ -119,5 +120,5 @@ module _ (id : Id) (start view next : View) (rest : IsAtRest start) (more : Know
     answer-later id start view next answer (more.since, more.known) (λ entries adds. adds-more start view next entries (worked-role start view _ h.2) adds more) h.4,
   )
 
-pub destroying-later : (first : DestroyOp) (start : View) (operation : DestroyOp) (view next : View) → KnowsMore view next → IsUnmaking first start operation view → IsUnmaking first start operation next
+pub destroying-later : (first : DestroyOp) (start : View) (operation : DestroyOp) (view next : View) → KnowsMore view next → DestroysBody first start operation view → DestroysBody first start operation next
 destroying-later first start operation view next more making = (making.0, making.1, stage-later first.id start view next making.1.rest more operation.look operation.stage making.2)

@@ -32,7 +32,7 @@ use Rattle.body_look.specs.declared.look_op.LookDepth.{LookDepth}
 use Rattle.body_look.specs.declared.look_op.LookStage.{LookStage}
 use Rattle.body_look.specs.declared.look_op.LookStage.TheVariants.{Taking, Striped, Live, Joining, Placed}
 use Rattle.body_look.specs.declared.look_op.LookOp.{LookOp}
-use Rattle.body_look.specs.Looking.{HasOnly, HasStripe, Guards, AtLive, AtJoin, AtLook, IsLooking}
+use Rattle.body_look.specs.stages.Looking.{HasOnly, HasStripe, Guards, AtLive, AtJoin, AtLook, IsLooking}
 
 -- ---- what a pass had for itself before the call
 

@@ -21,11 +21,11 @@ use Rattle.pass_table.specs.Bodies.{KnowsLive, IsGuarded}
 use Rattle.pass_table.proofs.Calling.{point-later}
 use Rattle.pass_table.proofs.LockedBodies.{guarded-more, word-stays, layer-stays, phase-stays}
 use Rattle.body_look.specs.declared.look_op.LookOp.{LookOp}
-use Rattle.body_look.specs.LookLater.{looking-later}
+use Rattle.body_look.specs.stages.LookLater.{looking-later}
 use Rattle.batch_add.specs.declared.mark_op.MarkStage.{MarkStage}
 use Rattle.batch_add.specs.declared.mark_op.MarkStage.TheVariants.{Looking, Outside, Sides, Boxed, Leaving, Refusing}
 use Rattle.batch_add.specs.declared.mark_op.Marking.{Marking}
-use Rattle.batch_add.specs.Marking.{Marks, current, marks_of, IsBegunFor, HasStripe, IsAtBody, KnowsOut, KnowsHere, KnowsSides, AtMark, IsMarking}
+use Rattle.batch_add.specs.stages.Marking.{Marks, current, marks_of, IsBegunFor, HasStripe, IsAtBody, KnowsOut, KnowsHere, KnowsSides, AtMark, IsMarking}
 use Rattle.pass_table.proofs.WorkLater.{worked-sizes, worked-pass, worked-mode, worked-more}
 
 -- ---- locks

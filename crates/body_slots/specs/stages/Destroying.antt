@@ -1,69 +1,33 @@
--- How destroying a body goes, turn by turn, and what it answers.
-use Rattle.std.specs.Prelude.{◌≡◌, ℕ, ◌+◌, ◌<◌, List, [], ◌∷◌, ◌++◌, Option, Some, None, Result, MatchResult}
+-- How destroying a body goes, turn by turn.
+use Rattle.std.specs.Prelude.{◌≡◌, ℕ, ◌+◌, ◌<◌, List, [], ◌∷◌, ◌++◌, Option, Some, None, Result}
 use Rattle.body_ident.specs.Id.{Id}
-use Rattle.scene_model.specs.declared.body_view.Phase.{Phase as BodyPhase}
-use Rattle.scene_model.specs.declared.body_view.Phase.TheVariants.{Out}
 use Rattle.scene_model.specs.declared.entry.Entry.{Entry}
 use Rattle.scene_model.specs.declared.entry.Entry.TheVariants.{Destroy}
-use Rattle.scene_model.specs.Cause.{HasIdBody, IsCauseAt, in_use}
 use Rattle.word_map.specs.declared.config.Config.{Config}
 use Rattle.word_map.specs.declared.name.Name.TheVariants.{SlotHead, SlotNext, Phase}
 use Rattle.word_map.specs.Names.{index_lock, stripe_of}
-use Rattle.core_state.specs.declared.item.Item.{Item}
 use Rattle.core_state.specs.declared.view.Mode.TheVariants.{Write}
 use Rattle.core_state.specs.declared.view.LockStep.{LockStep}
 use Rattle.core_state.specs.declared.view.LockStep.TheVariants.{Taken as TakenStep, Released}
 use Rattle.core_state.specs.declared.view.Task.TheVariants.{Nothing, Destroying}
 use Rattle.core_state.specs.declared.view.View.{View}
 use Rattle.core_state.specs.View.{known_word, mode_of}
-use Rattle.core_state.specs.Guards.{scene_at}
 use Rattle.core_state.specs.Encoding.{phase_out}
 use Rattle.pass_table.specs.declared.take_op.TakeOp.{TakeOp}
 use Rattle.pass_table.specs.declared.turn.Turn.{Turn}
 use Rattle.pass_table.specs.TakeTurns.{taking_of, IsTaking, turns_left}
 use Rattle.pass_table.specs.Holding.{IsAtRest}
-use Rattle.pass_table.specs.Calls.{Adds, AtPoint, MakesAt, IsTurn}
-use Rattle.pass_table.specs.Bodies.{KnowsLive, IsGoneAt}
+use Rattle.pass_table.specs.Calls.{IsTurn}
+use Rattle.pass_table.specs.Bodies.{KnowsLive}
 use Rattle.pass_table.specs.Work.{IsCalling}
 use Rattle.body_look.specs.declared.look_op.LookDepth.TheVariants.{Phase as ItsPhase}
 use Rattle.body_look.specs.declared.look_op.LookOp.{LookOp}
-use Rattle.body_look.specs.Looking.{looking_of, IsLooking, look_left, look_takes}
+use Rattle.body_look.specs.stages.Looking.{looking_of, IsLooking, look_left, look_takes}
 use Rattle.body_slots.specs.declared.answers.DestroyRefused.{DestroyRefused}
-use Rattle.body_slots.specs.declared.answers.DestroyRefused.TheVariants.{Gone, InUse}
 use Rattle.body_slots.specs.declared.destroy_op.DestroyStage.{DestroyStage}
 use Rattle.body_slots.specs.declared.destroy_op.DestroyStage.TheVariants.{Looking, TakingList, Locked, Headed, Linked, InFront, Destroyed, Leaving}
 use Rattle.body_slots.specs.declared.destroy_op.DestroyOp.{DestroyOp}
-use Rattle.body_slots.specs.Answers.{HasEnded}
-
--- ---- answers
-
--- the id's body was destroyed, by the one entry that the call made: just before it, it is live and out
-pub record HasDestroyed (id : Id) (start next : View) : Type 0 where
-  pub adds : Adds start next (Destroy id.index ∷ [])
-  pub at : MakesAt start next (Destroy id.index) (λ log. HasIdBody (scene_at start.config log) id (λ r. r.phase ≡ Out))
-
--- nothing was destroyed: so it was at a point of the call
-pub record WasGone (id : Id) (start next : View) (state : ℕ) : Type 0 where
-  pub adds : Adds start next []
-  pub at : AtPoint start next (IsGoneAt start.config id state)
-
--- the id's body is live, and in this phase, in which it is held or in the broad phase
-pub record IsInUseAt (c : Config) (id : Id) (phase : BodyPhase) (log : List Item) : Type 0 where
-  pub cause : IsCauseAt (in_use id) (scene_at c log)
-  pub is : HasIdBody (scene_at c log) id (λ r. r.phase ≡ phase)
-
-pub record WasInUse (id : Id) (start next : View) (phase : BodyPhase) : Type 0 where
-  pub adds : Adds start next []
-  pub at : AtPoint start next (IsInUseAt start.config id phase)
-
--- why it was refused
-abbrev pub WasRefused : Id → View → View → DestroyRefused → Type 0
-WasRefused id start next (Gone state) = WasGone id start next state
-WasRefused id start next (InUse phase) = WasInUse id start next phase
-
--- what a destruction answers is so
-abbrev pub IsDestroyAnswer : Id → View → View → Result (Unit {0}) DestroyRefused → Type 0
-IsDestroyAnswer id start next answer = MatchResult answer (λ _. HasDestroyed id start next) (WasRefused id start next)
+use Rattle.body_slots.specs.Answers.{HasEnded, HasDestroyed, IsDestroyAnswer}
 
 -- ---- stages
 
@@ -107,12 +71,12 @@ pub record IsBegunFor (id : Id) (start : View) : Type 0 where
   pub striped : stripe_of start.config id.index < index_lock start.config
   pub rest : IsAtRest start
 
-abbrev pub IsUnmaking : DestroyOp → View → DestroyOp → View → Type 0
-IsUnmaking first start operation view = (operation.id ≡ first.id) × IsBegunFor first.id start × AtDestroy first.id start view operation.look operation.stage
+abbrev pub DestroysBody : DestroyOp → View → DestroyOp → View → Type 0
+DestroysBody first start operation view = (operation.id ≡ first.id) × IsBegunFor first.id start × AtDestroy first.id start view operation.look operation.stage
 
 -- at its end
-abbrev pub HasUnmade : DestroyOp → View → View → Result (Unit {0}) DestroyRefused → Type 0
-HasUnmade first start next answer = HasEnded start next × IsDestroyAnswer first.id start next answer
+abbrev pub DestroyAnswers : DestroyOp → View → View → Result (Unit {0}) DestroyRefused → Type 0
+DestroyAnswers first start next answer = HasEnded start next × IsDestroyAnswer first.id start next answer
 
 -- ---- turns
 
@@ -139,4 +103,4 @@ abbrev pub destroy_takes : DestroyOp → Option TakeOp
 destroy_takes operation = takes_at operation.look operation.stage
 
 abbrev pub IsDestroyTurn : Turn (Result (Unit {0}) DestroyRefused) → DestroyOp → DestroyOp → View → View → Type 0
-IsDestroyTurn turn before after view next = IsTurn IsUnmaking HasUnmade destroy_left (λ operation. operation.made) destroy_takes turn before after view next
+IsDestroyTurn turn before after view next = IsTurn DestroysBody DestroyAnswers destroy_left (λ operation. operation.made) destroy_takes turn before after view next

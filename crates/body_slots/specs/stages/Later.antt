@@ -31,7 +31,7 @@ use Rattle.body_slots.specs.declared.create_op.CreateStage.{CreateStage}
 use Rattle.body_slots.specs.declared.create_op.CreateStage.TheVariants.{Taking, Locked, First, Linked, Taken, Fields, Filled, Leaving}
 use Rattle.body_slots.specs.declared.create_op.CreateOp.{CreateOp}
 use Rattle.body_slots.specs.Answers.{IsCreateAnswer}
-use Rattle.body_slots.specs.Creating.{field_name, list_taken, IsTakenOff, AtCreate, IsMaking}
+use Rattle.body_slots.specs.stages.Creating.{field_name, list_taken, IsTakenOff, AtCreate, CreatesBody}
 
 -- ---- locks
 
@@ -124,5 +124,5 @@ module _ (first : CreateOp) (start view next : View) (rest : IsAtRest start) (mo
     answer-later first.layer first.bounds first.user start view next answer (more.since, more.known) (λ entries adds. adds-more start view next entries (worked-role start view _ h.1) adds more) h.2,
   )
 
-pub creating-later : (first : CreateOp) (start : View) (operation : CreateOp) (view next : View) → KnowsMore view next → IsMaking first start operation view → IsMaking first start operation next
+pub creating-later : (first : CreateOp) (start : View) (operation : CreateOp) (view next : View) → KnowsMore view next → CreatesBody first start operation view → CreatesBody first start operation next
 creating-later first start operation view next more making = (making.0, stage-later first start view next making.0.rest more operation.stage making.1)

@@ -25,7 +25,7 @@ use Rattle.body_look.specs.declared.body_found.BodyFound.{BodyFound}
 use Rattle.body_look.specs.declared.body_found.BodyFound.TheVariants.{Gone as FoundGone, Live as FoundLive, Out as FoundOut, In as FoundIn, Held as FoundHeld, Joined as FoundJoined}
 use Rattle.body_look.specs.declared.look_op.LookDepth.TheVariants.{Phase as ItsPhase}
 use Rattle.body_look.specs.declared.look_op.LookOp.{LookOp}
-use Rattle.body_look.specs.Looking.{looking_of, IsLooking, look_left, look_takes}
+use Rattle.body_look.specs.stages.Looking.{looking_of, IsLooking, look_left, look_takes}
 use Rattle.batch_add.specs.declared.mark_op.MarkRefused.{MarkRefused}
 use Rattle.batch_add.specs.declared.mark_op.MarkRefused.TheVariants.{Gone, Held, AlreadyIn}
 use Rattle.batch_add.specs.declared.mark_op.MarkStage.{MarkStage}

@@ -7,15 +7,15 @@ use Rattle.batch_add.specs.declared.prepare_op.PrepareStage.TheVariants.{Empty, 
 use Rattle.batch_add.specs.declared.prepare_op.PrepareOp.{PrepareOp}
 use Rattle.pass_table.specs.Work.{begun}
 use Rattle.pass_table.proofs.WorkLater.{worked-more}
-use Rattle.batch_add.specs.Searching.{IsSearching, searching-later}
-use Rattle.batch_add.specs.TakingNodes.{IsTakingNodes, taking_nodes-later}
-use Rattle.batch_add.specs.Marking.{IsMarking}
-use Rattle.batch_add.specs.MarkLater.{marking-later}
-use Rattle.batch_add.specs.DrawStages.{IsDrawing}
-use Rattle.batch_add.specs.DrawLater.{drawing-later}
-use Rattle.batch_add.specs.GivingUp.{IsGivingUp}
-use Rattle.batch_add.specs.GivingLater.{giving-later}
-use Rattle.batch_add.specs.Preparing.{IsInPart, IsInSome, CameToSearch, CameToNodes, CameToMarks, CameToDraw, CameToGive, AtPrepare, IsPreparing}
+use Rattle.batch_add.specs.stages.Searching.{IsSearching, searching-later}
+use Rattle.batch_add.specs.stages.TakingNodes.{IsTakingNodes, taking_nodes-later}
+use Rattle.batch_add.specs.stages.Marking.{IsMarking}
+use Rattle.batch_add.specs.stages.MarkLater.{marking-later}
+use Rattle.batch_add.specs.stages.DrawStages.{IsDrawing}
+use Rattle.batch_add.specs.stages.DrawLater.{drawing-later}
+use Rattle.batch_add.specs.stages.GivingUp.{IsGivingUp}
+use Rattle.batch_add.specs.stages.GivingLater.{giving-later}
+use Rattle.batch_add.specs.stages.Preparing.{IsInPart, IsInSome, CameToSearch, CameToNodes, CameToMarks, CameToDraw, CameToGive, AtPrepare, IsPreparing}
 
 module _ {S : Type 0} (under_way : S → View → S → View → Type 0) (may_look : (first : S) (start : View) (operation : S) (view next : View) → KnowsMore view next → under_way first start operation view → under_way first start operation next)
     (came : View → S → Type 0) (view next : View) (more : KnowsMore view next) where

@@ -3,12 +3,12 @@ ghost use Rattle.std.specs.Prelude.{◌≡◌, ◌<◌, ◌≤◌, length, All, 
 ghost use Rattle.pass_table.specs.Passes.{view_of, IsOf, IsIdle};
 ghost use Rattle.batch_add.specs.Prepared.{IsGood};
 
-use crate::bodies::{make, make_first, unmake};
+use crate::bodies::{create_body, create_first, destroy_body};
 use crate::held_batches::{
     attach, batch_sizes, drop_batch, hold, is_held_second, is_without, is_without_nodes,
     is_without_slot,
 };
-use crate::opened::open_three;
+use crate::opened::{open_three, open_two, pair_sizes};
 use batch_add::{PrepareOp, PrepareRefused, Prepared};
 use body_ident::BodyId;
 use body_slots::DestroyRefused;
@@ -26,7 +26,7 @@ fn a_body_is_held_then_out_then_in(rt: HostRuntime) -> Result<(), Fail> {
         panic!(rt; "no world")
     };
     let id = BodyId::new(0, 1);
-    assert!(rt; make(&rt, &world, &mut pass, 7) == Ok(id));
+    assert!(rt; create_body(&rt, &world, &mut pass, 7) == Ok(id));
     let Ok(batch) = hold(&rt, alloc, &world, &mut pass, &[id]) else {
         panic!(rt; "not prepared")
     };
@@ -35,7 +35,7 @@ fn a_body_is_held_then_out_then_in(rt: HostRuntime) -> Result<(), Fail> {
         panic!(rt; "not prepared again")
     };
     attach(&world, &mut pass, batch);
-    let joined = unmake(&rt, &world, &mut pass, id);
+    let joined = destroy_body(&rt, &world, &mut pass, id);
     assert!(rt; joined == Err(DestroyRefused::InUse { phase: Phase::In }));
     Ok(())
 }
@@ -47,7 +47,7 @@ fn the_slot_of_a_batch_is_its_own(rt: HostRuntime) -> Result<(), Fail> {
         panic!(rt; "no world")
     };
     let (a, b) = (BodyId::new(0, 1), BodyId::new(1, 1));
-    assert!(rt; make_first(&rt, &world, &mut pass, 2));
+    assert!(rt; create_first(&rt, &world, &mut pass, 2));
     let Ok(batch) = hold(&rt, alloc, &world, &mut pass, &[a]) else {
         panic!(rt; "not prepared")
     };
@@ -64,21 +64,24 @@ fn the_slot_of_a_batch_is_its_own(rt: HostRuntime) -> Result<(), Fail> {
 #[test]
 fn nodes_are_wanting_until_a_batch_is_given_up(rt: HostRuntime) -> Result<(), Fail> {
     let alloc = rt.alloc();
-    let Some((world, mut pass, mut other, _third)) = open_three(alloc, batch_sizes(2, 1)) else {
+    let Some((world, mut pass, mut other)) = open_two(alloc, pair_sizes(4, 1, 2, 1)) else {
         panic!(rt; "no world")
     };
     let (a, b) = (BodyId::new(0, 1), BodyId::new(1, 1));
-    assert!(rt; make_first(&rt, &world, &mut pass, 2));
+    assert!(rt; create_first(&rt, &world, &mut pass, 2));
     let Ok(batch) = hold(&rt, alloc, &world, &mut pass, &[a, b]) else {
         panic!(rt; "not prepared")
     };
+    other.look(&world);
     let refused = is_without_nodes(hold(&rt, alloc, &world, &mut other, &[a]), 1, 0);
     drop_batch(&rt, &world, &mut pass, batch);
     assert!(rt; refused);
+    other.meet(&world, &mut pass);
     let Ok(batch) = hold(&rt, alloc, &world, &mut other, &[a]) else {
         panic!(rt; "the node was not given back")
     };
     attach(&world, &mut other, batch);
+    assert!(rt; is_in(&rt, &world, &mut pass, a));
     Ok(())
 }
 
@@ -88,7 +91,7 @@ fn slots_and_nodes_are_taken_from_the_first_on(rt: HostRuntime) -> Result<(), Fa
     let Some((world, mut pass, mut other, mut third)) = open_three(alloc, batch_sizes(2, 3)) else {
         panic!(rt; "no world")
     };
-    assert!(rt; make_first(&rt, &world, &mut pass, 6));
+    assert!(rt; create_first(&rt, &world, &mut pass, 6));
     let ids = [
         BodyId::new(0, 1),
         BodyId::new(1, 1),
@@ -120,7 +123,7 @@ fn a_pass_prepares_two_batches(rt: HostRuntime) -> Result<(), Fail> {
     let Some((world, mut pass, _second, _third)) = open_three(alloc, batch_sizes(2, 2)) else {
         panic!(rt; "no world")
     };
-    assert!(rt; make_first(&rt, &world, &mut pass, 2));
+    assert!(rt; create_first(&rt, &world, &mut pass, 2));
     let (a, b) = (BodyId::new(0, 1), BodyId::new(1, 1));
     let Ok(first) = hold(&rt, alloc, &world, &mut pass, &[a]) else {
         panic!(rt; "not prepared")
@@ -142,12 +145,12 @@ fn a_body_that_is_held_is_not_marked(rt: HostRuntime) -> Result<(), Fail> {
         panic!(rt; "no world")
     };
     let (a, b) = (BodyId::new(0, 1), BodyId::new(1, 1));
-    assert!(rt; make_first(&rt, &world, &mut pass, 2));
+    assert!(rt; create_first(&rt, &world, &mut pass, 2));
     let Ok(batch) = hold(&rt, alloc, &world, &mut pass, &[a]) else {
         panic!(rt; "not prepared")
     };
     let refused = is_held_second(hold(&rt, alloc, &world, &mut other, &[b, a]));
-    let free = unmake(&rt, &world, &mut other, b).is_ok();
+    let free = destroy_body(&rt, &world, &mut other, b).is_ok();
     attach(&world, &mut pass, batch);
     assert!(rt; refused);
     assert!(rt; free);
@@ -184,7 +187,7 @@ fn is_in<R: Wait>(rt: &R, world: &World, pass: &mut Pass, id: BodyId) -> bool
     requires below { id.index < world.now.map.bodies }
     ensures idle { IsIdle world.now pass.new }
 {
-    unmake(rt, world, pass, id) == Err(DestroyRefused::InUse { phase: Phase::In })
+    destroy_body(rt, world, pass, id) == Err(DestroyRefused::InUse { phase: Phase::In })
 }
 
 #[test]
@@ -194,7 +197,7 @@ fn two_threads_prepare_beside_each_other(rt: HostRuntime) -> Result<(), Fail> {
         panic!(rt; "no world")
     };
     let ids = [BodyId::new(0, 1), BodyId::new(1, 1), BodyId::new(2, 1)];
-    assert!(rt; make_first(&rt, &world, &mut pass, 3));
+    assert!(rt; create_first(&rt, &world, &mut pass, 3));
     let (one, other) = join(
         &rt,
         || rounds(&rt, alloc, &world, first, ids[0]),
@@ -208,20 +211,29 @@ fn two_threads_prepare_beside_each_other(rt: HostRuntime) -> Result<(), Fail> {
         panic!(rt; "a slot or a node was lost")
     };
     attach(&world, &mut pass, batch);
-    assert!(rt; make(&rt, &world, &mut pass, 7) == Ok(BodyId::new(3, 1)));
+    assert!(rt; create_body(&rt, &world, &mut pass, 7) == Ok(BodyId::new(3, 1)));
     let last = hold(&rt, alloc, &world, &mut pass, &[BodyId::new(3, 1)]);
     assert!(rt; is_without(last, [1024, 1025, 1026]));
     Ok(())
 }
 
-/// Prepares a batch in layer 0 turn by turn. Answers the marks and the unmarks that the turns tell, each index counted by one
-/// more than itself, and whether it was refused since the second body is held.
+/// What a turn tells of its entry.
+#[derive(Clone, Copy, PartialEq, Eq)]
+enum SeenEntry {
+    Nothing,
+    Mark(u32),
+    Unmark(u32),
+    Other,
+}
+
+/// Prepares a batch in layer 0 turn by turn. Answers the entries that the turns tell, the first two in order and nothing else
+/// where there are more, and whether it was refused since the second body is held.
 fn hold_by_turns(
     alloc: Global,
     world: &World,
     pass: &mut Pass,
     ids: &[BodyId],
-) -> Option<(u32, u32, bool)>
+) -> Option<([SeenEntry; 2], bool)>
     requires idle { IsIdle world.now pass.old }
     requires layers { 0 < world.now.map.layers }
     requires below { All (λ id. id.index < world.now.map.bodies) ids.now }
@@ -231,48 +243,55 @@ fn hold_by_turns(
     let Ok(mut preparing) = PrepareOp::new(alloc, world, pass, 0, ids) else {
         return None;
     };
-    let (mut marks, mut unmarks) = (0u32, 0u32);
+    let mut entries = [SeenEntry::Nothing; 2];
     for _ in 0..200 {
         match preparing.turn(world, pass) {
-            Turn::Done(answer) => return Some((marks, unmarks, is_held_second(answer))),
+            Turn::Done(answer) => return Some((entries, is_held_second(answer))),
             Turn::Again { .. } => return None,
-            Turn::More => {
-                let (marked, unmarked) = told(preparing.made());
-                marks = marks.saturating_add(marked);
-                unmarks = unmarks.saturating_add(unmarked);
-            }
+            Turn::More => entries = and_then(entries, told(preparing.made())),
         }
     }
     None
 }
 
-/// What a turn tells, as a mark and as an unmark.
-fn told(made: Option<&Made>) -> (u32, u32) {
+/// What a turn tells.
+fn told(made: Option<&Made>) -> SeenEntry {
     match made {
-        None => (0, 0),
+        None => SeenEntry::Nothing,
         Some(made) => match made.entry {
-            Entry::Mark { index } => (index.saturating_add(1), 0),
-            Entry::Unmark { index } => (0, index.saturating_add(1)),
-            _ => (0, 0),
+            Entry::Mark { index } => SeenEntry::Mark(index),
+            Entry::Unmark { index } => SeenEntry::Unmark(index),
+            _ => SeenEntry::Other,
         },
+    }
+}
+
+/// Two entries, and one that comes after them.
+fn and_then(entries: [SeenEntry; 2], next: SeenEntry) -> [SeenEntry; 2] {
+    match (entries, next) {
+        (_, SeenEntry::Nothing) => entries,
+        ([SeenEntry::Nothing, _], _) => [next, SeenEntry::Nothing],
+        ([first, SeenEntry::Nothing], _) => [first, next],
+        _ => [SeenEntry::Other; 2],
     }
 }
 
 #[test]
 fn marks_of_a_refused_batch_are_taken_back(rt: HostRuntime) -> Result<(), Fail> {
     let alloc = rt.alloc();
-    let Some((world, mut pass, mut other, _third)) = open_three(alloc, batch_sizes(2, 4)) else {
+    let Some((world, mut pass, mut other)) = open_two(alloc, pair_sizes(4, 1, 2, 4)) else {
         panic!(rt; "no world")
     };
     let (a, b) = (BodyId::new(0, 1), BodyId::new(1, 1));
-    assert!(rt; make_first(&rt, &world, &mut pass, 2));
+    assert!(rt; create_first(&rt, &world, &mut pass, 2));
     let Ok(batch) = hold(&rt, alloc, &world, &mut pass, &[a]) else {
         panic!(rt; "not prepared")
     };
+    other.look(&world);
     let seen = hold_by_turns(alloc, &world, &mut other, &[b, a]);
     attach(&world, &mut pass, batch);
-    assert!(rt; seen == Some((2, 2, true)));
-    assert!(rt; unmake(&rt, &world, &mut pass, b).is_ok());
+    assert!(rt; seen == Some(([SeenEntry::Mark(1), SeenEntry::Unmark(1)], true)));
+    assert!(rt; destroy_body(&rt, &world, &mut pass, b).is_ok());
     Ok(())
 }
 
@@ -304,7 +323,7 @@ fn a_batch_is_prepared_once_there_is_memory(rt: HostRuntime) -> Result<(), Fail>
         panic!(rt; "no world")
     };
     let id = BodyId::new(0, 1);
-    assert!(rt; make(&rt, &world, &mut pass, 7) == Ok(id));
+    assert!(rt; create_body(&rt, &world, &mut pass, 7) == Ok(id));
     let Ok(batch) = hold_again(&rt, alloc, &world, &mut pass, &[id]) else {
         panic!(rt; "not prepared")
     };

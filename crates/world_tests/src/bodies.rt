@@ -20,7 +20,7 @@ fn point() -> FixBox {
 }
 
 /// Creates a body with this user number in layer 0. Its box is one point.
-pub(crate) fn make<R: Wait>(
+pub(crate) fn create_body<R: Wait>(
     rt: &R,
     world: &World,
     pass: &mut Pass,
@@ -34,8 +34,21 @@ pub(crate) fn make<R: Wait>(
     create(rt, world, pass, 0, point(), user)
 }
 
+/// Creates a body in the second layer.
+pub(crate) fn create_in_second<R: Wait>(
+    rt: &R,
+    world: &World,
+    pass: &mut Pass,
+) -> Result<BodyId, Full>
+    requires idle { IsIdle world.now pass.old }
+    requires layers { 1 < world.now.map.layers }
+    ensures idle { IsIdle world.now pass.new }
+{
+    create(rt, world, pass, 1, point(), 7)
+}
+
 /// Creates the first bodies of a new world, so many of them. Answers whether they have the first indexes, in order.
-pub(crate) fn make_first<R: Wait>(rt: &R, world: &World, pass: &mut Pass, count: u32) -> bool
+pub(crate) fn create_first<R: Wait>(rt: &R, world: &World, pass: &mut Pass, count: u32) -> bool
     requires idle { IsIdle world.now pass.old }
     requires layers { 0 < world.now.map.layers }
     requires few { count ≤ 8 }
@@ -43,13 +56,13 @@ pub(crate) fn make_first<R: Wait>(rt: &R, world: &World, pass: &mut Pass, count:
 {
     let mut all = true;
     for index in 0..count {
-        all &= make(rt, world, pass, 7) == Ok(BodyId::new(index, 1));
+        all &= create_body(rt, world, pass, 7) == Ok(BodyId::new(index, 1));
     }
     all
 }
 
 /// Destroys a body.
-pub(crate) fn unmake<R: Wait>(
+pub(crate) fn destroy_body<R: Wait>(
     rt: &R,
     world: &World,
     pass: &mut Pass,

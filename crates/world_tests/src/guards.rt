@@ -2,7 +2,7 @@
 ghost use Rattle.std.specs.Prelude.{◌≡◌, ◌<◌, All};
 ghost use Rattle.pass_table.specs.Passes.{IsIdle};
 
-use crate::bodies::{make, make_first, unmake};
+use crate::bodies::{create_body, create_first, destroy_body};
 use crate::opened::{open_three, sizes};
 use body_ident::BodyId;
 use body_lock::{Gone, MultiEntry, lock_multi, lock_read, lock_write};
@@ -94,7 +94,12 @@ fn bodies_of_all_stripes_are_locked(rt: HostRuntime) -> Result<(), Fail> {
 }
 
 /// The user number of the body, where it is live.
-fn user_of<R: Wait>(rt: &R, world: &World, pass: &mut Pass, id: BodyId) -> Result<u32, Gone>
+pub(crate) fn user_of<R: Wait>(
+    rt: &R,
+    world: &World,
+    pass: &mut Pass,
+    id: BodyId,
+) -> Result<u32, Gone>
     requires idle { IsIdle world.now pass.old }
     requires below { id.index < world.now.map.bodies }
     ensures idle { IsIdle world.now pass.new }
@@ -140,11 +145,11 @@ fn an_id_locks_its_body_alone(rt: HostRuntime) -> Result<(), Fail> {
         panic!(rt; "no world")
     };
     let (first, second) = (BodyId::new(0, 1), BodyId::new(0, 2));
-    assert!(rt; make(&rt, &world, &mut pass, 7) == Ok(first));
+    assert!(rt; create_body(&rt, &world, &mut pass, 7) == Ok(first));
     assert!(rt; user_of(&rt, &world, &mut pass, first) == Ok(7));
-    assert!(rt; unmake(&rt, &world, &mut pass, first).is_ok());
+    assert!(rt; destroy_body(&rt, &world, &mut pass, first).is_ok());
     assert!(rt; user_of(&rt, &world, &mut pass, first) == Err(Gone { state: 1 }));
-    assert!(rt; make(&rt, &world, &mut pass, 8) == Ok(second));
+    assert!(rt; create_body(&rt, &world, &mut pass, 8) == Ok(second));
     assert!(rt; user_of(&rt, &world, &mut pass, first) == Err(Gone { state: 258 }));
     assert!(rt; user_of(&rt, &world, &mut pass, second) == Ok(8));
     assert!(rt; renumbers(&rt, &world, &mut pass, second, 9));
@@ -158,8 +163,8 @@ fn of_three_bodies_one_is_gone(rt: HostRuntime) -> Result<(), Fail> {
         panic!(rt; "no world")
     };
     let ids = [BodyId::new(0, 1), BodyId::new(1, 1), BodyId::new(2, 1)];
-    assert!(rt; make_first(&rt, &world, &mut pass, 3));
-    assert!(rt; unmake(&rt, &world, &mut pass, BodyId::new(1, 1)).is_ok());
+    assert!(rt; create_first(&rt, &world, &mut pass, 3));
+    assert!(rt; destroy_body(&rt, &world, &mut pass, BodyId::new(1, 1)).is_ok());
     let entries = reached(&rt, &world, &mut pass, &ids);
     assert!(rt;
         entries

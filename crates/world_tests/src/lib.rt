@@ -24,4 +24,6 @@ mod opened;
 #[cfg(test)]
 mod passes;
 #[cfg(test)]
+mod refusals;
+#[cfg(test)]
 mod slots;

@@ -7,7 +7,7 @@ ghost use Rattle.word_map.specs.Names.{IsName};
 ghost use Rattle.word_map.specs.declared.name.Name.TheVariants.{Lock};
 
 use crate::look_twice::LookTwice;
-use crate::opened::{open_three, sizes};
+use crate::opened::{open_three, pair_sizes, sizes};
 use core_state::Mode;
 use pass_table::{
     Label, OpenFault, Operation, Pass, Take, TakeOp, Turn, World, drive, open_world, release,
@@ -20,16 +20,21 @@ use word_map::Field;
 
 #[test]
 fn other_sizes_are_refused(rt: HostRuntime) -> Result<(), Fail> {
-    let stripes = open_world(rt.alloc(), sizes(4, 3));
+    let stripes = open_world(rt.alloc(), pair_sizes(4, 3, 1, 4));
     let Err(OpenFault::BadConfig { field }) = stripes else {
         panic!(rt; "three stripes were taken")
     };
     assert!(rt; field == Field::Stripes);
-    let bodies = open_world(rt.alloc(), sizes(0, 2));
+    // The first field that is out of its limit is named, though the stripes are still three.
+    let bodies = open_world(rt.alloc(), pair_sizes(0, 3, 1, 4));
     let Err(OpenFault::BadConfig { field }) = bodies else {
         panic!(rt; "no bodies were taken")
     };
     assert!(rt; field == Field::Bodies);
+    let Ok((_world, mut list)) = open_world(rt.alloc(), pair_sizes(4, 2, 1, 4)) else {
+        panic!(rt; "two stripes were refused")
+    };
+    assert!(rt; list.items().len() == 2 && list.next().is_some());
     Ok(())
 }
 

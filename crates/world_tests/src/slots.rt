@@ -2,7 +2,8 @@
 ghost use Rattle.std.specs.Prelude.{◌≡◌, ◌<◌};
 ghost use Rattle.pass_table.specs.Passes.{IsIdle};
 
-use crate::bodies::{make, make_first, unmake};
+use crate::bodies::{create_body, create_first, destroy_body};
+use crate::guards::user_of;
 use crate::opened::{open_three, sizes};
 use body_ident::BodyId;
 use body_slots::{DestroyRefused, Full};
@@ -18,10 +19,10 @@ fn an_id_of_before_is_gone(rt: HostRuntime) -> Result<(), Fail> {
         panic!(rt; "no world")
     };
     let (first, second) = (BodyId::new(0, 1), BodyId::new(0, 2));
-    assert!(rt; make(&rt, &world, &mut pass, 7) == Ok(first));
-    assert!(rt; unmake(&rt, &world, &mut pass, first).is_ok());
-    assert!(rt; make(&rt, &world, &mut pass, 7) == Ok(second));
-    let gone = unmake(&rt, &world, &mut pass, first);
+    assert!(rt; create_body(&rt, &world, &mut pass, 7) == Ok(first));
+    assert!(rt; destroy_body(&rt, &world, &mut pass, first).is_ok());
+    assert!(rt; create_body(&rt, &world, &mut pass, 7) == Ok(second));
+    let gone = destroy_body(&rt, &world, &mut pass, first);
     assert!(rt; gone == Err(DestroyRefused::Gone { state: 258 }));
     Ok(())
 }
@@ -31,16 +32,17 @@ fn the_index_freed_last_is_used_first(rt: HostRuntime) -> Result<(), Fail> {
     let Some((world, mut pass, _second, _third)) = open_three(rt.alloc(), sizes(4, 2)) else {
         panic!(rt; "no world")
     };
-    assert!(rt; make_first(&rt, &world, &mut pass, 3));
-    assert!(rt; unmake(&rt, &world, &mut pass, BodyId::new(0, 1)).is_ok());
-    assert!(rt; unmake(&rt, &world, &mut pass, BodyId::new(2, 1)).is_ok());
-    assert!(rt; make(&rt, &world, &mut pass, 7) == Ok(BodyId::new(2, 2)));
-    assert!(rt; make(&rt, &world, &mut pass, 7) == Ok(BodyId::new(0, 2)));
-    assert!(rt; make(&rt, &world, &mut pass, 7) == Ok(BodyId::new(3, 1)));
+    assert!(rt; create_first(&rt, &world, &mut pass, 3));
+    assert!(rt; destroy_body(&rt, &world, &mut pass, BodyId::new(0, 1)).is_ok());
+    assert!(rt; destroy_body(&rt, &world, &mut pass, BodyId::new(2, 1)).is_ok());
+    assert!(rt; create_body(&rt, &world, &mut pass, 7) == Ok(BodyId::new(2, 2)));
+    assert!(rt; create_body(&rt, &world, &mut pass, 7) == Ok(BodyId::new(0, 2)));
+    assert!(rt; create_body(&rt, &world, &mut pass, 7) == Ok(BodyId::new(3, 1)));
     Ok(())
 }
 
-/// Creates a body at index 0 and destroys it, 256 times. Answers whether each had the next sequence number.
+/// Creates a body at index 0, with the number of the creation as its user number, and destroys it, 256 times. Answers whether
+/// each had the next sequence number.
 fn go_round<R: Wait>(rt: &R, world: &World, pass: &mut Pass) -> bool
     requires idle { IsIdle world.now pass.old }
     requires layers { 0 < world.now.map.layers }
@@ -50,8 +52,8 @@ fn go_round<R: Wait>(rt: &R, world: &World, pass: &mut Pass) -> bool
     let mut all = true;
     for round in 1..257u32 {
         let id = BodyId::new(0, (round % 256) as u8);
-        all &= make(rt, world, pass, 7) == Ok(id);
-        all &= unmake(rt, world, pass, id).is_ok();
+        all &= create_body(rt, world, pass, round) == Ok(id);
+        all &= destroy_body(rt, world, pass, id).is_ok();
     }
     all
 }
@@ -61,8 +63,11 @@ fn sequence_numbers_come_round(rt: HostRuntime) -> Result<(), Fail> {
     let Some((world, mut pass, _second, _third)) = open_three(rt.alloc(), sizes(1, 2)) else {
         panic!(rt; "no world")
     };
+    let first = BodyId::new(0, 1);
     assert!(rt; go_round(&rt, &world, &mut pass));
-    assert!(rt; make(&rt, &world, &mut pass, 7) == Ok(BodyId::new(0, 1)));
+    assert!(rt; create_body(&rt, &world, &mut pass, 257) == Ok(first));
+    // The id of the first body names the last one.
+    assert!(rt; user_of(&rt, &world, &mut pass, first) == Ok(257));
     Ok(())
 }
 
@@ -72,10 +77,10 @@ fn a_full_world_refuses(rt: HostRuntime) -> Result<(), Fail> {
         panic!(rt; "no world")
     };
     let (first, second) = (BodyId::new(0, 1), BodyId::new(0, 2));
-    assert!(rt; make(&rt, &world, &mut pass, 7) == Ok(first));
-    assert!(rt; make(&rt, &world, &mut pass, 7) == Err(Full { head: 0 }));
-    assert!(rt; unmake(&rt, &world, &mut pass, first).is_ok());
-    assert!(rt; make(&rt, &world, &mut pass, 7) == Ok(second));
+    assert!(rt; create_body(&rt, &world, &mut pass, 7) == Ok(first));
+    assert!(rt; create_body(&rt, &world, &mut pass, 7) == Err(Full { head: 0 }));
+    assert!(rt; destroy_body(&rt, &world, &mut pass, first).is_ok());
+    assert!(rt; create_body(&rt, &world, &mut pass, 7) == Ok(second));
     Ok(())
 }
 
@@ -87,16 +92,16 @@ struct Answered {
 }
 
 /// Creates a body, and destroys it again if it is not to be kept. Answers its id, and whether it was destroyed.
-fn make_for<R: Wait>(rt: &R, world: &World, pass: &mut Pass, keeps: bool) -> Option<(BodyId, bool)>
+fn create_for<R: Wait>(rt: &R, world: &World, pass: &mut Pass, keeps: bool) -> Option<(BodyId, bool)>
     requires idle { IsIdle world.now pass.old }
     requires layers { 0 < world.now.map.layers }
     ensures idle { IsIdle world.now pass.new }
 {
-    let id = make(rt, world, pass, 7).ok()?;
+    let id = create_body(rt, world, pass, 7).ok()?;
     if keeps {
         return Some((id, false));
     }
-    Some((id, unmake(rt, world, pass, id).is_ok()))
+    Some((id, destroy_body(rt, world, pass, id).is_ok()))
 }
 
 /// Creates 60 bodies, and destroys all but each tenth of them again.
@@ -108,7 +113,7 @@ fn rounds<R: Wait>(rt: &R, alloc: Global, world: &World, pass: Pass) -> Result<A
     let mut created = Vec::with_capacity(alloc, 60)?;
     let mut destroyed = Vec::with_capacity(alloc, 60)?;
     for round in 0..60 {
-        if let Some((id, gone)) = make_for(rt, world, &mut pass, round % 10 == 0) {
+        if let Some((id, gone)) = create_for(rt, world, &mut pass, round % 10 == 0) {
             created.push(id)?;
             if gone {
                 destroyed.push(id)?;
@@ -147,7 +152,7 @@ fn are_live<R: Wait>(rt: &R, world: &World, pass: &mut Pass, answered: &Answered
     let mut all = true;
     for id in answered.created.as_slice() {
         let gone = count(answered.destroyed.as_slice(), *id) == 1;
-        all &= id.index() < 16 && unmake(rt, world, pass, *id).is_err() == gone;
+        all &= id.index() < 16 && destroy_body(rt, world, pass, *id).is_err() == gone;
     }
     all
 }

@@ -1,5 +1,5 @@
 use Rattle.pass_table.specs.Passes.{IsIdle}
-use Rattle.world_tests.proofs.bodies.make_first.Given as goal
+use Rattle.world_tests.proofs.bodies.create_first.Given as goal
 
 abbrev pub invariant-loop-index : goal.invariant-loop-index
 invariant-loop-index g l = IsIdle l.world l.pass

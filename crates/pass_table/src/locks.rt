@@ -13,9 +13,9 @@ ghost use Rattle.pass_table.specs.Holding.{MayLetGo, LetGo};
 ghost use Rattle.pass_table.specs.Trying.{mode_if, Excludes, Leaves, HadWord, with_taken, LoadedLock, Exchanged, Tried};
 ghost use Rattle.pass_table.specs.Passes.{view_of, IsOf};
 
+use crate::kind::{step_5, step_6, step_7};
 use crate::pass::Pass;
 use crate::take_answer::Take;
-use crate::kind::{step_5, step_6, step_7};
 use crate::world::World;
 use core_state::Mode;
 use crossbeam_utils::Backoff;

@@ -92,7 +92,12 @@ struct Answered {
 }
 
 /// Creates a body, and destroys it again if it is not to be kept. Answers its id, and whether it was destroyed.
-fn create_for<R: Wait>(rt: &R, world: &World, pass: &mut Pass, keeps: bool) -> Option<(BodyId, bool)>
+fn create_for<R: Wait>(
+    rt: &R,
+    world: &World,
+    pass: &mut Pass,
+    keeps: bool,
+) -> Option<(BodyId, bool)>
     requires idle { IsIdle world.now pass.old }
     requires layers { 0 < world.now.map.layers }
     ensures idle { IsIdle world.now pass.new }

@@ -219,7 +219,12 @@ impl Pass {
     {
         let place = world.map.place(Name::Lock(lock));
         let summand = self.taken_away(lock);
-        let found = table_step::fetch_add::<Release>(&world.table.shared, &mut self.seat, place, summand);
+        let found = table_step::fetch_add::<Release>(
+            &world.table.shared,
+            &mut self.seat,
+            place,
+            summand,
+        );
         self.held.remove(lock);
         found
     }

@@ -5,4 +5,3 @@ returns-clause-first c = c.in_ok-first.ensures.idle c.in-Ok.world c.in-Ok.ensure
 
 pub returns-clause-second : goal.returns-clause-second
 returns-clause-second c = c.in_ok-second.ensures.idle c.in-Ok.world (c.in_ok-first.ensures.others c.in-Ok.world c.in-Ok.ensures.idle)
-

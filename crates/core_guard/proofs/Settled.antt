@@ -48,7 +48,7 @@ IsElse i (Remove j) = i ≢ j
 IsElse i (Move j bounds) = i ≢ j
 IsElse i (SetUser j user) = i ≢ j
 
-abbrev IsHeldIn : Scene → ℕ → Type 0
+abbrev pub IsHeldIn : Scene → ℕ → Type 0
 IsHeldIn scene i = HasBody scene i (λ r. r.phase ≡ Held)
 
 held-some : (o : Option Record) (layer : ℕ) → IsSomeAnd o (λ r. (r.phase ≡ Held) × (r.layer ≡ layer)) → IsSomeAnd o (λ r. r.phase ≡ Held)
@@ -100,7 +100,7 @@ pub scene-more : (c : Config) (first more : List Item) → scene_at c (first ++ 
 scene-more c first more = ap (scene_from (empty_scene c.bodies)) (filter_map-append made_by first more) ∙ scene_from-append (empty_scene c.bodies) (history first) (history more)
 
 module _ (c : Config) (view : View) (i : ℕ) (mode : Mode) (holds : Holds view (stripe_of c i) mode) where
-  settled-since : (known since : List Item) → ((early later : List Item) (item : Item) → since ≡ early ++ item ∷ later → IsQuiet c view (known ++ early) item)
+  pub settled-since : (known since : List Item) → ((early later : List Item) (item : Item) → since ≡ early ++ item ∷ later → IsQuiet c view (known ++ early) item)
       → All (IsSoundItem c) since → IsLawfulFrom c.layers (scene_at c known) (history since) → 256 ≤ word c known (State i) → ¬ IsHeldIn (scene_at c known) i
       → (record_at (scene_at c (known ++ since)) i ≡ record_at (scene_at c known) i) × (word c (known ++ since) (LocA i) ≡ word c known (LocA i))
   settled-since known [] quiet sound lawful live unheld =

@@ -24,3 +24,4 @@ pub mod Between
 pub mod Telling
 pub mod Several
 pub mod Stages
+pub mod Settled

@@ -17,3 +17,4 @@ pub mod Calls
 pub mod Work
 pub mod Belongings
 pub mod Several
+pub mod Settled

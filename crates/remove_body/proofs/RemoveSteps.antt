@@ -1,6 +1,6 @@
 -- What the turns of a removal leave that load and store words of the body and of its places, and the last one.
 use Rattle.std.specs.Prelude.{◌%◌, ◌^◌, option_map, Contains}
-use Rattle.std.proofs.Common.{◌≡◌, ◌≢◌, ◌⊎◌, ℕ, zero, suc, ◌+◌, ◌*◌, ◌-◌, ◌<◌, ◌≤◌, List, [], ◌∷◌, ◌++◌, Bool, true, false, Option, Some, None, Ok, Err, Result, IsSomeAnd, cond, eqb, append_assoc, refl, ap, sym, ◌∙◌, subst, inl, inr, arith}
+use Rattle.std.proofs.Common.{◌≡◌, ◌≢◌, ◌⊎◌, ℕ, zero, suc, ◌+◌, ◌*◌, ◌<◌, ◌≤◌, List, [], ◌∷◌, ◌++◌, Bool, true, false, Option, Some, None, Ok, Err, Result, IsSomeAnd, cond, eqb, append_assoc, refl, ap, sym, ◌∙◌, subst, inl, inr, arith}
 use mathlib.Core.Logic.{∥∥₁_elim}
 use Rattle.std.proofs.Props.{props}
 use Rattle.std.proofs.lemmas.Bool.{cases_lt}
@@ -9,7 +9,6 @@ use Rattle.body_ident.specs.Id.{Id}
 use Rattle.scene_model.specs.declared.body_view.Phase.TheVariants.{Out, Held, In}
 use Rattle.scene_model.specs.declared.entry.Entry.{Entry}
 use Rattle.scene_model.specs.declared.entry.Entry.TheVariants.{Remove}
-use Rattle.scene_model.specs.declared.entry.Made.{Made}
 use Rattle.scene_model.specs.Scene.{Record, record_at}
 use Rattle.scene_model.specs.Cause.{HasIdBody}
 use Rattle.word_map.specs.declared.config.Config.{Config}
@@ -27,48 +26,45 @@ use Rattle.core_state.specs.declared.view.Task.{Task}
 use Rattle.core_state.specs.declared.view.Task.TheVariants.{Nothing, Removing as RemovingTask}
 use Rattle.core_state.specs.declared.view.Call.{Call}
 use Rattle.core_state.specs.declared.view.View.{View}
-use Rattle.core_state.specs.View.{IsPass, Holds, known_word, number_in, mode_of}
-use Rattle.core_state.specs.Core.{Core, IsViewAt, word_of}
-use Rattle.core_state.specs.Encoding.{place, phase_out}
-use Rattle.core_state.specs.Event.{of_removals, removes, clears_entry, clears_location, Event}
+use Rattle.core_state.specs.View.{IsPass, Holds, number_in, mode_of}
+use Rattle.core_state.specs.Encoding.{place}
+use Rattle.core_state.specs.Event.{of_removals, removes, clears_entry, clears_location}
 use Rattle.core_state.specs.Guards.{scene_at}
-use Rattle.core_state.specs.Kind.{Asking, Kind, Step, Steps, item_of}
-use Rattle.core_state.specs.Lists.{with_task}
-use Rattle.core_state.specs.Lives.{MayLoadBody, under_stripe, load_body}
+use Rattle.core_state.specs.Kind.{Asking, Kind, Step, item_of}
+use Rattle.core_state.specs.Lives.{MayLoadBody, under_stripe}
 use Rattle.core_state.specs.LocationsHold.{location_scope, IsLocation, Removes, IsTakenOut}
 use Rattle.core_state.specs.Locking.{MayRelease, release}
-use Rattle.core_state.specs.Moving.{IsSettled, IsKnownIn, IsKnownLocation, HasStored, with_store}
+use Rattle.core_state.specs.Moving.{HasStored}
 use Rattle.core_state.specs.Nodes.{Stands}
-use Rattle.core_state.specs.Operation.{Operation, store}
+use Rattle.core_state.specs.Operation.{store}
 use Rattle.core_state.specs.Parts.{call_by_task}
 use Rattle.core_state.specs.Removing.{MayRemove, remove, MayClearEntry, clear_entry, HasClearedEntries, MayClearLocation, the_first, the_second, clear_location}
 use Rattle.core_state.specs.Scope.{Sight, sight}
 use Rattle.core_guard.proofs.Seats.{seen_of, each-seat}
-use Rattle.pass_table.specs.declared.turn.Turn.{Turn}
 use Rattle.pass_table.specs.declared.turn.Turn.TheVariants.{Done, More}
 use Rattle.body_look.specs.declared.look_op.LookOp.{LookOp}
-use Rattle.pass_table.specs.Stepping.{step_by, Stepped, Stored}
-use Rattle.pass_table.specs.Turning.{AtMostOneStep, MadeBy, IsUnderWay, HasReached, LoadsNow}
-use Rattle.pass_table.specs.Labels.{IsRefusal, EndsAfter}
+use Rattle.pass_table.specs.Stepping.{step_by, Stored}
+use Rattle.pass_table.specs.Turning.{AtMostOneStep, MadeBy, IsUnderWay, HasReached}
+use Rattle.pass_table.specs.Labels.{IsRefusal}
 use Rattle.pass_table.specs.Holding.{MayLetGo, LetGo, IsAtRest}
-use Rattle.pass_table.specs.Calls.{Adds, Advances, StoresWord}
-use Rattle.pass_table.specs.Bodies.{IsCurrent, KnowsLive, HasKnownBody, Loaded}
+use Rattle.pass_table.specs.Calls.{Advances, StoresWord}
+use Rattle.pass_table.specs.Bodies.{IsCurrent, KnowsLive, Loaded}
 use Rattle.pass_table.specs.Settled.{KnowsPhase, KnowsFirst, KnowsSecond}
 use Rattle.pass_table.specs.Work.{IsCalling, is_told}
 use Rattle.pass_table.proofs.Knowing.{known-more, step-alone}
 use Rattle.pass_table.proofs.Turning.{one-step, still-made}
-use Rattle.pass_table.proofs.Calling.{adds-none, stepped-sizes, stepped-stores, stored-gained, stored-made, stores-word, word-now, word-beside, released-step, released-made, released-lawful}
-use Rattle.pass_table.proofs.Bodies.{known-now, loaded-body, stepped-current}
+use Rattle.pass_table.proofs.Calling.{adds-none, stepped-stores, stored-gained, stored-made, stores-word, word-now, word-beside, released-step, released-made, released-lawful}
+use Rattle.pass_table.proofs.Bodies.{known-now, stepped-current}
 use Rattle.pass_table.proofs.LockedBodies.{live-steady}
 use Rattle.pass_table.proofs.Settled.{sound-now, mid-phase, phase-beside, phase-removed, first-beside, second-steady, sure-word, sure-in}
-use Rattle.pass_table.proofs.WorkLater.{worked-role, worked-sizes, worked-pass, worked-mode, worked-more}
+use Rattle.pass_table.proofs.WorkLater.{worked-role, worked-sizes, worked-pass}
 use Rattle.pass_table.proofs.Working.{worked-made, worked-released, worked-done, done-keeps}
 use Rattle.remove_body.specs.declared.answers.RemoveRefused.{RemoveRefused}
 use Rattle.remove_body.specs.declared.remove_op.RemoveStage.{RemoveStage}
-use Rattle.remove_body.specs.declared.remove_op.RemoveStage.TheVariants.{Inside, HalfLocated, Located, TakenOut, HalfCleared, Cleared, Forgotten, Leaving}
+use Rattle.remove_body.specs.declared.remove_op.RemoveStage.TheVariants.{Inside, HalfLocated, Located, TakenOut, Cleared, Forgotten, Leaving}
 use Rattle.remove_body.specs.declared.remove_op.RemoveOp.{RemoveOp}
 use Rattle.remove_body.specs.Answers.{HasRemoved, IsRemoveAnswer, HasEnded}
-use Rattle.remove_body.specs.stages.Removing.{stripe_taken, IsInside, IsOutAt, HasClearedAt, AtRemove, IsBegunFor, IsRemoving, HasRemovedOr, stage_label, answer_label, label_of, IsJustOut, stage_left, IsRemoveTurn, ClearsEntry, no_place, a_place, IsLocationOf}
+use Rattle.remove_body.specs.stages.Removing.{stripe_taken, IsInside, IsOutAt, HasClearedAt, AtRemove, IsBegunFor, IsRemoving, stage_label, answer_label, IsJustOut, stage_left, IsRemoveTurn, ClearsEntry, no_place, a_place, IsLocationOf}
 use Rattle.remove_body.specs.stages.RemoveLater.{stripe-held, in-apart, out-apart, removed-later, answer-later, inside-later, first-later}
 use Rattle.remove_body.proofs.RemoveTurns.{unlabelled}
 

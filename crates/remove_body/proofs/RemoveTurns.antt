@@ -1,19 +1,15 @@
 -- What the turns of a removal leave that look at the body, and what each turn leaves of the label.
-use Rattle.std.proofs.Common.{◌≡◌, ◌⊎◌, ℕ, ◌+◌, ◌<◌, ◌≤◌, List, [], Option, Some, None, Ok, Err, Result, IsSomeAnd, refl, ap, sym, ◌∙◌, subst, inl, inr, arith}
+use Rattle.std.proofs.Common.{◌≡◌, ℕ, ◌<◌, ◌≤◌, [], Option, Some, None, Err, Result, refl, ap, sym, ◌∙◌, subst, arith}
 use Rattle.std.proofs.lemmas.Option.{none-some}
 use Rattle.body_ident.specs.Id.{Id}
 use Rattle.scene_model.specs.declared.body_view.Phase.{Phase as BodyPhase}
 use Rattle.scene_model.specs.declared.body_view.Phase.TheVariants.{Out, Held, In}
-use Rattle.scene_model.specs.declared.entry.Entry.{Entry}
-use Rattle.word_map.specs.declared.config.Config.{Config}
-use Rattle.word_map.specs.declared.name.Name.TheVariants.{Phase, Layer, Slot}
-use Rattle.word_map.specs.Limits.{IsConfig}
+use Rattle.word_map.specs.declared.name.Name.TheVariants.{Slot}
 use Rattle.core_state.specs.declared.view.Mode.{Mode}
 use Rattle.core_state.specs.declared.view.Mode.TheVariants.{Write}
 use Rattle.core_state.specs.declared.view.Task.TheVariants.{Nothing}
 use Rattle.core_state.specs.declared.view.View.{View}
 use Rattle.core_state.specs.View.{known_word}
-use Rattle.pass_table.specs.declared.take_op.TakeOp.{TakeOp}
 use Rattle.pass_table.specs.declared.turn.Turn.{Turn}
 use Rattle.pass_table.specs.declared.turn.Turn.TheVariants.{Done, More, Again}
 use Rattle.pass_table.specs.Labels.{IsRefusal, EndsAfter, SaysNew}
@@ -33,10 +29,10 @@ use Rattle.body_look.proofs.Answering.{phase-told, looked-point, gone-point}
 use Rattle.remove_body.specs.declared.answers.RemoveRefused.{RemoveRefused}
 use Rattle.remove_body.specs.declared.answers.RemoveRefused.TheVariants.{Gone, NotIn, Held as HeldBody}
 use Rattle.remove_body.specs.declared.remove_op.RemoveStage.{RemoveStage}
-use Rattle.remove_body.specs.declared.remove_op.RemoveStage.TheVariants.{Looking, Inside, Leaving}
+use Rattle.remove_body.specs.declared.remove_op.RemoveStage.TheVariants.{Looking, Leaving}
 use Rattle.remove_body.specs.declared.remove_op.RemoveOp.{RemoveOp}
 use Rattle.remove_body.specs.Answers.{IsNotInAt, IsHeldAt, IsRemoveAnswer}
-use Rattle.remove_body.specs.stages.Removing.{stripe_taken, IsInside, AtRemove, IsBegunFor, IsRemoving, HasRemovedOr, stage_label, label_of, label_says, stage_left, takes_at, IsPlainTurn, IsRemoveTurn}
+use Rattle.remove_body.specs.stages.Removing.{stripe_taken, IsInside, AtRemove, IsRemoving, HasRemovedOr, stage_label, label_of, label_says, stage_left, takes_at, IsPlainTurn, IsRemoveTurn}
 
 -- ---- begun
 

@@ -3,7 +3,6 @@ use Rattle.std.specs.Prelude.{[]}
 use Rattle.std.proofs.Common.{◌≡◌, ◌≢◌, ℕ, List, ◌∷◌, ◌++◌, append_assoc, Bool, Option, Some, None, Ok, Err, Result, cond, refl, ap, sym, ◌∙◌, subst}
 use Rattle.std.proofs.lemmas.Bool.{eq-eqb}
 use Rattle.body_ident.specs.Id.{Id}
-use Rattle.scene_model.specs.declared.body_view.Phase.{Phase as BodyPhase}
 use Rattle.scene_model.specs.declared.body_view.Phase.TheVariants.{Out, Held, In}
 use Rattle.scene_model.specs.declared.entry.Entry.{Entry}
 use Rattle.word_map.specs.declared.config.Config.{Config}
@@ -20,7 +19,7 @@ use Rattle.core_state.specs.View.{Holds, mode_of}
 use Rattle.pass_table.specs.Knowing.{KnowsMore}
 use Rattle.pass_table.specs.Holding.{IsAtRest}
 use Rattle.pass_table.specs.Calls.{Adds, MakesAt}
-use Rattle.pass_table.specs.Settled.{KnowsPhase, KnowsFirst}
+use Rattle.pass_table.specs.Settled.{KnowsFirst}
 use Rattle.pass_table.proofs.Calling.{adds-more, point-later}
 use Rattle.pass_table.proofs.Settled.{phase-more, first-more, second-more}
 use Rattle.pass_table.proofs.WorkLater.{worked-role, worked-sizes, worked-mode, worked-more}
@@ -32,7 +31,7 @@ use Rattle.remove_body.specs.declared.answers.RemoveRefused.TheVariants.{Gone, N
 use Rattle.remove_body.specs.declared.remove_op.RemoveStage.{RemoveStage}
 use Rattle.remove_body.specs.declared.remove_op.RemoveStage.TheVariants.{Looking, Inside, HalfLocated, Located, TakenOut, HalfCleared, Cleared, Forgotten, Leaving}
 use Rattle.remove_body.specs.declared.remove_op.RemoveOp.{RemoveOp}
-use Rattle.remove_body.specs.Answers.{HasRemoved, WasNot, IsRemoveAnswer}
+use Rattle.remove_body.specs.Answers.{HasRemoved, IsRemoveAnswer}
 use Rattle.remove_body.specs.stages.Removing.{stripe_taken, IsInside, IsOutAt, HasClearedAt, AtRemove, IsRemoving}
 
 -- ---- the stripe

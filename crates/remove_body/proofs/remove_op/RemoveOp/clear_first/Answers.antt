@@ -1,21 +1,11 @@
 use Rattle.core_state.specs.declared.view.Task.TheVariants.{Removing as RemovingTask}
-use Rattle.std.proofs.Common.{ℕ, ◌≡◌, Ok, Some, None, refl, ap, sym, ◌∙◌, subst, arith}
+use Rattle.std.proofs.Common.{refl, ap, sym, ◌∙◌, subst, arith}
 use Rattle.body_ident.specs.Id.{Id}
-use Rattle.word_map.specs.declared.name.Name.TheVariants.{LocA, LocB, Phase}
-use Rattle.core_state.specs.Lives.{MayLoadBody, load_body}
-use Rattle.pass_table.specs.Bodies.{Loaded}
 use Rattle.pass_table.specs.Passes.{view_of}
-use Rattle.pass_table.specs.Stepping.{Stored}
-use Rattle.pass_table.proofs.Bodies.{loaded-body, body-load-step, body-load-made}
-use Rattle.core_state.specs.Removing.{MayRemove, remove, MayClearLocation, clear_location}
-use Rattle.core_state.specs.declared.view.View.{View}
-use Rattle.core_state.specs.View.{IsPass, number_of}
-use Rattle.scene_model.specs.declared.entry.Entry.TheVariants.{Remove}
-use Rattle.pass_table.specs.declared.turn.Turn.TheVariants.{More}
-use Rattle.remove_body.specs.declared.remove_op.RemoveStage.TheVariants.{Inside, HalfLocated, Located, TakenOut, HalfCleared, Cleared, Forgotten, Leaving}
-use Rattle.remove_body.specs.stages.Removing.{AtRemove, IsRemoveTurn, ClearsEntry, IsLocationOf}
+use Rattle.remove_body.specs.declared.remove_op.RemoveStage.TheVariants.{TakenOut, HalfCleared}
+use Rattle.remove_body.specs.stages.Removing.{AtRemove, IsLocationOf}
 use Rattle.remove_body.proofs.RemoveTurns.{remove-on}
-use Rattle.remove_body.proofs.RemoveSteps.{clear-step, clear-made, cleared-out, cleared-here, cleared-there, out-location}
+use Rattle.remove_body.proofs.RemoveSteps.{clear-step, clear-made, cleared-out, cleared-here, out-location}
 use Rattle.remove_body.proofs.remove_op.RemoveOp.clear_first.Goals as goal
 
 pub clear_entry-requires-clause-removing : goal.clear_entry-requires-clause-removing

@@ -1,18 +1,11 @@
-use Rattle.std.proofs.Common.{ℕ, ◌≡◌, Ok, Some, None, refl, ap, sym, ◌∙◌, subst, arith}
+use Rattle.std.proofs.Common.{ℕ, ◌≡◌, Ok, refl, ap, sym, ◌∙◌, subst, arith}
 use Rattle.body_ident.specs.Id.{Id}
-use Rattle.word_map.specs.declared.name.Name.TheVariants.{LocA, LocB, Phase}
-use Rattle.core_state.specs.Lives.{MayLoadBody, load_body}
-use Rattle.pass_table.specs.Bodies.{Loaded}
+use Rattle.word_map.specs.declared.name.Name.TheVariants.{LocB}
 use Rattle.pass_table.specs.Passes.{view_of}
 use Rattle.pass_table.specs.Stepping.{Stored}
-use Rattle.pass_table.proofs.Bodies.{loaded-body, body-load-step, body-load-made}
-use Rattle.core_state.specs.Removing.{MayRemove, remove, MayClearLocation, clear_location}
-use Rattle.core_state.specs.declared.view.View.{View}
-use Rattle.core_state.specs.View.{IsPass, number_of}
-use Rattle.scene_model.specs.declared.entry.Entry.TheVariants.{Remove}
-use Rattle.pass_table.specs.declared.turn.Turn.TheVariants.{More}
-use Rattle.remove_body.specs.declared.remove_op.RemoveStage.TheVariants.{Inside, HalfLocated, Located, TakenOut, HalfCleared, Cleared, Forgotten, Leaving}
-use Rattle.remove_body.specs.stages.Removing.{AtRemove, IsRemoveTurn, ClearsEntry, IsLocationOf}
+use Rattle.core_state.specs.Removing.{MayClearLocation, clear_location}
+use Rattle.remove_body.specs.declared.remove_op.RemoveStage.TheVariants.{Forgotten, Leaving}
+use Rattle.remove_body.specs.stages.Removing.{AtRemove}
 use Rattle.remove_body.proofs.RemoveTurns.{remove-on}
 use Rattle.remove_body.proofs.RemoveSteps.{may-forget-second, second-step, second-made, second-forgotten}
 use Rattle.remove_body.proofs.remove_op.RemoveOp.forget_second.Goals as goal

@@ -1,5 +1,4 @@
-use Rattle.std.proofs.Common.{◌≡◌, ℕ, ◌<◌, ◌≤◌, Some, None, Err, refl, ap, sym, ◌∙◌, subst, arith}
-use Rattle.scene_model.specs.declared.body_view.Phase.TheVariants.{In}
+use Rattle.std.proofs.Common.{◌≡◌, ℕ, None, Err, refl, ap, subst, arith}
 use Rattle.pass_table.specs.Passes.{view_of}
 use Rattle.body_look.specs.Found.{phase_found}
 use Rattle.body_look.proofs.Answering.{turn-left}

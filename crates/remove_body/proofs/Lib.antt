@@ -1,0 +1,2 @@
+pub mod RemoveTurns
+pub mod RemoveSteps

@@ -4,7 +4,7 @@
 //! at once come to an end and lose nothing. They stand apart from the crates that they test, so that each of those is
 //! proved once.
 //!
-//! It stands on worlds and passes, on bodies, locks and batches, and on the bounds of planned trees. Nothing stands on it.
+//! It stands on worlds and passes, on bodies, locks, batches and removals, and on the bounds of planned trees. Nothing stands on it.
 #![tactic(auto)]
 
 #[cfg(test)]
@@ -25,5 +25,7 @@ mod opened;
 mod passes;
 #[cfg(test)]
 mod refusals;
+#[cfg(test)]
+mod removals;
 #[cfg(test)]
 mod slots;

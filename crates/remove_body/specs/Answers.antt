@@ -7,6 +7,7 @@ use Rattle.scene_model.specs.Cause.{HasIdBody, IsCauseAt, not_in, held}
 use Rattle.word_map.specs.declared.config.Config.{Config}
 use Rattle.word_map.specs.declared.name.Name.TheVariants.{Phase, Layer, Slot}
 use Rattle.core_state.specs.declared.item.Item.{Item}
+use Rattle.core_state.specs.declared.view.Task.TheVariants.{Removing as RemovingTask}
 use Rattle.core_state.specs.declared.view.View.{View}
 use Rattle.core_state.specs.Log.{word}
 use Rattle.core_state.specs.Guards.{scene_at}
@@ -24,6 +25,12 @@ use Rattle.remove_body.specs.declared.answers.RemoveRefused.TheVariants.{Gone, N
 pub record HasRemoved (id : Id) (start next : View) : Type 0 where
   pub adds : Adds start next (Remove id.index ∷ [])
   pub at : MakesAt start next (Remove id.index) (λ log. HasIdBody (scene_at start.config log) id (λ r. r.phase ≡ In))
+
+-- at the label `out`: the body was taken out, and of its places nothing is cleared yet
+pub record IsJustOut (id : Id) (start next : View) : Type 0 where
+  pub removed : HasRemoved id start next
+  pub doing : next.call.task ≡ RemovingTask id.index
+  pub whole : next.call.stores ≡ []
 
 -- nothing was taken out: so it was at a point of the call
 pub record WasNot (start next : View) (fact : List Item → Type 0) : Type 0 where

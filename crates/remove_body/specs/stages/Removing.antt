@@ -33,7 +33,7 @@ use Rattle.remove_body.specs.declared.answers.RemoveRefused.{RemoveRefused}
 use Rattle.remove_body.specs.declared.remove_op.RemoveStage.{RemoveStage}
 use Rattle.remove_body.specs.declared.remove_op.RemoveStage.TheVariants.{Looking, Inside, HalfLocated, Located, TakenOut, HalfCleared, Cleared, Forgotten, Leaving}
 use Rattle.remove_body.specs.declared.remove_op.RemoveOp.{RemoveOp}
-use Rattle.remove_body.specs.Answers.{HasRemoved, IsRemoveAnswer, HasEnded}
+use Rattle.remove_body.specs.Answers.{HasRemoved, IsRemoveAnswer, HasEnded, IsJustOut}
 
 -- ---- stages
 
@@ -100,12 +100,6 @@ stage_label _ = None
 
 abbrev pub label_of : RemoveOp → Option ℕ
 label_of operation = stage_label operation.stage
-
--- there the body was taken out, and of its places nothing is cleared
-pub record IsJustOut (id : Id) (start next : View) : Type 0 where
-  pub removed : HasRemoved id start next
-  pub doing : next.call.task ≡ RemovingTask id.index
-  pub whole : next.call.stores ≡ []
 
 abbrev pub label_says : RemoveOp → View → View → ℕ → Type 0
 label_says first start next label = IsJustOut first.id start next

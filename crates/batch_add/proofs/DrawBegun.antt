@@ -1,5 +1,5 @@
 -- A drawing that was begun, and what it answers by the bodies in another order.
-use Rattle.std.proofs.Common.{◌≡◌, ℕ, ◌<◌, false, List, Contains, map, refl, sym, ◌∙◌, ap, subst, arith}
+use Rattle.std.proofs.Common.{◌≡◌, ℕ, ◌<◌, true, false, List, Contains, map, refl, sym, ◌∙◌, ap, subst, arith}
 use Rattle.std.specs.Prelude.{All}
 use Rattle.std.specs.List.Sorted.{IsPermutation}
 use Rattle.std.proofs.lemmas.List.{same_from_push}
@@ -22,7 +22,7 @@ use Rattle.batch_add.specs.Drawing.{IsMarkedAs, HasBodies}
 use Rattle.batch_add.specs.Parts.{IsNewest, marked_as, HasDrawn}
 use Rattle.batch_add.specs.stages.DrawStages.{Planned, IsToDraw, IsBegun, before_child, IsDrawnFrom, HasDrawnUpTo, HasDrawnAll}
 use Rattle.batch_add.proofs.Levels.{node-there}
-use Rattle.pass_table.proofs.Working.{worked-begun}
+use Rattle.pass_table.proofs.Working.{worked-begun, worked-loosely}
 
 -- ---- the bodies of the batch
 
@@ -76,7 +76,7 @@ module _ (view : View) (bodies sorted : List (ℕ × FixBox)) (nodes : List ℕ)
     begun_so = begun_so;
     drawn = to.batch;
     written = view.written;
-    worked = subst (λ (l : List Batch). HasWorked view view (record (begun view) { batches = l })) to.newest (worked-begun view number pass rest);
+    worked = subst (λ (l : List Batch). HasWorked view view (record (begun view) { batches = l; places = true })) to.newest (worked-loosely view view _ (worked-begun view number pass rest));
     from = record { layer = refl; slot = refl; nodes = refl; indexes = refl };
     of_batch = marked-bodies to.batch bodies sorted to.marked same;
     says = record {

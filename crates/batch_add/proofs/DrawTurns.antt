@@ -36,7 +36,7 @@ use Rattle.pass_table.proofs.Calling.{stores-word, stored-made}
 use Rattle.batch_add.specs.declared.draw_stage.DrawStage.{DrawStage}
 use Rattle.batch_add.specs.declared.draw_stage.DrawStage.TheVariants.{Child, Side, Placing, Parent}
 use Rattle.batch_add.specs.declared.tree_drawing.TreeDrawing.{TreeDrawing}
-use Rattle.pass_table.specs.Work.{is_told, HasWorked}
+use Rattle.pass_table.specs.Work.{is_shown, HasWorked}
 use Rattle.batch_add.specs.Drawing.{node_at, child_word, parent_word, SaysPlanBy, ArePlaced, HasWritten, WritesOnly}
 use Rattle.batch_add.specs.Parts.{HasDrawn}
 use Rattle.batch_add.specs.stages.DrawStages.{Planned, planned_of, Reached, before_child, reached, next_child, after_child, after_sides, after_side, SaysUpTo, ArePlacedUpTo, drawing_work, HasDrawnUpTo, AtDraw, stage_left, IsDrawTurn}
@@ -184,7 +184,7 @@ module _ (view next : View) (name : Name) (value : ℕ) (stored : Stored MayStor
     node-beside =
         subst (λ (l : List Store). StoresBeside (HasWritten h.written) (HasWritten l) name value) (sym (node_written)) (written-beside name value h.written)
 
-    node-worked : is_told name ≡ false → HasWorked start next (drawing_work start h.before h.drawn next.written)
+    node-worked : is_shown true name ≡ false → HasWorked start next (drawing_work start h.before h.drawn next.written)
     node-worked hidden =
         worked-untold start view next (drawing_work start h.before h.drawn h.written) h.worked name value None NoTask (h.before ++ h.drawn ∷ []) start.loose next.written node_word
         (node-made h.worked.adds.number (worked-pass start view _ h.worked)) (ap (λ (v : View). v.call.task) stored.1.leaves ∙ h.worked.doing)
@@ -198,7 +198,7 @@ module _ (view next : View) (name : Name) (value : ℕ) (stored : Stored MayStor
           written = sym (ap (λ (v : View). v.written) stored.1.leaves) i;
         })) hidden (step-alone MayStoreNode store_node view next name value 0 stored.0 stored.1)
 
-    node-on : is_told name ≡ false → (n : ℕ) → n < node_count p.plan → node_in name ≡ Some (node_at p.nodes n) → (s : Reached) → s.places ≡ r.places → SaysUpTo (HasWritten next.written) p s → HasDrawnUpTo p start next s
+    node-on : is_shown true name ≡ false → (n : ℕ) → n < node_count p.plan → node_in name ≡ Some (node_at p.nodes n) → (s : Reached) → s.places ≡ r.places → SaysUpTo (HasWritten next.written) p s → HasDrawnUpTo p start next s
     node-on hidden n made of_node s places says = record {
       before = h.before;
       batch = h.batch;

@@ -1,6 +1,6 @@
 -- How the bodies of a batch that is given up are unmarked.
 use Rattle.std.specs.Prelude.{All, flat_map}
-use Rattle.std.proofs.Common.{◌≡◌, ℕ, zero, suc, ◌+◌, ◌<◌, List, [], ◌∷◌, ◌++◌, false, Some, None, Contains, AllPairs, length, map, take, drop, get_or, append_assoc, refl, ap, sym, ◌∙◌, subst, arith}
+use Rattle.std.proofs.Common.{◌≡◌, ℕ, zero, suc, ◌+◌, ◌<◌, List, [], ◌∷◌, ◌++◌, true, false, Some, None, Contains, AllPairs, length, map, take, drop, get_or, append_assoc, refl, ap, sym, ◌∙◌, subst, arith}
 use Rattle.std.proofs.lemmas.List.{append-nil, length-append, length-map, length-take-le, map-append}
 use Rattle.std.proofs.lemmas.List.Elements.{All-head, Contains-append_right}
 use Rattle.scene_model.specs.declared.entry.Entry.{Entry}
@@ -34,7 +34,7 @@ use Rattle.pass_table.proofs.WorkLater.{worked-sizes, worked-batches, worked-loo
 use Rattle.batch_add.specs.stages.Keeping.{index_at, IsKept, IsBegunFor}
 use Rattle.batch_add.specs.stages.GivingUp.{WorksFree, WorksUnder, unmark_entries, with_marks, unplaced, unmarking_work, IsAtBody, UnderStripe, AtGiving, IsGivingUp, ComesNext}
 use Rattle.batch_add.specs.stages.GivingLater.{under-stripe}
-use Rattle.pass_table.proofs.Working.{worked-begun}
+use Rattle.pass_table.proofs.Working.{worked-begun, worked-loosely}
 use Rattle.batch_add.proofs.GiveLists.{body-gone, body-cleared}
 use Rattle.batch_add.proofs.GiveWork.{under-released, under-stored, under-made}
 
@@ -162,7 +162,7 @@ module _ (start : View) (before : List Batch) (batch : Batch) (after : List Batc
         pub back-taken : UnderStripe start before batch after next at.m at.gone (unplaced at.m ∷ at.later)
         back-taken =
             subst (λ t. WorksUnder (stripe_of start.config at.m.index) start next (record (unmarking_work start before batch after at.gone (unplaced at.m ∷ at.later)) { task = t })) work.worked.doing
-            (under-stored start view next _ (LocA at.m.index) 0 view.call (before ++ with_marks batch (unplaced at.m ∷ at.later) ∷ after) start.loose start.written
+            (under-stored start view next (unmarking_work start before batch after at.gone (at.m ∷ at.later)) (LocA at.m.index) 0 view.call (before ++ with_marks batch (unplaced at.m ∷ at.later) ∷ after) start.loose start.written
             (stores-word MayTakeBack take_back view next (LocA at.m.index) 0 refl stored) back_left (stripe_of start.config at.m.index)
             (back-made view next at.m.index stored work.worked.adds.number (worked-pass start view _ work.worked)) refl
             (step-alone MayTakeBack take_back view next (LocA at.m.index) 0 0 stored.0 stored.1) work)
@@ -285,5 +285,5 @@ giving-begun kept stage view next number pass still some comes =
     work before batch after begun = record {
       steps = [];
       free = λ lock. refl;
-      worked = subst (λ (l : List Batch). HasWorked view view (record (begun_work view) { batches = l })) begun.among (worked-begun view number pass begun.rest);
+      worked = subst (λ (l : List Batch). HasWorked view view (record (begun_work view) { batches = l; places = true })) begun.among (worked-loosely view view _ (worked-begun view number pass begun.rest));
     }

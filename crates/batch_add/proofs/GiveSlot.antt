@@ -1,5 +1,5 @@
 -- How the slot of a batch is let go that is given up, and what giving a batch up answers.
-use Rattle.std.proofs.Common.{◌≡◌, ℕ, ◌+◌, ◌<◌, List, [], ◌∷◌, ◌++◌, None, Option, Contains, AllPairs, length, refl, ap, sym, ◌∙◌, subst, arith}
+use Rattle.std.proofs.Common.{◌≡◌, ℕ, ◌+◌, ◌<◌, List, [], ◌∷◌, ◌++◌, true, None, Option, Contains, AllPairs, length, refl, ap, sym, ◌∙◌, subst, arith}
 use Rattle.std.proofs.lemmas.List.{append-nil}
 use Rattle.std.proofs.lemmas.List.Elements.{Contains-append_right}
 use Rattle.word_map.specs.declared.name.Name.{Name}
@@ -120,6 +120,7 @@ module _ (start : View) (before : List Batch) (batch : Batch) (after : List Batc
           batches = before ++ after;
           loose = (ap (λ (l : List ℕ). start.loose ++ l) (empty batch.nodes zero) ∙ append-nil start.loose) i;
           written = written_outside (sym (empty batch.nodes zero) i) start.written;
+          places = true;
         })
         (free-done start view _ begun.rest refl work);
     from = λ some. absurd (omega arith);
@@ -142,6 +143,7 @@ module _ (start : View) (before : List Batch) (batch : Batch) (after : List Batc
           batches = before ++ after;
           loose = append-nil start.loose i;
           written = written_outside batch.nodes start.written;
+          places = true;
         })
         (free-done start view _ begun.rest refl work);
     from = λ more. (free, refl, from);

@@ -24,7 +24,7 @@ use Rattle.pass_table.specs.declared.take_op.TakeOp.{TakeOp}
 use Rattle.pass_table.specs.TakeTurns.{taking_of, IsTaking, HasTaken}
 use Rattle.pass_table.proofs.TakingTurns.{taking-anew}
 use Rattle.pass_table.specs.Calls.{StoresWord}
-use Rattle.pass_table.specs.Work.{is_told, Work, HasWorked, HasDone, outcome_of}
+use Rattle.pass_table.specs.Work.{is_told, is_shown, Work, HasWorked, HasDone, outcome_of}
 use Rattle.batch_add.specs.Parts.{stored_as}
 use Rattle.batch_add.specs.stages.GivingUp.{at_locks, WorksFree, WorksUnder}
 use Rattle.pass_table.proofs.Working.{worked-waited, worked-taken, worked-released, worked-told, worked-untold, worked-done}
@@ -92,7 +92,7 @@ module _ (start view next : View) (w : Work) (name : Name) (value : ℕ) (call :
   doing = ap (λ (v : View). v.call.task) left
 
   -- one that is not told, without an entry and with one
-  pub under-stored : (lock : ℕ) → MadeBy view next None → is_told name ≡ false → StoresAlone view next name → WorksUnder lock start view w → WorksUnder lock start next (stored_work w.entries w.stores)
+  pub under-stored : (lock : ℕ) → MadeBy view next None → is_shown w.places name ≡ false → StoresAlone view next name → WorksUnder lock start view w → WorksUnder lock start next (stored_work w.entries w.stores)
   under-stored lock by quiet alone work = record {
     steps = work.steps;
     free = work.free;
@@ -101,7 +101,7 @@ module _ (start view next : View) (w : Work) (name : Name) (value : ℕ) (call :
         (worked-untold start view next _ work.worked name value None call.task batches loose written word by doing (left-of view next call batches loose written left) quiet alone);
   }
 
-  pub under-made : (lock : ℕ) (made : Made) → MadeBy view next (Some made) → is_told name ≡ false → StoresAlone view next name → WorksUnder lock start view w
+  pub under-made : (lock : ℕ) (made : Made) → MadeBy view next (Some made) → is_shown w.places name ≡ false → StoresAlone view next name → WorksUnder lock start view w
       → WorksUnder lock start next (stored_work (w.entries ++ made.entry ∷ []) w.stores)
   under-made lock made by quiet alone work = record {
     steps = work.steps;

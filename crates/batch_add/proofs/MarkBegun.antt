@@ -1,5 +1,5 @@
 -- Marking bodies that was begun.
-use Rattle.std.specs.Prelude.{nat_eq}
+use Rattle.std.specs.Prelude.{nat_eq, false}
 use Rattle.std.proofs.Common.{◌≡◌, ℕ, ◌<◌, List, [], ◌++◌, ◌∷◌, All, length, take, refl, ap, sym, ◌∙◌, subst, arith}
 use Rattle.std.proofs.lemmas.Map.Keys.{IsDistinct-from_apart}
 use Rattle.fixed_box.specs.declared.fix_box.FixBox.{FixBox}
@@ -35,6 +35,7 @@ nothing_done start before batch all n none newest bare =
       batches = (newest ∙ (λ j. before ++ (record batch { marked = bare j }) ∷ [])) i;
       loose = start.loose;
       written = start.written;
+      places = false;
     })
     ∙ ap (λ (m : ℕ). marks_work start before batch (take m all) []) (sym none)
 

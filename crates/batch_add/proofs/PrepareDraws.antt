@@ -1,5 +1,5 @@
 -- The turns of drawing the tree of a batch, as turns of its preparation, and what they answer.
-use Rattle.std.specs.Prelude.{All, Contains, nat_eq, length}
+use Rattle.std.specs.Prelude.{true, All, Contains, nat_eq, length}
 use Rattle.std.specs.List.{IsDistinct}
 use Rattle.std.proofs.Common.{◌≡◌, ℕ, ◌+◌, ◌<◌, List, [], ◌∷◌, ◌++◌, map, get_or, Option, Some, None, Ok, refl, ap, sym, ◌∙◌, subst, arith}
 use Rattle.std.proofs.lemmas.List.{append-nil, length-map}
@@ -264,6 +264,7 @@ module _ (before : PrepareOp) (drawing new : TreeDrawing) (view next : View) (st
         batches = start.batches ++ now.drawn ∷ [];
         loose = loose i;
         written = now.has.written;
+        places = true;
       }
 
       -- ---- what was stored

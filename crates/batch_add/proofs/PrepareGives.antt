@@ -1,5 +1,5 @@
 -- Giving a batch up, as the last part of a preparation that is refused.
-use Rattle.std.specs.Prelude.{take, slice_index_or, Err, option_and_then, All}
+use Rattle.std.specs.Prelude.{true, take, slice_index_or, Err, option_and_then, All}
 use Rattle.std.proofs.Common.{◌≡◌, ℕ, ◌+◌, ◌<◌, List, [], ◌∷◌, ◌++◌, length, map, Option, Some, refl, ap, sym, ◌∙◌, subst, arith}
 use Rattle.std.proofs.lemmas.List.{append-nil}
 use Rattle.body_ident.specs.Id.{Id}
@@ -95,6 +95,7 @@ module _ (operation : PrepareOp) (start mid next : View) (current : ∥ IsCurren
               batches = append-nil start.batches i;
               loose = loose i;
               written = kept i;
+              places = true;
             })
             all;
         from_slot =
@@ -175,6 +176,7 @@ module _ (operation : PrepareOp) (start mid next : View) (current : ∥ IsCurren
               batches = append-nil start.batches i;
               loose = loose i;
               written = kept i;
+              places = true;
             })
             all;
         from_slot = from-later start reserved_at next (Slot layer slot) 0 (reserved_by number) (done-prefix reserved_at next (followed two (followed three four)) after_slot) reserved.from;

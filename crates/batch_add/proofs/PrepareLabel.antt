@@ -1,5 +1,5 @@
 -- What the turns of a preparation owe to its label.
-use Rattle.std.proofs.Common.{◌≡◌, ℕ, List, ◌∷◌, ◌++◌, [], map, Option, Some, None, Ok, Result, ap, sym, ◌∙◌, subst}
+use Rattle.std.proofs.Common.{◌≡◌, ℕ, List, ◌∷◌, ◌++◌, [], map, false, Option, Some, None, Ok, Result, refl, ap, sym, ◌∙◌, subst}
 use Rattle.body_ident.specs.Id.{Id}
 use Rattle.fixed_box.specs.declared.fix_box.FixBox.{FixBox}
 use Rattle.scene_model.specs.declared.entry.Entry.TheVariants.{Mark}
@@ -69,6 +69,7 @@ module _ (op : PrepareOp) (start mid next : View) (nodes : List ℕ) (bodies : L
     batches = start.batches ++ with_marks (with_slot_nodes op.layer op.slot nodes) bodies ∷ [];
     loose = (ap (λ (v : View). v.loose) has.taken.done.left ∙ ap (λ (v : View). v.loose) has.reserved.done.left) i;
     written = (ap (λ (v : View). v.written) has.taken.done.left ∙ ap (λ (v : View). v.written) has.reserved.done.left) i;
+    places = false;
   }
 
   pub all-marked : HasAllMarked op.layer (ids_of op) start next
@@ -82,6 +83,7 @@ module _ (op : PrepareOp) (start mid next : View) (nodes : List ℕ) (bodies : L
     many = has.taken.many;
     indexes = marked.indexes;
     done = subst (HasDone start next) outcome all_done;
+    spared = all_done.spares refl;
   }
 
 -- the turn that reaches the label

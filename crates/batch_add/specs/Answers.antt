@@ -1,5 +1,5 @@
 -- What preparing a batch and giving it up answer.
-use Rattle.std.specs.Prelude.{◌≡◌, ◌≢◌, ℕ, ◌+◌, ◌<◌, List, [], ◌∷◌, ◌++◌, length, map, take, slice_index_or, All, Result, Ok, Err, Contains}
+use Rattle.std.specs.Prelude.{◌≡◌, ◌≢◌, ℕ, ◌+◌, ◌<◌, true, List, [], ◌∷◌, ◌++◌, length, map, take, slice_index_or, All, Result, Ok, Err, Contains}
 use Rattle.body_ident.specs.Id.{Id}
 use Rattle.fixed_box.specs.declared.fix_box.FixBox.{FixBox}
 use Rattle.scene_model.specs.declared.entry.Entry.TheVariants.{Mark, Unmark}
@@ -31,6 +31,7 @@ prepared_outcome view layer slot number ids left batch written = record {
   batches = view.batches ++ batch ∷ [];
   loose = view.loose;
   written = written;
+  places = true;
 }
 
 -- The bodies of the ids are marked, in order, for a batch of a slot of the layer that was empty, with as many nodes of the pool
@@ -63,7 +64,7 @@ pub record HadFewNodes (layer : ℕ) (ids : List Id) (start next : View) (wanted
   pub number : ℕ
   pub pass : IsPass start number
   pub slot : ℕ
-  pub done : HasDone start next (record (idle start) { stores = stored_as (Slot layer slot) (reserved_by number) ∷ stored_as (Slot layer slot) 0 ∷ [] })
+  pub done : HasDone start next (record (idle start) { stores = stored_as (Slot layer slot) (reserved_by number) ∷ stored_as (Slot layer slot) 0 ∷ []; places = true })
   pub from_slot : StoresFrom start next (Slot layer slot) 0 (reserved_by number)
   pub need_of : wanted ≡ need (length ids)
   pub few : free < wanted
@@ -74,6 +75,7 @@ abbrev pub refused_outcome : View → ℕ → ℕ → ℕ → List Id → ℕ �
 refused_outcome view layer slot number ids left free = record (idle view) {
   entries = map (λ id. Mark id.index) ids ++ map (λ id. Unmark id.index) ids;
   stores = stored_as (Slot layer slot) (reserved_by number) ∷ stored_as PoolFree left ∷ stored_as (Slot layer slot) 0 ∷ stored_as PoolFree free ∷ [];
+  places = true;
 }
 
 -- The id at this place is refused, at a point of the call, and none before it. The bodies of those were marked, in order, and

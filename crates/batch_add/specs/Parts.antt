@@ -1,5 +1,5 @@
 -- What the parts of preparing a batch and of giving it up leave. The pass is at rest before and after each.
-use Rattle.std.specs.Prelude.{◌≡◌, ◌≢◌, ◌⊎◌, ℕ, ◌+◌, ◌%◌, ◌<◌, nat_eq, false, List, [], ◌∷◌, ◌++◌, length, map, take, slice_index_or, All, Contains}
+use Rattle.std.specs.Prelude.{◌≡◌, ◌≢◌, ◌⊎◌, ℕ, ◌+◌, ◌%◌, ◌<◌, nat_eq, true, false, List, [], ◌∷◌, ◌++◌, length, map, take, slice_index_or, All, Contains}
 use Rattle.std.specs.List.{IsDistinct}
 use Rattle.fixed_box.specs.FixBox.{words_of}
 use Rattle.fixed_box.specs.declared.fix_box.FixBox.{FixBox}
@@ -150,6 +150,7 @@ abbrev pub drawn_outcome : View → List Batch → Batch → List Store → Outc
 drawn_outcome view before batch written = record (idle view) {
   batches = before ++ batch ∷ [];
   written = written;
+  places = true;
 }
 
 -- the nodes of the newest batch are drawn as the tree over its bodies, and these are placed there
@@ -182,6 +183,7 @@ given_outcome view before batch after free = record {
   batches = before ++ after;
   loose = view.loose;
   written = written_outside batch.nodes view.written;
+  places = true;
 }
 
 -- The batch is given up: its bodies are unmarked, in order, its slot is empty, and its nodes are in the pool again

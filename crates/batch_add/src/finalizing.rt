@@ -8,6 +8,8 @@ ghost use Rattle.pass_table.specs.Passes.{view_of, IsOf, IsIdle};
 ghost use Rattle.pass_table.specs.Bodies.{IsGuarding, IsAlone};
 ghost use Rattle.pass_table.specs.Calls.{StoresWord};
 ghost use Rattle.pass_table.specs.Turning.{OneStep};
+ghost use Rattle.body_lock.specs.declared.multi_guard.MultiGuard.{MultiGuard};
+ghost use Rattle.body_lock.specs.Multi.{IsMultiGood};
 ghost use Rattle.batch_add.specs.declared.prepared.Prepared.{Prepared};
 ghost use Rattle.batch_add.specs.Drawing.{node_at};
 ghost use Rattle.batch_add.specs.declared.prepared_list.PreparedList.{PreparedList};
@@ -33,6 +35,7 @@ pub fn finalize(world: &World, pass: &mut Pass, batch: Prepared)
     ensures locks { (view_of pass.new).locks ≡ (view_of pass.old).locks }
     ensures guards { (number : ℕ) (id : Id) (mode : Mode) → IsGuarding number id mode (view_of pass.old) → IsGuarding number id mode (view_of pass.new) }
     ensures alone { (number : ℕ) (id : Id) (mode : Mode) → IsAlone number id mode (view_of pass.old) → IsAlone number id mode (view_of pass.new) }
+    ensures multi { (guard : MultiGuard) → IsMultiGood guard (view_of pass.old) → IsMultiGood guard (view_of pass.new) }
     ensures others { (other : Prepared) → IsGood other (view_of pass.old) → IsApart other batch → IsGood other (view_of pass.new) }
     ensures lists { (list : PreparedList) → AreGood list (view_of pass.old) → IsBeside batch list → AreGood list (view_of pass.new) }
 {

@@ -6,8 +6,9 @@
 //! themselves; each is also one call, which may wait for locks. Jolt's `AddBodiesPrepare`, `AddBodiesFinalize` and
 //! `AddBodiesAbort` are its outline.
 //!
-//! It stands on the list of free nodes, on the planned tree and its bounds. The layers above use that a batch that is prepared
-//! holds its bodies, that at the store which attaches it all of them come into the broad phase, and what each refusal says.
+//! It stands on the list of free nodes, on the planned tree and its bounds, and by one clause on the guard of `body_lock`.
+//! The layers above use that a batch that is prepared holds its bodies, that at the store which attaches it all of them come
+//! into the broad phase, and what each refusal says.
 #![tactic(auto)]
 
 mod aborting;

@@ -1,12 +1,13 @@
 -- What a guard of several bodies keeps.
-use Rattle.std.proofs.Common.{◌≡◌, ℕ, ◌<◌, [], length, get_or, ap, sym, ◌∙◌, subst}
+use Rattle.std.proofs.Common.{◌≡◌, ℕ, ◌<◌, List, [], length, get_or, ap, sym, ◌∙◌, subst}
 use Rattle.std.proofs.lemmas.List.Elements.{All-get_or, All-weaker}
 use Rattle.body_ident.specs.Id.{Id}
 use Rattle.scene_model.specs.declared.body_view.BodyView.{BodyView}
 use Rattle.word_map.specs.declared.config.Config.{Config}
 use Rattle.core_state.specs.declared.view.Mode.{Mode}
 use Rattle.core_state.specs.declared.view.View.{View}
-use Rattle.core_state.specs.View.{mode_of, number_of}
+use Rattle.core_state.specs.declared.view.LockStep.{LockStep}
+use Rattle.core_state.specs.View.{mode_of, number_in}
 use Rattle.pass_table.specs.Knowing.{KnowsMore}
 use Rattle.pass_table.specs.Calls.{Adds, AtPoint}
 use Rattle.body_lock.specs.declared.multi_guard.MultiEntry.{MultiEntry}
@@ -29,21 +30,28 @@ holds-kept view next bits mode same holds = record { held = λ lock has. same lo
 pub holds-more : (view next : View) (bits : ℕ) (mode : Mode) → KnowsMore view next → HoldsAll view bits mode → HoldsAll next bits mode
 holds-more view next bits mode more = holds-kept view next bits mode (λ lock. ap (λ (v : View). mode_of v.locks lock) more.rest)
 
--- an entry is as good after what others do
-reach-more : (number : ℕ) (mode : Mode) (view next : View) → KnowsMore view next → (id : Id) (entry : MultiEntry) → IsReachGood number mode view id entry → IsReachGood number mode next id entry
-reach-more number mode view next more id Reached good = guarding-more number id mode view good next more
-reach-more number mode view next more id (Gone state) good = tt
+-- A step that leaves the locks and what is under way keeps the guard as long as it keeps what is said of each body that is guarded
+module _ (guard : MultiGuard) (view next : View) (sizes : next.config ≡ view.config) (role : next.role ≡ view.role) (locks : next.locks ≡ view.locks) (task : next.call.task ≡ view.call.task)
+    (guards : (id : Id) → IsGuarding guard.number id guard.mode view → IsGuarding guard.number id guard.mode next) where
+  reach-kept : (id : Id) (entry : MultiEntry) → IsReachGood guard.number guard.mode view id entry → IsReachGood guard.number guard.mode next id entry
+  reach-kept id Reached good = guards id good
+  reach-kept id (Gone state) good = tt
+
+  pub multi-kept : IsMultiGood guard view → IsMultiGood guard next
+  multi-kept good = record {
+    pass = ap number_in role ∙ good.pass;
+    holds = holds-kept view next guard.stripes.bits guard.mode (λ lock. ap (λ (l : List LockStep). mode_of l lock) locks) good.holds;
+    within = λ stripe has. subst (λ (c : Config). stripe < c.stripes) (sym sizes) (good.within stripe has);
+    done = task ∙ good.done;
+    each =
+        All-weaker (IsEntryGood guard.number guard.mode view) (IsEntryGood guard.number guard.mode next) (λ body. reach-kept body.id body.entry) guard.bodies.items
+        good.each;
+  }
 
 pub multi-more : (guard : MultiGuard) (view next : View) → KnowsMore view next → IsMultiGood guard view → IsMultiGood guard next
-multi-more guard view next more good = record {
-  pass = ap (λ (v : View). number_of v) more.rest ∙ good.pass;
-  holds = holds-more view next guard.stripes.bits guard.mode more good.holds;
-  within = λ stripe has. subst (λ (c : Config). stripe < c.stripes) (sym (ap (λ (v : View). v.config) more.rest)) (good.within stripe has);
-  done = ap (λ (v : View). v.call.task) more.rest ∙ good.done;
-  each =
-      All-weaker (IsEntryGood guard.number guard.mode view) (IsEntryGood guard.number guard.mode next) (λ body. reach-more guard.number guard.mode view next more body.id body.entry) guard.bodies.items
-      good.each;
-}
+multi-more guard view next more =
+    multi-kept guard view next (ap (λ (v : View). v.config) more.rest) (ap (λ (v : View). v.role) more.rest) (ap (λ (v : View). v.locks) more.rest) (ap (λ (v : View). v.call.task) more.rest)
+    (λ id good. guarding-more guard.number id guard.mode view good next more)
 
 -- the k-th body, where it was reached
 module _ (guard : MultiGuard) (view : View) (good : IsMultiGood guard view) (k : ℕ) (within : k < length guard.bodies.items) (body : LockedBody) (is : (past : LockedBody) → body ≡ get_or guard.bodies.items k past)
@@ -65,18 +73,8 @@ module _ (guard : MultiGuard) (view : View) (good : IsMultiGood guard view) (k :
       subst (λ (b : LockedBody). (b.entry ≡ Reached) × SeesBody b.id view next shown) (is past)
       (reached, record { now = now; more = more; stays = guarded-stays guard.number body.id guard.mode view next reached-guarding more now; seen = seen })
 
--- after another user number
-reach-set : (number : ℕ) (mode : Mode) (view next : View) (index user : ℕ) → HasSetUser view next number index user → (id : Id) (entry : MultiEntry) → IsReachGood number mode view id entry → IsReachGood number mode next id entry
-reach-set number mode view next index user set id Reached good = user-guarding number id mode view next number index user good set
-reach-set number mode view next index user set id (Gone state) good = tt
-
+-- after another user number of one of its bodies
 pub multi-set : (guard : MultiGuard) (view next : View) (index user : ℕ) → HasSetUser view next guard.number index user → IsMultiGood guard view → IsMultiGood guard next
-multi-set guard view next index user set good = record {
-  pass = ap (λ (v : View). number_of v) set.rest ∙ good.pass;
-  holds = holds-kept view next guard.stripes.bits guard.mode (λ lock. ap (λ (v : View). mode_of v.locks lock) set.rest) good.holds;
-  within = λ stripe has. subst (λ (c : Config). stripe < c.stripes) (sym (ap (λ (v : View). v.config) set.rest)) (good.within stripe has);
-  done = ap (λ (v : View). v.call.task) set.rest ∙ good.done;
-  each =
-      All-weaker (IsEntryGood guard.number guard.mode view) (IsEntryGood guard.number guard.mode next) (λ body. reach-set guard.number guard.mode view next index user set body.id body.entry) guard.bodies.items
-      good.each;
-}
+multi-set guard view next index user set =
+    multi-kept guard view next (ap (λ (v : View). v.config) set.rest) (ap (λ (v : View). v.role) set.rest) (ap (λ (v : View). v.locks) set.rest) (ap (λ (v : View). v.call.task) set.rest)
+    (λ id good. user-guarding guard.number id guard.mode view next guard.number index user good set)

@@ -18,8 +18,8 @@ use Rattle.pass_table.specs.Turning.{AtMostOneStep, MadeBy}
 use Rattle.pass_table.specs.Calls.{Adds}
 use Rattle.pass_table.proofs.Turning.{one-step, made-by-step}
 use Rattle.pass_table.proofs.Calling.{Adds-refl, adds-none, stepped-left}
-use Rattle.pass_table.proofs.WorkLater.{tells-alone}
-use Rattle.pass_table.proofs.Working.{tells-refl}
+use Rattle.pass_table.proofs.WorkLater.{tells-alone, spares-alone}
+use Rattle.pass_table.proofs.Working.{tells-refl, spares-refl}
 use Rattle.pass_table.specs.Work.{HasDone, idle}
 use Rattle.pass_table.proofs.Knowing.{step-alone}
 
@@ -52,6 +52,7 @@ module _ (view next : View) (lock found : ℕ) (go : LetGo view lock found next)
   let-go-done number pass only = record {
     adds = let-go-adds number pass;
     tells = tells-alone view view next [] (Lock lock) refl (tells-refl view number pass) (step-alone MayRelease release view next (Lock lock) go.0 0 found go.1) refl;
+    spares = λ none. spares-alone view view next (Lock lock) refl (spares-refl view) (step-alone MayRelease release view next (Lock lock) go.0 0 found go.1) refl;
     rest = record {
       free = λ other. elim (cases_eq other lock) [
         | inl same ↦ let-go-mode other ∙ ap (λ (t : Bool). cond t no_mode (mode_of view.locks other)) (eq-eqb lock other (sym same))

@@ -13,7 +13,7 @@ use Rattle.word_map.specs.declared.config.Config.{Config}
 use Rattle.pass_table.specs.Holding.{MayLetGo, LetGo}
 use Rattle.pass_table.proofs.LockSets.{put-bit}
 use Rattle.pass_table.proofs.Calling.{Adds-refl}
-use Rattle.pass_table.proofs.Working.{worked-released, tells-refl}
+use Rattle.pass_table.proofs.Working.{worked-released, tells-refl, spares-refl}
 use Rattle.pass_table.specs.Work.{IsCalling, HasDone, idle}
 use Rattle.body_lock.specs.Stripes.{has_stripe, HasNone, TakesFirst, HoldsAll}
 use Rattle.body_lock.proofs.Letting.{let-go-mode, let-go-view}
@@ -45,7 +45,7 @@ pub release-begun : (view : View) (bits number : ℕ) (mode : Mode) → IsPass v
     → HasReleased view view bits mode
 release-begun view bits number mode pass holds within done = record {
   steps = [];
-  calling = record { adds = Adds-refl view number pass; tells = tells-refl view number pass; doing = done; left = λ i. record view { locks = sym (append-nil view.locks) i } };
+  calling = record { adds = Adds-refl view number pass; tells = tells-refl view number pass; spares = λ none. spares-refl view; doing = done; left = λ i. record view { locks = sym (append-nil view.locks) i } };
   holds = holds;
   within = within;
 }
@@ -94,6 +94,7 @@ pub release-ends : (start next : View) (bits : ℕ) (mode : Mode) → HasNone bi
 release-ends start next bits mode none released = record {
   adds = released.calling.adds;
   tells = released.calling.tells;
+  spares = released.calling.spares;
   rest = record { free = λ lock. released.holds.others lock (none lock (omega arith)); done = released.calling.doing };
   left =
       released.calling.left

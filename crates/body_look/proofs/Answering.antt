@@ -25,7 +25,7 @@ use Rattle.pass_table.specs.Work.{Work, begun, with_lock, HasWorked}
 use Rattle.pass_table.specs.Bodies.{IsGoneAt, IsTold}
 use Rattle.pass_table.proofs.Calling.{point-now, some-left}
 use Rattle.pass_table.proofs.LockedBodies.{told-body}
-use Rattle.pass_table.proofs.WorkLater.{tells-alone, worked-role, worked-sizes, worked-mode}
+use Rattle.pass_table.proofs.WorkLater.{tells-alone, spares-alone, worked-role, worked-sizes, worked-mode}
 use Rattle.pass_table.proofs.Working.{adds-then}
 use Rattle.body_look.specs.declared.body_found.BodyFound.{BodyFound}
 use Rattle.body_look.specs.declared.body_found.BodyFound.TheVariants.{Gone, Live as FoundLive, Out, In, Held, Joined}
@@ -100,6 +100,7 @@ worked-looked start mid next w id mode worked none stripe =
     subst (λ (c : Config). HasWorked start next (with_lock w (Taken (stripe_of c id.index) mode))) (worked-sizes start mid w worked) (record {
       adds = subst (Adds start next) (append-nil w.entries) (adds-then start mid next w.entries [] (worked-role start mid w worked) worked.adds looked.adds);
       tells = tells-alone start mid next w.stores (Lock lock) (worked-role start mid w worked) worked.tells stripe.alone refl;
+      spares = λ none. spares-alone start mid next (Lock lock) (worked-role start mid w worked) (worked.spares none) stripe.alone refl;
       doing = looked.doing ∙ sym none;
       left =
           looked.left

@@ -12,11 +12,12 @@ use Rattle.core_state.specs.declared.item.Store.{Store}
 use Rattle.core_state.specs.declared.view.Mode.{Mode}
 use Rattle.core_state.specs.declared.view.View.{View}
 use Rattle.core_state.specs.View.{number_in, IsPass, mode_of, mode_after}
+use Rattle.core_state.proofs.Quiet.{append_cut, in_first, in_second}
 use Rattle.pass_table.specs.Knowing.{KnowsMore, StoresAlone, more-alone}
 use Rattle.pass_table.specs.Holding.{IsAtRest}
 use Rattle.pass_table.specs.Belongings.{belongings_of}
 use Rattle.pass_table.proofs.Calling.{adds-more}
-use Rattle.pass_table.specs.Work.{is_told, told_store, told_stores, Tells, Work, HasWorked}
+use Rattle.pass_table.specs.Work.{is_told, told_store, told_stores, Tells, is_location, SparesLocations, Work, HasWorked}
 
 -- ---- stores that are told
 
@@ -69,6 +70,28 @@ tells-alone start view next stores name role tells alone silent =
 pub tells-more : (start view next : View) (stores : List Store) → view.role ≡ start.role → Tells start view stores → KnowsMore view next → Tells start next stores
 tells-more start view next stores role tells more = tells-alone start view next stores (Lock 0) role tells (more-alone view next (Lock 0) more) refl
 
+-- ---- locations
+
+pub spares-then : (start mid next : View) → mid.role ≡ start.role → SparesLocations start mid → SparesLocations mid next → SparesLocations start next
+spares-then start mid next role one two = record {
+  since = one.since ++ two.since;
+  known = two.known ∙ (ap (λ (l : List Item). l ++ two.since) one.known ∙ append_assoc start.known one.since two.since);
+  own = λ early later item parts mine.
+      elim (append_cut one.since two.since early later item parts) [
+        | in_first rest p ↦ one.own early rest item p mine
+        | in_second front p q ↦ two.own front later item q (ap number_in role ∙ mine)
+      ];
+}
+
+-- a step on another word
+pub spares-alone : (start view next : View) (name : Name) → view.role ≡ start.role → SparesLocations start view → StoresAlone view next name → is_location name ≡ false → SparesLocations start next
+spares-alone start view next name role spares alone other =
+    spares-then start view next role spares
+    (record { since = alone.since; known = alone.known; own = λ early later item parts mine. ap is_location (alone.own early later item parts mine) ∙ other })
+
+pub spares-more : (start view next : View) → view.role ≡ start.role → SparesLocations start view → KnowsMore view next → SparesLocations start next
+spares-more start view next role spares more = spares-alone start view next (Lock 0) role spares (more-alone view next (Lock 0) more) refl
+
 -- ---- calls under way
 
 module _ (start view : View) (w : Work) (worked : HasWorked start view w) where
@@ -106,6 +129,7 @@ module _ (start view next : View) (w : Work) (worked : HasWorked start view w) w
   worked-more more = record {
     adds = adds-more start view next w.entries (worked-role start view w worked) worked.adds more;
     tells = tells-more start view next w.stores (worked-role start view w worked) worked.tells more;
+    spares = λ none. spares-more start view next (worked-role start view w worked) (worked.spares none) more;
     doing = ap (λ (v : View). v.call.task) more.rest ∙ worked.doing;
     left =
         more.rest

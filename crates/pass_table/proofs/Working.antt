@@ -1,6 +1,6 @@
 -- How a call goes on, and how its parts follow each other.
 use Rattle.std.specs.Prelude.{option_map, option_to_list}
-use Rattle.std.proofs.Common.{◌≡◌, ℕ, List, [], ◌∷◌, ◌++◌, Bool, true, false, Option, Some, None, cond, eqb, filter_map, append_assoc, refl, ap, sym, ◌∙◌, subst}
+use Rattle.std.proofs.Common.{◌≡◌, ℕ, List, [], ◌∷◌, ◌++◌, Bool, true, false, not, Option, Some, None, cond, eqb, filter_map, append_assoc, refl, ap, sym, ◌∙◌, subst}
 use Rattle.std.specs.List.{cons_option}
 use Rattle.std.proofs.lemmas.Bool.{eq-eqb}
 use Rattle.std.proofs.lemmas.Option.{same_Some}
@@ -9,7 +9,7 @@ use Rattle.std.proofs.lemmas.List.Elements.{All-head, filter_map-append}
 use Rattle.scene_model.specs.declared.entry.Entry.{Entry}
 use Rattle.scene_model.specs.declared.entry.Made.{Made}
 use Rattle.word_map.specs.declared.name.Name.{Name}
-use Rattle.word_map.specs.declared.name.Name.TheVariants.{Lock}
+use Rattle.word_map.specs.declared.name.Name.TheVariants.{Lock, LocA, LocB}
 use Rattle.core_state.specs.declared.item.Item.{Item}
 use Rattle.core_state.specs.declared.item.Store.{Store}
 use Rattle.core_state.specs.declared.view.Mode.{Mode}
@@ -22,6 +22,7 @@ use Rattle.core_state.specs.declared.view.View.{View}
 use Rattle.core_state.specs.Log.{IsPrefix}
 use Rattle.core_state.specs.View.{IsPass, mode_of}
 use Rattle.core_state.specs.Locking.{MayRelease, release}
+use Rattle.core_state.proofs.Quiet.{append_cut, in_first, in_second, no_cut, one_cut}
 use Rattle.pass_table.specs.Knowing.{StoresAlone}
 use Rattle.pass_table.specs.Turning.{MadeBy}
 use Rattle.pass_table.specs.Holding.{LetGo, IsAtRest}
@@ -31,8 +32,8 @@ use Rattle.pass_table.specs.Calls.{own_entry, Adds, AtPoint, StoresWord}
 use Rattle.pass_table.specs.Belongings.{belongings_of}
 use Rattle.pass_table.proofs.Knowing.{step-alone}
 use Rattle.pass_table.proofs.Calling.{Adds-refl, adds-made, released-made, released-left, released-task}
-use Rattle.pass_table.proofs.WorkLater.{same_pass, none-told, tells_on, tells-alone, worked-role, worked-pass, worked-mode}
-use Rattle.pass_table.specs.Work.{is_told, told_store, told_stores, Tells, Work, begun, with_lock, HasWorked, Outcome, HasDone, followed, outcome_of, idle}
+use Rattle.pass_table.proofs.WorkLater.{same_pass, none-told, tells_on, tells-alone, spares-then, spares-alone, worked-role, worked-pass, worked-mode}
+use Rattle.pass_table.specs.Work.{is_told, told_store, told_stores, Tells, is_location, SparesLocations, is_shown, Work, begun, with_lock, HasWorked, Outcome, HasDone, followed, outcome_of, idle}
 
 -- ---- stores that are told
 
@@ -85,12 +86,60 @@ adds-then start mid next entries more role adds later = record {
       ∙ (λ i. adds.own i ++ subst (λ (n : ℕ). filter_map (own_entry n) later.since ≡ more) (same_Some later.number adds.number (sym later.pass ∙ same_pass start mid adds.number role adds.pass)) later.own i);
 }
 
+-- ---- locations
+
+pub spares-refl : (view : View) → SparesLocations view view
+spares-refl view = record { since = []; known = sym (append-nil view.known); own = λ early later item parts mine. absurd (no_cut item early later parts) }
+
+-- a word was stored that is no location
+spares-word : (view next : View) (name : Name) (value : ℕ) → StoresWord view next name value → is_location name ≡ false → SparesLocations view next
+spares-word view next name value word other = record {
+  since = word.advances.since ++ word.item ∷ [];
+  known = word.advances.known ∙ append_assoc view.known word.advances.since (word.item ∷ []);
+  own = λ early later item parts mine.
+      elim (append_cut word.advances.since (word.item ∷ []) early later item parts) [
+        | in_first rest p ↦ absurd ((word.advances.others early rest item p).foreign mine)
+        | in_second front p q ↦ ap is_location (ap (λ (it : Item). it.name) (one_cut word.item item front later q) ∙ word.named) ∙ other
+      ];
+}
+
+told-elsewhere : (name : Name) → is_told name ≡ true → is_location name ≡ false
+told-elsewhere (LocA index) told = absurd cc
+told-elsewhere (LocB index) told = absurd cc
+told-elsewhere _ told = refl
+
+-- a word that need not be shown is not told, and no location where none may be stored
+hidden-untold : (places : Bool) (name : Name) → is_shown places name ≡ false → is_told name ≡ false
+hidden-untold places name hidden = go (is_told name) hidden
+  where
+    go : (t : Bool) → cond t true (cond (is_location name) (not places) false) ≡ false → t ≡ false
+    go false h = refl
+    go true h = absurd cc
+
+hidden-elsewhere : (places : Bool) (name : Name) → is_shown places name ≡ false → places ≡ false → is_location name ≡ false
+hidden-elsewhere places name hidden none = go (is_told name) (is_location name) places hidden none
+  where
+    go : (t l p : Bool) → cond t true (cond l (not p) false) ≡ false → p ≡ false → l ≡ false
+    go false false p h n = refl
+    go true l p h n = absurd cc
+    go false true false h n = absurd cc
+    go false true true h n = absurd cc
+
+neither : (a b : Bool) → cond a true b ≡ false → (a ≡ false) × (b ≡ false)
+neither false b e = (refl, e)
+neither true b e = absurd cc
+
+-- a call that is told as one that may have stored locations
+pub worked-loosely : (start view : View) (w : Work) → HasWorked start view w → HasWorked start view (record w { places = true })
+worked-loosely start view w worked = record { adds = worked.adds; tells = worked.tells; spares = λ none. absurd cc; doing = worked.doing; left = worked.left }
+
 -- ---- calls under way
 
 pub worked-begun : (view : View) (number : ℕ) → IsPass view number → IsAtRest view → HasWorked view view (begun view)
 worked-begun view number pass rest = record {
   adds = Adds-refl view number pass;
   tells = tells-refl view number pass;
+  spares = λ none. spares-refl view;
   doing = rest.done;
   left = λ i. record view { locks = sym (append-nil view.locks) i };
 }
@@ -101,6 +150,7 @@ module _ (start view : View) (w : Work) (worked : HasWorked start view w) where
   worked-done rest none free = record {
     adds = worked.adds;
     tells = worked.tells;
+    spares = worked.spares;
     rest = record { free = λ lock. worked-mode start view w worked rest lock ∙ free lock; done = worked.doing ∙ none };
     left =
         worked.left
@@ -120,6 +170,7 @@ module _ (start view next : View) (w : Work) (worked : HasWorked start view w) w
   worked-waited lock waited by alone = record {
     adds = subst (Adds start next) (append-nil w.entries) (adds-made start view next w.entries None (worked-role start view w worked) worked.adds by);
     tells = tells-alone start view next w.stores (Lock lock) (worked-role start view w worked) worked.tells alone refl;
+    spares = λ none. spares-alone start view next (Lock lock) (worked-role start view w worked) (worked.spares none) alone refl;
     doing = ap (λ (v : View). v.call.task) waited.rest ∙ worked.doing;
     left =
         waited.rest
@@ -140,6 +191,7 @@ module _ (start view next : View) (w : Work) (worked : HasWorked start view w) w
   worked-taken lock mode taken by = record {
     adds = subst (Adds start next) (append-nil w.entries) (adds-made start view next w.entries None (worked-role start view w worked) worked.adds by);
     tells = tells-alone start view next w.stores (Lock lock) (worked-role start view w worked) worked.tells taken.alone refl;
+    spares = λ none. spares-alone start view next (Lock lock) (worked-role start view w worked) (worked.spares none) taken.alone refl;
     doing = ap (λ (v : View). v.call.task) taken.left.rest ∙ worked.doing;
     left =
         taken.left.rest
@@ -163,6 +215,7 @@ module _ (start view next : View) (w : Work) (worked : HasWorked start view w) w
         (adds-made start view next w.entries None (worked-role start view w worked) worked.adds (released-made view next lock found go worked.adds.number (worked-pass start view w worked)));
     tells =
         tells-alone start view next w.stores (Lock lock) (worked-role start view w worked) worked.tells (step-alone MayRelease release view next (Lock lock) go.0 0 found go.1) refl;
+    spares = λ none. spares-alone start view next (Lock lock) (worked-role start view w worked) (worked.spares none) (step-alone MayRelease release view next (Lock lock) go.0 0 found go.1) refl;
     doing = released-task view next lock found go ∙ sym none;
     left =
         released-left view next lock found go
@@ -179,12 +232,13 @@ module _ (start view next : View) (w : Work) (worked : HasWorked start view w) w
   }
 
   -- a step on a word that is not told, with this entry or none, which left the pass with this task
-  pub worked-made : (name : Name) (made : Option Made) (task : Task) → is_told name ≡ false → StoresAlone view next name → MadeBy view next made
+  pub worked-made : (name : Name) (made : Option Made) (task : Task) → is_shown w.places name ≡ false → StoresAlone view next name → MadeBy view next made
       → next ≡ record view { known = next.known; joined = next.joined; call = next.call } → next.call.task ≡ task
       → HasWorked start next (record w { task = task; entries = w.entries ++ option_to_list (option_map (λ (m : Made). m.entry) made) })
   worked-made name made task silent alone by left doing = record {
     adds = adds-made start view next w.entries made (worked-role start view w worked) worked.adds by;
-    tells = tells-alone start view next w.stores name (worked-role start view w worked) worked.tells alone silent;
+    tells = tells-alone start view next w.stores name (worked-role start view w worked) worked.tells alone (hidden-untold w.places name silent);
+    spares = λ none. spares-alone start view next name (worked-role start view w worked) (worked.spares none) alone (hidden-elsewhere w.places name silent none);
     doing = doing;
     left = left ∙ ap (λ (v : View). record v { known = next.known; joined = next.joined; call = next.call }) worked.left;
   }
@@ -205,20 +259,23 @@ module _ (start view next : View) (w : Work) (worked : HasWorked start view w) w
       batches = batches;
       loose = loose;
       written = written;
+      places = w.places;
     }
 
     pub worked-told : is_told name ≡ true → HasWorked start next (after_store (w.stores ++ (record { name = name; value = value }) ∷ []))
     worked-told told = record {
       adds = adds-made start view next w.entries made (worked-role start view w worked) worked.adds by;
       tells = tells-stored start view next w.stores name value (worked-role start view w worked) worked.tells word told;
+      spares = λ none. spares-then start view next (worked-role start view w worked) (worked.spares none) (spares-word view next name value word (told-elsewhere name told));
       doing = doing;
       left = stored_left;
     }
 
-    pub worked-untold : is_told name ≡ false → StoresAlone view next name → HasWorked start next (after_store w.stores)
+    pub worked-untold : is_shown w.places name ≡ false → StoresAlone view next name → HasWorked start next (after_store w.stores)
     worked-untold silent alone = record {
       adds = adds-made start view next w.entries made (worked-role start view w worked) worked.adds by;
-      tells = tells-alone start view next w.stores name (worked-role start view w worked) worked.tells alone silent;
+      tells = tells-alone start view next w.stores name (worked-role start view w worked) worked.tells alone (hidden-untold w.places name silent);
+      spares = λ none. spares-alone start view next name (worked-role start view w worked) (worked.spares none) alone (hidden-elsewhere w.places name silent none);
       doing = doing;
       left = stored_left;
     }
@@ -231,7 +288,7 @@ done-prefix start next o done = (done.adds.since, done.adds.known)
 
 -- a pass that does nothing
 pub done-idle : (view : View) (number : ℕ) → IsPass view number → IsAtRest view → HasDone view view (idle view)
-done-idle view number pass rest = record { adds = Adds-refl view number pass; tells = tells-refl view number pass; rest = rest; left = refl }
+done-idle view number pass rest = record { adds = Adds-refl view number pass; tells = tells-refl view number pass; spares = λ none. spares-refl view; rest = rest; left = refl }
 
 -- what the pass has afterwards beside its locks and its task
 pub done-keeps : (start next : View) (o : Outcome) → HasDone start next o → belongings_of next ≡ record (belongings_of start) { batches = o.batches; loose = o.loose; written = o.written }
@@ -244,6 +301,7 @@ done-then start mid next first second one two =
     record {
       adds = adds-then start mid next first.entries second.entries role one.adds two.adds;
       tells = tells-then start mid next first.stores second.stores role one.tells two.tells;
+      spares = λ none. let both = neither first.places second.places none in spares-then start mid next role (one.spares both.0) (two.spares both.1);
       rest = two.rest;
       left =
           two.left

@@ -150,7 +150,7 @@ pub record IsDrawnFrom (batch drawn : Batch) : Type 0 where
 
 -- what is worked: the newest batch is this one, and this was stored in own nodes
 abbrev pub drawing_work : View → List Batch → Batch → List Store → Work
-drawing_work start before drawn written = record (begun start) { batches = before ++ drawn ∷ []; written = written }
+drawing_work start before drawn written = record (begun start) { batches = before ++ drawn ∷ []; written = written; places = true }
 
 -- since the drawing was begun it came so far
 pub record HasDrawnUpTo (p : Planned) (start view : View) (r : Reached) : Type 0 where

@@ -1,5 +1,5 @@
 -- How a batch is given up, turn by turn.
-use Rattle.std.specs.Prelude.{◌≡◌, ℕ, zero, suc, ◌+◌, ◌-◌, ◌*◌, ◌<◌, ◌≤◌, List, [], ◌∷◌, ◌++◌, length, map, false, None, Option, Some}
+use Rattle.std.specs.Prelude.{◌≡◌, ℕ, zero, suc, ◌+◌, ◌-◌, ◌*◌, ◌<◌, ◌≤◌, List, [], ◌∷◌, ◌++◌, length, map, true, false, None, Option, Some}
 use Rattle.scene_model.specs.declared.entry.Entry.{Entry}
 use Rattle.scene_model.specs.declared.entry.Entry.TheVariants.{Unmark}
 use Rattle.word_map.specs.declared.name.Name.TheVariants.{Slot, PoolHead, PoolNext, PoolFree}
@@ -56,7 +56,7 @@ unplaced m = record m { is_placed = false }
 
 -- the first of its bodies are unmarked, and the batch has the others
 abbrev pub unmarking_work : View → List Batch → Batch → List Batch → List Marked → List Marked → Work
-unmarking_work start before batch after gone left = record (begun start) { entries = unmark_entries gone; batches = before ++ with_marks batch left ∷ after }
+unmarking_work start before batch after gone left = record (begun start) { entries = unmark_entries gone; batches = before ++ with_marks batch left ∷ after; places = true }
 
 -- what a pass is in the middle of that has put so many nodes on the pool
 abbrev pub putting : ℕ → Task
@@ -72,6 +72,7 @@ giving_work start before batch after task gone left = record (begun start) {
   batches = before ++ after;
   loose = start.loose ++ left;
   written = written_outside gone start.written;
+  places = true;
 }
 
 -- all are given back, and the count is stored

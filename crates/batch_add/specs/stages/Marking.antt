@@ -83,7 +83,7 @@ IsFree steps = (lock : ℕ) → mode_of steps lock ≡ None
 abbrev pub marks_work : View → List Batch → Batch → List (ℕ × FixBox) → List LockStep → Work
 marks_work start before batch bodies steps =
     let done = marks_outcome start before batch bodies in
-    record { steps = steps; task = Nothing; entries = done.entries; stores = done.stores; batches = done.batches; loose = done.loose; written = done.written }
+    record { steps = steps; task = Nothing; entries = done.entries; stores = done.stores; batches = done.batches; loose = done.loose; written = done.written; places = done.places }
 
 -- they are marked, and no lock is held
 pub record IsBetween (start : View) (before : List Batch) (batch : Batch) (marks : Marks) (view : View) : Type 0 where

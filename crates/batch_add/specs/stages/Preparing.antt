@@ -36,7 +36,7 @@ use Rattle.batch_add.specs.declared.prepare_op.PrepareStage.{PrepareStage}
 use Rattle.batch_add.specs.declared.prepare_op.PrepareStage.TheVariants.{Empty, Searching, TakingNodes, Marking as MarkingStage, Drawing, GivingUp as GivingUpStage}
 use Rattle.batch_add.specs.declared.prepare_op.PrepareOp.{PrepareOp}
 use Rattle.batch_add.specs.declared.prepare_op.Plans.{Plans}
-use Rattle.pass_table.specs.Work.{Outcome, HasWorked, HasDone, begun, idle}
+use Rattle.pass_table.specs.Work.{SparesLocations, Outcome, HasWorked, HasDone, begun, idle}
 use Rattle.batch_add.specs.Parts.{stored_as, HasReserved, with_nodes, HasNodes, FoundFewNodes, marked_as, HasMarked, HasMarkedBefore}
 use Rattle.batch_add.specs.stages.Searching.{IsSearching, search_left}
 use Rattle.batch_add.specs.stages.TakingNodes.{IsTakingNodes, nodes_left, nodes_takes}
@@ -296,7 +296,8 @@ marked_outcome start layer slot number ids left nodes bodies = record (idle star
 }
 
 -- The label says: the bodies of the ids are marked, in order, by a pass that is at rest again. It has a batch more, of these
--- bodies, with as many nodes of the pool as their tree needs. None of the bodies is placed, and no node is drawn
+-- bodies, with as many nodes of the pool as their tree needs. None of the bodies is placed, no node is drawn, and no location was
+-- stored meanwhile, not even one that was taken back
 pub record HasAllMarked (layer : ℕ) (ids : List Id) (start next : View) : Type 0 where
   pub number : ℕ
   pub slot : ℕ
@@ -307,6 +308,7 @@ pub record HasAllMarked (layer : ℕ) (ids : List Id) (start next : View) : Type
   pub many : length nodes ≡ need (length ids)
   pub indexes : map (λ b. b.0) bodies ≡ map (λ id. id.index) ids
   pub done : HasDone start next (marked_outcome start layer slot number ids left nodes bodies)
+  pub spared : SparesLocations start next
 
 abbrev pub label_says : PrepareOp → View → View → ℕ → Type 0
 label_says first start next label = HasAllMarked first.layer (ids_of first) start next

@@ -2,6 +2,7 @@ use Rattle.std.proofs.Common.{ℕ, ◌+◌, ◌<◌, length, List, sym, ap, ◌�
 use Rattle.fixed_box.specs.declared.fix_box.FixBox.{FixBox}
 use Rattle.core_state.specs.declared.view.Batch.{Batch}
 use Rattle.core_state.specs.declared.view.View.{View}
+use Rattle.body_lock.proofs.Guards.{multi-kept}
 use Rattle.batch_add.specs.declared.prepared.Prepared.{Prepared}
 use Rattle.batch_add.specs.Prepared.{IsTheBatch}
 use Rattle.pass_table.specs.Belongings.{belongings_of}
@@ -63,6 +64,12 @@ returns-clause-alone c =
     let good = c.requires.good in
     alone_left c.args.batch (view_of c.args.pass.now) (view_of c.step_24.new.pass) c.args.batch.number good.pass good.before good.batch good.after good.bodies good.is c.args.pass.now.current c.to_word.result
     (c.to_word.ensures ∙ ap (λ (n : ℕ). 1024 + n) (c.first_node-root.ensures ∙ ap (λ (l : List ℕ). node_at l 0) c.as_slice.ensures.value)) c.step_24.ensures.step
+
+pub returns-clause-multi : goal.returns-clause-multi
+returns-clause-multi c guard =
+    let left = (returns-clause-attached c).left in
+    multi-kept guard (view_of c.args.pass.now) (view_of c.step_24.new.pass) (ap (λ (v : View). v.config) left) (ap (λ (v : View). v.role) left) (ap (λ (v : View). v.locks) left)
+    (ap (λ (v : View). v.call.task) left) (λ id. returns-clause-guards c guard.number id guard.mode)
 
 pub returns-clause-others : goal.returns-clause-others
 returns-clause-others c = (returns-clause-attached c).others

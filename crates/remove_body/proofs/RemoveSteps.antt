@@ -50,7 +50,7 @@ use Rattle.pass_table.specs.Holding.{MayLetGo, LetGo, IsAtRest}
 use Rattle.pass_table.specs.Calls.{Advances, StoresWord}
 use Rattle.pass_table.specs.Bodies.{IsCurrent, KnowsLive, Loaded}
 use Rattle.pass_table.specs.Settled.{KnowsPhase, KnowsFirst, KnowsSecond}
-use Rattle.pass_table.specs.Work.{IsCalling, is_told}
+use Rattle.pass_table.specs.Work.{is_shown}
 use Rattle.pass_table.proofs.Knowing.{known-more, step-alone}
 use Rattle.pass_table.proofs.Turning.{one-step, still-made}
 use Rattle.pass_table.proofs.Calling.{adds-none, stepped-stores, stored-gained, stored-made, stores-word, word-now, word-beside, released-step, released-made, released-lawful}
@@ -64,7 +64,7 @@ use Rattle.remove_body.specs.declared.remove_op.RemoveStage.{RemoveStage}
 use Rattle.remove_body.specs.declared.remove_op.RemoveStage.TheVariants.{Inside, HalfLocated, Located, TakenOut, Cleared, Forgotten, Leaving}
 use Rattle.remove_body.specs.declared.remove_op.RemoveOp.{RemoveOp}
 use Rattle.remove_body.specs.Answers.{HasRemoved, IsJustOut, IsRemoveAnswer, HasEnded}
-use Rattle.remove_body.specs.stages.Removing.{stripe_taken, IsInside, IsOutAt, HasClearedAt, AtRemove, IsBegunFor, IsRemoving, stage_label, answer_label, stage_left, IsRemoveTurn, ClearsEntry, no_place, a_place, IsLocationOf}
+use Rattle.remove_body.specs.stages.Removing.{IsAtWork, stripe_taken, IsInside, IsOutAt, HasClearedAt, AtRemove, IsBegunFor, IsRemoving, stage_label, answer_label, stage_left, IsRemoveTurn, ClearsEntry, no_place, a_place, IsLocationOf}
 use Rattle.remove_body.specs.stages.RemoveLater.{stripe-held, in-apart, out-apart, removed-later, answer-later, inside-later, first-later}
 use Rattle.remove_body.proofs.RemoveTurns.{unlabelled}
 
@@ -131,7 +131,7 @@ module _ (id : Id) (start view : View) (first second : ℕ) (rest : IsAtRest sta
     pub removal-made : (number : ℕ) → IsPass view number → MadeBy view next (Some (record { pass = number; entry = Remove id.index }))
     removal-made number pass = stored-made MayRemove remove view next (Phase id.index) 0 refl stored number pass
 
-    calling : IsCalling start next (stripe_taken start.config id) (RemovingTask id.index) (Remove id.index ∷ [])
+    calling : IsAtWork start next (stripe_taken start.config id) (RemovingTask id.index) (Remove id.index ∷ [])
     calling =
         worked-made start view next _ at.calling (Phase id.index) _ (RemovingTask id.index) refl (step-alone MayRemove remove view next (Phase id.index) 0 0 stored.0 stored.1)
         (removal-made at.calling.adds.number (worked-pass start view _ at.calling))
@@ -210,7 +210,7 @@ remove-turn before first start view next number a b removing pass at stored =
 
 -- ---- stores while it is taken out
 
-module _ (asks : Asking) (kind : Kind) (does : kind.operation ≡ store) (name : Name) (silent : is_told name ≡ false) (id : Id) (start view next : View) (first second : ℕ) (rest : IsAtRest start)
+module _ (asks : Asking) (kind : Kind) (does : kind.operation ≡ store) (name : Name) (silent : is_shown true name ≡ false) (id : Id) (start view next : View) (first second : ℕ) (rest : IsAtRest start)
     (at : IsOutAt id start view first second) (stored : Stored asks kind view name 0 next) (none : kind.entry view name 0 ≡ None)
     (left : next ≡ record view { known = next.known; joined = next.joined; call = next.call }) where
   abbrev own_step : Step
@@ -235,7 +235,7 @@ module _ (asks : Asking) (kind : Kind) (does : kind.operation ≡ store) (name :
   own-none : MadeBy view next None
   own-none = made-none at.calling.adds.number (worked-pass start view _ at.calling)
 
-  pub calling-on : (task : Task) → next.call.task ≡ task → IsCalling start next (stripe_taken start.config id) task (Remove id.index ∷ [])
+  pub calling-on : (task : Task) → next.call.task ≡ task → IsAtWork start next (stripe_taken start.config id) task (Remove id.index ∷ [])
   calling-on task doing = worked-made start view next _ at.calling name None task silent (step-alone asks kind view next name 0 0 stored.0 stored.1) own-none left doing
 
   pub removed-on : HasRemoved id start next

@@ -1,5 +1,5 @@
 -- What the turns of a removal leave that look at the body, and what each turn leaves of the label.
-use Rattle.std.proofs.Common.{◌≡◌, ℕ, ◌<◌, ◌≤◌, [], Option, Some, None, Err, Result, refl, ap, sym, ◌∙◌, subst, arith}
+use Rattle.std.proofs.Common.{◌≡◌, ℕ, ◌<◌, ◌≤◌, List, [], Option, Some, None, Err, Result, refl, ap, sym, ◌∙◌, subst, arith}
 use Rattle.std.proofs.lemmas.Option.{none-some}
 use Rattle.body_ident.specs.Id.{Id}
 use Rattle.scene_model.specs.declared.body_view.Phase.{Phase as BodyPhase}
@@ -7,6 +7,10 @@ use Rattle.scene_model.specs.declared.body_view.Phase.TheVariants.{Out, Held, In
 use Rattle.word_map.specs.declared.name.Name.TheVariants.{Slot}
 use Rattle.core_state.specs.declared.view.Mode.{Mode}
 use Rattle.core_state.specs.declared.view.Mode.TheVariants.{Write}
+use Rattle.core_state.specs.declared.view.LockStep.{LockStep}
+use Rattle.scene_model.specs.declared.entry.Entry.{Entry}
+use Rattle.std.proofs.lemmas.Bool.{false≢true}
+use Rattle.core_state.specs.declared.view.Task.{Task}
 use Rattle.core_state.specs.declared.view.Task.TheVariants.{Nothing}
 use Rattle.core_state.specs.declared.view.View.{View}
 use Rattle.core_state.specs.View.{known_word}
@@ -32,7 +36,7 @@ use Rattle.remove_body.specs.declared.remove_op.RemoveStage.{RemoveStage}
 use Rattle.remove_body.specs.declared.remove_op.RemoveStage.TheVariants.{Looking, Leaving}
 use Rattle.remove_body.specs.declared.remove_op.RemoveOp.{RemoveOp}
 use Rattle.remove_body.specs.Answers.{IsNotInAt, IsHeldAt, IsRemoveAnswer}
-use Rattle.remove_body.specs.stages.Removing.{stripe_taken, IsInside, AtRemove, IsRemoving, HasRemovedOr, stage_label, label_of, label_says, stage_left, takes_at, IsPlainTurn, IsRemoveTurn}
+use Rattle.remove_body.specs.stages.Removing.{IsAtWork, stripe_taken, IsInside, AtRemove, IsRemoving, HasRemovedOr, stage_label, label_of, label_says, stage_left, takes_at, IsPlainTurn, IsRemoveTurn}
 
 -- ---- begun
 
@@ -146,12 +150,17 @@ guards-in id mode view FoundIn phase same guards = guards
 guards-in id mode view (FoundHeld layer slot word) phase same guards = guards
 guards-in id mode view (FoundJoined layer slot word) phase same guards = guards
 
+-- a call that has stored no location is one that may have stored some
+at-work : (start view : View) (steps : List LockStep) (task : Task) (entries : List Entry) → IsCalling start view steps task entries → IsAtWork start view steps task entries
+at-work start view steps task entries calling =
+    record { adds = calling.adds; tells = calling.tells; spares = λ none. absurd (false≢true (sym none)); doing = calling.doing; left = calling.left }
+
 -- the body is in the broad phase
 pub found-in : (id : Id) (start next : View) (found : BodyFound) → phase_found found ≡ Some In → HasLooked id Write ItsPhase start next found → IsInside id start next
 found-in id start next found same looked =
     let told = phase-told id next found In same looked.is in
     record {
-      calling = looked.stripe.worked;
+      calling = at-work start next _ _ _ looked.stripe.worked;
       phase = record {
         live = (is-guarded id Write start next looked.stripe (guards-in id Write next found In same looked.guards)).2.state;
         body = λ sound. told-body id next told.0 (λ r. r.phase ≡ In) told.1;
@@ -159,7 +168,7 @@ found-in id start next found same looked =
     }
 
 -- it is left to let the stripe go, and to answer this
-leaving : (id : Id) (start next : View) (look : LookOp) (answer : Result (Unit {0}) RemoveRefused) → IsCalling start next (stripe_taken start.config id) Nothing [] → IsRemoveAnswer id start next answer
+leaving : (id : Id) (start next : View) (look : LookOp) (answer : Result (Unit {0}) RemoveRefused) → IsAtWork start next (stripe_taken start.config id) Nothing [] → IsRemoveAnswer id start next answer
     → AtRemove id start next look (Leaving answer)
 leaving id start next look answer calling right = ([], calling, right)
 
@@ -167,14 +176,14 @@ leaving id start next look answer calling right = ([], calling, right)
 pub found-gone : (id : Id) (start next : View) (look : LookOp) (found : BodyFound) (state : ℕ) → found ≡ FoundGone state → HasLooked id Write ItsPhase start next found
     → AtRemove id start next look (Leaving (Err (Gone state)))
 found-gone id start next look found state is looked =
-    leaving id start next look (Err (Gone state)) looked.stripe.worked
+    leaving id start next look (Err (Gone state)) (at-work start next _ _ _ looked.stripe.worked)
     (record { adds = looked.stripe.worked.adds; at = gone-point id Write start next looked.stripe state (subst (IsFound id next) is looked.is) })
 
 -- or out
 pub found-out : (id : Id) (start next : View) (look : LookOp) (found : BodyFound) → found ≡ FoundOut → HasLooked id Write ItsPhase start next found → AtRemove id start next look (Leaving (Err (NotIn 0)))
 found-out id start next look found is looked =
     let out = subst (IsFound id next) is looked.is in
-    leaving id start next look (Err (NotIn 0)) looked.stripe.worked
+    leaving id start next look (Err (NotIn 0)) (at-work start next _ _ _ looked.stripe.worked)
     (record {
       adds = looked.stripe.worked.adds;
       at =
@@ -187,7 +196,7 @@ pub found-held : (id : Id) (start next : View) (look : LookOp) (found : BodyFoun
     → AtRemove id start next look (Leaving (Err (HeldBody word)))
 found-held id start next look found layer slot word is looked =
     let held = subst (IsFound id next) is looked.is in
-    leaving id start next look (Err (HeldBody word)) looked.stripe.worked
+    leaving id start next look (Err (HeldBody word)) (at-work start next _ _ _ looked.stripe.worked)
     (record {
       adds = looked.stripe.worked.adds;
       at =

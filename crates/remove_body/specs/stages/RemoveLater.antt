@@ -23,7 +23,6 @@ use Rattle.pass_table.specs.Settled.{KnowsFirst}
 use Rattle.pass_table.proofs.Calling.{adds-more, point-later}
 use Rattle.pass_table.proofs.Settled.{phase-more, first-more, second-more}
 use Rattle.pass_table.proofs.WorkLater.{worked-role, worked-sizes, worked-mode, worked-more}
-use Rattle.pass_table.specs.Work.{IsCalling}
 use Rattle.body_look.specs.declared.look_op.LookOp.{LookOp}
 use Rattle.body_look.specs.stages.LookLater.{looking-later}
 use Rattle.remove_body.specs.declared.answers.RemoveRefused.{RemoveRefused}
@@ -32,14 +31,14 @@ use Rattle.remove_body.specs.declared.remove_op.RemoveStage.{RemoveStage}
 use Rattle.remove_body.specs.declared.remove_op.RemoveStage.TheVariants.{Looking, Inside, HalfLocated, Located, TakenOut, HalfCleared, Cleared, Forgotten, Leaving}
 use Rattle.remove_body.specs.declared.remove_op.RemoveOp.{RemoveOp}
 use Rattle.remove_body.specs.Answers.{HasRemoved, IsRemoveAnswer}
-use Rattle.remove_body.specs.stages.Removing.{stripe_taken, IsInside, IsOutAt, HasClearedAt, AtRemove, IsRemoving}
+use Rattle.remove_body.specs.stages.Removing.{IsAtWork, stripe_taken, IsInside, IsOutAt, HasClearedAt, AtRemove, IsRemoving}
 
 -- ---- the stripe
 
 one-taken : (a : ℕ) → mode_of (TakenStep a Write ∷ []) a ≡ Some Write
 one-taken a = ap (λ (t : Bool). cond {A = Option Mode} t (Some Write) None) (eq-eqb a a refl)
 
-pub stripe-held : (id : Id) (start view : View) (task : Task) (entries : List Entry) → IsAtRest start → IsCalling start view (stripe_taken start.config id) task entries
+pub stripe-held : (id : Id) (start view : View) (task : Task) (entries : List Entry) → IsAtRest start → IsAtWork start view (stripe_taken start.config id) task entries
     → Holds view (stripe_of view.config id.index) Write
 stripe-held id start view task entries rest calling =
     subst (λ (c : Config). Holds view (stripe_of c id.index) Write) (sym (worked-sizes start view _ calling))

@@ -1,5 +1,5 @@
 -- How taking a body out goes, turn by turn.
-use Rattle.std.specs.Prelude.{◌≡◌, ◌⊎◌, ℕ, ◌+◌, ◌<◌, List, [], ◌∷◌, Option, Some, None, Result, Ok, Err}
+use Rattle.std.specs.Prelude.{◌≡◌, ◌⊎◌, ℕ, ◌+◌, ◌<◌, List, [], ◌∷◌, Option, Some, None, Result, Ok, Err, true}
 use Rattle.body_ident.specs.Id.{Id}
 use Rattle.scene_model.specs.declared.body_view.Phase.TheVariants.{Out, In}
 use Rattle.scene_model.specs.declared.entry.Entry.{Entry}
@@ -24,7 +24,7 @@ use Rattle.pass_table.specs.Holding.{IsAtRest}
 use Rattle.pass_table.specs.Calls.{IsTurn}
 use Rattle.pass_table.specs.Labels.{IsRefusal, EndsAfter, SaysNew}
 use Rattle.pass_table.specs.Turning.{Labelled}
-use Rattle.pass_table.specs.Work.{IsCalling}
+use Rattle.pass_table.specs.Work.{HasWorked}
 use Rattle.pass_table.specs.Settled.{KnowsPhase, KnowsFirst, KnowsSecond}
 use Rattle.body_look.specs.declared.look_op.LookDepth.TheVariants.{Phase as ItsPhase}
 use Rattle.body_look.specs.declared.look_op.LookOp.{LookOp}
@@ -37,18 +37,25 @@ use Rattle.remove_body.specs.Answers.{HasRemoved, IsRemoveAnswer, HasEnded, IsJu
 
 -- ---- stages
 
+-- A removal is under way that made these steps on locks and these entries, and is in the middle of this task. It stored no
+-- word that is told, and may have stored locations; all else but what the pass knows is as it was
+abbrev pub IsAtWork : View → View → List LockStep → Task → List Entry → Type 0
+IsAtWork start view steps task entries =
+    HasWorked start view
+    (record { steps = steps; task = task; entries = entries; stores = []; batches = start.batches; loose = start.loose; written = start.written; places = true })
+
 -- the stripe of the body, taken
 abbrev pub stripe_taken : Config → Id → List LockStep
 stripe_taken c id = TakenStep (stripe_of c id.index) Write ∷ []
 
 -- the body is in the broad phase
 pub record IsInside (id : Id) (start view : View) : Type 0 where
-  pub calling : IsCalling start view (stripe_taken start.config id) Nothing []
+  pub calling : IsAtWork start view (stripe_taken start.config id) Nothing []
   pub phase : KnowsPhase id In view
 
 -- the body was taken out, and these are its locations
 pub record IsOutAt (id : Id) (start view : View) (first second : ℕ) : Type 0 where
-  pub calling : IsCalling start view (stripe_taken start.config id) (RemovingTask id.index) (Remove id.index ∷ [])
+  pub calling : IsAtWork start view (stripe_taken start.config id) (RemovingTask id.index) (Remove id.index ∷ [])
   pub removed : HasRemoved id start view
   pub phase : KnowsPhase id Out view
   pub at_first : KnowsFirst id first view
@@ -69,7 +76,7 @@ AtRemove id start view look (HalfCleared first second) = IsOutAt id start view f
 AtRemove id start view look (Cleared first second) = IsOutAt id start view first second × HasClearedAt view.call first × HasClearedAt view.call second
 AtRemove id start view look (Forgotten second) = IsOutAt id start view 0 second × HasClearedAt view.call second
 AtRemove id start view look (Leaving answer) =
-    (entries : List Entry) × IsCalling start view (stripe_taken start.config id) Nothing entries × IsRemoveAnswer id start view answer
+    (entries : List Entry) × IsAtWork start view (stripe_taken start.config id) Nothing entries × IsRemoveAnswer id start view answer
 
 -- the removal was begun so, by a pass at rest
 pub record IsBegunFor (id : Id) (start : View) : Type 0 where

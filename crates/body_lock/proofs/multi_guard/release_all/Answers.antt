@@ -1,6 +1,13 @@
 use Rattle.pass_table.specs.Passes.{view_of}
-use Rattle.body_lock.proofs.Stripes.{release-more, release-ends}
+use Rattle.body_lock.proofs.Stripes.{release-begun, release-more, release-ends}
 use Rattle.body_lock.proofs.multi_guard.release_all.Goals as goal
+
+pub loop-stripe-init : goal.loop-stripe-init
+loop-stripe-init c =
+    let holds = c.requires.holds in (
+      c.requires.of,
+      (holds.0, release-begun (view_of c.args.pass.now) c.args.stripes.bits c.args.pass.now.number holds.0 c.args.pass.now.numbered holds.1 c.requires.within c.requires.done),
+    )
 
 pub loop-stripe-preserved : goal.loop-stripe-preserved
 loop-stripe-preserved c =

@@ -1,23 +1,21 @@
 -- The candidates are checked one after the other, ascending.
-use Rattle.std.proofs.Common.{◌≡◌, ◌≢◌, inl, inr, ℕ, ◌+◌, ◌<◌, ◌≤◌, List, [], ◌∷◌, ◌++◌, Bool, true, false, eqb, cond, Option, Some, None, append_assoc, refl, ap, sym, ◌∙◌, subst, arith}
+use Rattle.std.proofs.Common.{◌≡◌, ◌≢◌, inl, inr, ℕ, ◌+◌, ◌<◌, ◌≤◌, List, [], ◌++◌, Bool, true, false, eqb, cond, Some, None, append_assoc, refl, ap, sym, ◌∙◌, subst, arith}
 use Rattle.std.proofs.lemmas.Bool.{cases_eq, cases_lt, eq-eqb, ne_eqb, false≢true}
 use Rattle.std.proofs.lemmas.List.{append-nil}
-use Rattle.std.specs.Prelude.{flat_map}
 use Rattle.fixed_box.specs.declared.shape.Shape.{Shape}
 use Rattle.body_ident.specs.Id.{Id}
 use Rattle.word_map.specs.declared.config.Config.{Config}
-use Rattle.core_state.specs.declared.item.Item.{Item}
 use Rattle.core_state.specs.declared.view.LockStep.{LockStep}
 use Rattle.core_state.specs.declared.view.View.{View}
 use Rattle.core_state.specs.Log.{IsPrefix}
 use Rattle.pass_table.specs.Calls.{AtPoint}
-use Rattle.pass_table.specs.Work.{HasDone, Outcome, idle}
+use Rattle.pass_table.specs.Work.{HasDone, idle}
 use Rattle.pass_table.proofs.Calling.{point-later}
 use Rattle.pass_table.proofs.Working.{done-prefix, done-then, point-from}
 use Rattle.tree_query.specs.declared.finder.Finder.{Finder}
 use Rattle.tree_query.specs.Indexes.{IsFirst, HasNone}
 use Rattle.tree_query.specs.Finding.{has_index, room_of, seq_of, id_in, ids_from, ids_of}
-use Rattle.tree_query.specs.Checking.{IsHitAfter, HasNoHit, IsCheckedSo, check_steps, steps_of, AreChecked, AreAllChecked, IsChecking}
+use Rattle.tree_query.specs.Checking.{IsHitAfter, HasNoHit, IsCheckedSo, check_steps, steps_of, AreAllChecked, IsChecking}
 use Rattle.tree_query.proofs.Ranges.{ids-first, ids-none}
 
 -- two parts that leave the pass at rest and do nothing else

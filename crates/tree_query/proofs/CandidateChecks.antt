@@ -1,10 +1,9 @@
 -- What the loads of one check tell: whether the body at an index is a hit.
 use Rattle.std.specs.Prelude.{IsSomeAnd, ◌==◌}
 use Rattle.std.specs.Int.{bit_at}
-use Rattle.std.proofs.Common.{◌≡◌, ◌≢◌, ℕ, suc, ◌+◌, ◌%◌, ◌^◌, ◌<◌, ◌≤◌, List, [], ◌∷◌, ◌++◌, Bool, true, false, Option, Some, None, slice_index, refl, ap, sym, ◌∙◌, subst, arith}
+use Rattle.std.proofs.Common.{◌≡◌, ◌≢◌, ℕ, ◌+◌, ◌%◌, ◌<◌, List, ◌++◌, Bool, true, false, Option, Some, None, slice_index, refl, ap, sym, ◌∙◌, subst, arith}
 use Rattle.std.proofs.lemmas.Bool.{false≢true, eq-eqb, eqb-true}
-use Rattle.std.proofs.lemmas.Option.{none-some, same_Some}
-use Rattle.std.proofs.lemmas.List.{append-nil}
+use Rattle.std.proofs.lemmas.Option.{same_Some}
 use Rattle.fixed_box.specs.declared.fix_box.FixBox.{FixBox}
 use Rattle.fixed_box.specs.declared.shape.Shape.{Shape}
 use Rattle.fixed_box.specs.FixBox.{words_of}
@@ -13,7 +12,6 @@ use Rattle.body_ident.specs.Id.{Id}
 use Rattle.scene_model.specs.declared.body_view.Phase.{Phase as BodyPhase}
 use Rattle.scene_model.specs.declared.body_view.Phase.TheVariants.{In as InPhase, Out as OutPhase, Held as HeldPhase}
 use Rattle.scene_model.specs.Scene.{Record, record_at}
-use Rattle.scene_model.specs.Step.{HasBody}
 use Rattle.scene_model.specs.History.{IsHit}
 use Rattle.word_map.specs.declared.config.Config.{Config}
 use Rattle.word_map.specs.declared.name.Name.TheVariants.{State, Layer, BoxWord}
@@ -26,7 +24,7 @@ use Rattle.core_state.proofs.Beginning.{body_record}
 use Rattle.core_state.proofs.Boxes.{box_of-words}
 use Rattle.pass_table.specs.Knowing.{KnowsMore}
 use Rattle.pass_table.specs.Calls.{AtPoint}
-use Rattle.pass_table.specs.Bodies.{IsCurrent, IsGuarded, IsTold, IsGoneAt, live_state}
+use Rattle.pass_table.specs.Bodies.{IsCurrent, IsGuarded, IsTold}
 use Rattle.pass_table.proofs.Bodies.{gone-now}
 use Rattle.pass_table.proofs.Between.{more-trans}
 use Rattle.pass_table.proofs.LockedBodies.{told-body, word-stays, guarded-tells}

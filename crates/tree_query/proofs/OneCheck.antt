@@ -1,13 +1,11 @@
 -- One check from beginning to end: the stripe of the body is taken to read, and let go again.
-use Rattle.std.proofs.Common.{◌≡◌, ℕ, ◌<◌, ◌≤◌, List, [], ◌∷◌, ◌++◌, Bool, true, false, eqb, cond, Option, Some, None, refl, ap, sym, ◌∙◌, subst}
+use Rattle.std.proofs.Common.{◌≡◌, ℕ, [], ◌∷◌, ◌++◌, Bool, true, false, eqb, cond, Option, Some, None, refl, ap, sym, ◌∙◌, subst}
 use Rattle.fixed_box.specs.declared.shape.Shape.{Shape}
 use Rattle.word_map.specs.declared.config.Config.{Config}
 use Rattle.word_map.specs.Names.{stripe_of}
-use Rattle.core_state.specs.declared.item.Item.{Item}
 use Rattle.core_state.specs.declared.view.Mode.{Mode}
 use Rattle.core_state.specs.declared.view.Mode.TheVariants.{Read}
-use Rattle.core_state.specs.declared.view.LockStep.{LockStep}
-use Rattle.core_state.specs.declared.view.LockStep.TheVariants.{Taken, Released}
+use Rattle.core_state.specs.declared.view.LockStep.TheVariants.{Taken}
 use Rattle.core_state.specs.declared.view.View.{View}
 use Rattle.core_state.specs.Log.{IsPrefix}
 use Rattle.core_state.specs.View.{IsPass, Holds, mode_of}

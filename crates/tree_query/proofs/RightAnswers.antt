@@ -1,7 +1,7 @@
 -- The answer of a query is right: its walk found each body that is due, and each candidate was checked.
-use Rattle.std.specs.Prelude.{All, Contains, IsSomeAnd, map, take, get_or, slice_index, length}
+use Rattle.std.specs.Prelude.{Contains, IsSomeAnd, map, take, length}
 use Rattle.std.specs.List.Sorted.{IsStrictlyIncreasing}
-use Rattle.std.proofs.Common.{◌≡◌, inl, inr, ℕ, ◌+◌, ◌%◌, ◌<◌, ◌≤◌, List, [], ◌∷◌, ◌++◌, Bool, true, false, Option, Some, None, append_assoc, refl, ap, sym, ◌∙◌, subst, arith}
+use Rattle.std.proofs.Common.{◌≡◌, inl, inr, ℕ, ◌+◌, ◌%◌, ◌<◌, ◌≤◌, List, ◌++◌, true, Some, refl, ap, sym, ◌∙◌, subst, arith}
 use Rattle.std.proofs.lemmas.Bool.{cases_Bool}
 use Rattle.std.proofs.lemmas.Option.{same_Some}
 use Rattle.std.proofs.lemmas.List.{take_all, take-append-le, length-append, length-map, get_or-map}
@@ -18,10 +18,9 @@ use Rattle.core_state.specs.declared.view.View.{View}
 use Rattle.core_state.specs.Log.{made_by, history, IsPrefix}
 use Rattle.core_state.specs.Guards.{scene_at}
 use Rattle.core_state.proofs.Beginning.{body_record, record_body}
-use Rattle.pass_table.specs.Calls.{AtPoint}
 use Rattle.tree_query.specs.declared.finder.Finder.{Finder}
-use Rattle.tree_query.specs.Finding.{has_index, room_of, seq_of, id_in, ids_of}
-use Rattle.tree_query.specs.Checking.{IsHitAfter, HasNoHit, AreAllChecked, points_between, HoldsDue}
+use Rattle.tree_query.specs.Finding.{has_index, room_of, seq_of, ids_of}
+use Rattle.tree_query.specs.Checking.{AreAllChecked, points_between, HoldsDue}
 use Rattle.tree_query.proofs.Ranges.{ids-ascend, ids-of_found, found-in_ids}
 
 -- ---- the history of a log that goes on

@@ -1,4 +1,4 @@
-use Rattle.std.proofs.Common.{ℕ, ◌-◌}
+use Rattle.std.proofs.Common.{◌-◌}
 use Rattle.pass_table.specs.Passes.{view_of, IsOf}
 use Rattle.tree_query.specs.Finding.{room_of}
 use Rattle.tree_query.specs.Checking.{IsChecking}

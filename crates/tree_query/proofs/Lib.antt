@@ -4,3 +4,7 @@ pub mod Ranges
 pub mod Marks
 pub mod WalkOn
 pub mod WalkEnds
+pub mod CandidateChecks
+pub mod OneCheck
+pub mod AllChecks
+pub mod RightAnswers

@@ -5,6 +5,7 @@
 
 mod bit_set;
 mod bits;
+mod checking;
 mod finder;
 mod finding;
 mod found_ids;

@@ -1,5 +1,5 @@
 -- The candidates are checked one after the other, ascending.
-use Rattle.std.proofs.Common.{◌≡◌, ◌≢◌, inl, inr, ℕ, ◌+◌, ◌<◌, ◌≤◌, List, [], ◌++◌, Bool, true, false, eqb, cond, Some, None, append_assoc, refl, ap, sym, ◌∙◌, subst, arith}
+use Rattle.std.proofs.Common.{false, ◌≡◌, ◌≢◌, inl, inr, ℕ, ◌+◌, ◌<◌, ◌≤◌, List, [], ◌++◌, Bool, true, false, eqb, cond, Some, None, append_assoc, refl, ap, sym, ◌∙◌, subst, arith}
 use Rattle.std.proofs.lemmas.Bool.{cases_eq, cases_lt, eq-eqb, ne_eqb, false≢true}
 use Rattle.std.proofs.lemmas.List.{append-nil}
 use Rattle.fixed_box.specs.declared.shape.Shape.{Shape}
@@ -27,6 +27,7 @@ idle-then start mid next one two =
       batches = ap (λ (v : View). v.batches) one.left i;
       loose = ap (λ (v : View). v.loose) one.left i;
       written = ap (λ (v : View). v.written) one.left i;
+      places = false;
     }) (done-then start mid next (idle start) (idle mid) one two)
 
 module _ (shape : Shape) (mask : ℕ) (start : View) (before : Finder) where

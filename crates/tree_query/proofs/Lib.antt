@@ -4,3 +4,5 @@ pub mod Ranges
 pub mod Marks
 pub mod WalkOn
 pub mod WalkEnds
+pub mod Trips
+pub mod Sides

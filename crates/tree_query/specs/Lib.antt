@@ -1,3 +1,4 @@
 pub mod Indexes
 pub mod Finding
 pub mod Walking
+pub mod Collecting

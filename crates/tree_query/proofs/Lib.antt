@@ -6,3 +6,4 @@ pub mod WalkOn
 pub mod WalkEnds
 pub mod Trips
 pub mod Sides
+pub mod Kept

@@ -116,8 +116,8 @@ abbrev pub node_named : ℕ → List ℕ
 node_named x = if x % 2 == 0 then (x - 2) / 2 ∷ [] else []
 
 -- a child that touches goes where it is to go: a body into the finder, a node onto the stack
-pub record KeepsChild (x : ℕ) (nodes later : List ℕ) (before after : Finder) : Type 0 where
-  pub stack : later ≡ nodes ++ node_named x
-  pub puts : Puts before after (body_named x)
+pub record KeepsChild (touches : Bool) (x : ℕ) (nodes later : List ℕ) (before after : Finder) : Type 0 where
+  pub stack : later ≡ nodes ++ (if touches then node_named x else [])
+  pub puts : Puts before after (if touches then body_named x else [])
   pub loads : after.loads ≡ before.loads
   pub room : room_of after ≡ room_of before

@@ -8,3 +8,6 @@ pub mod CandidateChecks
 pub mod OneCheck
 pub mod AllChecks
 pub mod RightAnswers
+pub mod Trips
+pub mod Sides
+pub mod Kept

@@ -135,7 +135,12 @@ module _ (view next : View) (number found : ℕ) (stepped : Stepped MayBegin beg
       }
 
   pub walk-begun : BeginsWalk view next number found
-  walk-begun = record { now = stepped-current MayBegin begin_walk view next (Reader number) 1 0 found stepped; walked = begun-walked; walking = begun-walking }
+  walk-begun = record {
+    now = stepped-current MayBegin begin_walk view next (Reader number) 1 0 found stepped;
+    loads = ap (λ (w : Walk). w.loads) (count-left MayBegin begin_walk view next number found stepped (λ v n f a b. refl) refl (λ value. refl));
+    walked = begun-walked;
+    walking = begun-walking;
+  }
 
 -- ---- the end
 

@@ -126,6 +126,8 @@ module _ (asks : Asking) (kind : Kind) (view next : View) (name : Name) (found :
       → Walked.loads ≡ view.walk.loads ++ record { name = name; value = found_by stepped.before (step_by stepped.seat view stepped.number name 0 0) } ∷ [] → WalksOn view next name found
   load-on on from notes = record {
     now = stepped-current asks kind view next name 0 0 found stepped;
+    on = ap (λ (w : Walk). w.is_on) walk-left ∙ on;
+    loads = ap (λ (w : Walk). w.loads) walk-left ∙ (notes ∙ (λ i. view.walk.loads ++ record { name = name; value = sym stepped.finds i } ∷ []));
     walked = load-walked;
     walking = λ query start at sizes h next_is. load-walking query start at sizes on from notes h next_is;
   }

@@ -2,3 +2,4 @@ pub mod Indexes
 pub mod Finding
 pub mod Walking
 pub mod Checking
+pub mod Collecting

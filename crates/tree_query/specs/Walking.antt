@@ -31,6 +31,8 @@ pub record IsWalkingAt (query : Query) (start view : View) (at : Position) : Typ
 -- the pass, which walks, loaded this word: each query for which it was the next one has come one load further
 pub record WalksOn (view next : View) (name : Name) (found : ℕ) : Type 0 where
   pub now : IsCurrent next
+  pub on : next.walk.is_on ≡ view.walk.is_on
+  pub loads : next.walk.loads ≡ view.walk.loads ++ record { name = name; value = found } ∷ []
   pub walked : (start : View) (told : List Store) → HasWalked start view told → HasWalked start next told
   pub walking : (query : Query) (start : View) (at : Position) → view.config ≡ start.config → IsWalkingAt query start view at → next_word at.rest at.spot ≡ Some name
       → IsWalkingAt query start next (advance query at (record { name = name; value = found }))
@@ -39,9 +41,10 @@ pub record WalksOn (view next : View) (name : Name) (found : ℕ) : Type 0 where
 abbrev pub reader_store : ℕ → ℕ → Store
 reader_store number found = record { name = Reader number; value = (found + 1) % 2 ^ 64 }
 
--- the pass began to walk: each query is at its first word
+-- the pass began to walk: it has read nothing, and each query is at its first word
 pub record BeginsWalk (view next : View) (number found : ℕ) : Type 0 where
   pub now : IsCurrent next
+  pub loads : next.walk.loads ≡ []
   pub walked : (start : View) (told : List Store) → HasWalked start view told → HasWalked start next (told ++ reader_store number found ∷ [])
   pub walking : (start : View) (told : List Store) → HasWalked start view told → (query : Query) → IsWalkingAt query start next (first_place start.config query)
 

@@ -10,6 +10,7 @@ mod finder;
 mod finding;
 mod found_ids;
 pub mod laws;
+mod reading;
 mod walk_steps;
 
 pub use finder::Finder;

@@ -33,7 +33,7 @@ use Rattle.tree_query.specs.Collecting.{body_named, node_named, Trip, IsOnTrip, 
 -- nothing is put into a finder that has the same words
 pub puts-none : (before after : Finder) → ((index : ℕ) → has_index after index ≡ has_index before index) → ((index : ℕ) → seq_of after index ≡ seq_of before index) → Puts before after []
 puts-none before after has seqs = record {
-  has = λ index. (λ h. inl (sym (has index) ∙ h), λ h. elim h [ | inl was ↦ has index ∙ was | inr among ↦ absurd (none_in index among) ]);
+  has = λ index. (λ h. inl (sym (has index) ∙ h), λ h. elim h [ inl was ↦ has index ∙ was | inr among ↦ absurd (none_in index among) ]);
   seqs = λ zero index h. seqs index ∙ zero index (sym (has index) ∙ h);
 }
 
@@ -109,7 +109,7 @@ first-node trip view rest w stack n level k on current =
     elim (cases_lt k 4) [
       | inl less ↦
           node-at trip view (record { rest = rest; stack = w ∷ stack; spot = at_child n level k }) (subst (IsOnTrip trip view) (child-there rest (w ∷ stack) n level k less) on) current w
-              (contains_first w stack)
+          (contains_first w stack)
       | inr last ↦
           let past = ap (λ (b : Bool). if b then record { rest = rest; stack = w ∷ stack; spot = at_child n level k } else next_node rest (w ∷ stack)) (le-ltb k 4 last) in
           (child-at trip view (next_node rest (w ∷ stack)) (subst (IsOnTrip trip view) past on) current w.node 0 refl).0
@@ -205,8 +205,8 @@ module _ (trip : Trip) (rest : List Name) (shape : Shape) (finder : Finder) (nod
         collecting-more trip shape finder after view next (child_place rest stack n level k) (child_place rest Later n level (k + 1)) (if touches then body_named x else []) 7 h.3 past-child
             (record {
               has = λ index. (
-                λ t. elim ((keeps.puts.has index).0 t) [ | inl was ↦ inl (sym (has index) ∙ was) | inr new ↦ inr new ],
-                λ t. (keeps.puts.has index).1 (elim t [ | inl was ↦ inl (has index ∙ was) | inr new ↦ inr new ]),
+                λ t. elim ((keeps.puts.has index).0 t) [ inl was ↦ inl (sym (has index) ∙ was) | inr new ↦ inr new ],
+                λ t. (keeps.puts.has index).1 (elim t [ inl was ↦ inl (has index ∙ was) | inr new ↦ inr new ]),
               );
               seqs = λ zero. keeps.puts.seqs (λ index t. seqs index ∙ zero index (sym (has index) ∙ t));
             })

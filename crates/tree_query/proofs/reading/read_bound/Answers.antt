@@ -35,5 +35,5 @@ returns-clause-count c =
 pub returns-clause-read : goal.returns-clause-read
 returns-clause-read c = λ trip rest stack level x asks on.
     bound-read trip rest stack c.args.node level c.args.child x (view_of c.args.pass.now) (view_of c.load_side-x0.new.pass) (view_of c.load_side-y0.new.pass) (view_of c.load_side-z0.new.pass)
-        (view_of c.load_side-x1.new.pass) (view_of c.load_side-y1.new.pass) (view_of c.load_side-z1.new.pass) _ _ _ _ _ _ c.load_side-x0.ensures.on c.load_side-y0.ensures.on c.load_side-z0.ensures.on
-        c.load_side-x1.ensures.on c.load_side-y1.ensures.on c.load_side-z1.ensures.on c.args.shape.now c.is_touching.result asks c.is_touching.ensures on
+    (view_of c.load_side-x1.new.pass) (view_of c.load_side-y1.new.pass) (view_of c.load_side-z1.new.pass) _ _ _ _ _ _ c.load_side-x0.ensures.on c.load_side-y0.ensures.on c.load_side-z0.ensures.on
+    c.load_side-x1.ensures.on c.load_side-y1.ensures.on c.load_side-z1.ensures.on c.args.shape.now c.is_touching.result asks c.is_touching.ensures on

@@ -25,7 +25,7 @@ use Rattle.pass_table.proofs.Calling.{point-now, stores-word, stored-made, word-
 use Rattle.pass_table.proofs.Bodies.{loaded-body}
 use Rattle.pass_table.proofs.WorkLater.{worked-sizes, worked-pass, worked-more}
 use Rattle.pass_table.proofs.Working.{worked-made}
-use Rattle.pass_table.specs.Work.{IsCalling, is_told}
+use Rattle.pass_table.specs.Work.{IsCalling, is_shown}
 use Rattle.pass_table.proofs.Knowing.{step-alone}
 use Rattle.free_list.specs.Heads.{LoadedHead, LoadedLink, IsDoing, TookOff}
 use Rattle.body_slots.specs.declared.answers.Full.{Full}
@@ -192,7 +192,7 @@ no-state index zero same = absurd cc
 no-state index (suc zero) same = absurd cc
 no-state index (suc (suc side)) same = absurd cc
 
-field-untold : (index number : ℕ) → is_told (field_name index number) ≡ false
+field-untold : (index number : ℕ) → is_shown false (field_name index number) ≡ false
 field-untold index zero = refl
 field-untold index (suc zero) = refl
 field-untold index (suc (suc side)) = refl

@@ -226,6 +226,13 @@ enum SeenEntry {
     Other,
 }
 
+/// The first two entries that turns told, in order. Where there were more, both are `Other`.
+#[derive(Clone, Copy, PartialEq, Eq)]
+struct SeenEntries {
+    first: SeenEntry,
+    second: SeenEntry,
+}
+
 /// Prepares a batch in layer 0 turn by turn. Answers the entries that the turns tell, the first two in order and nothing else
 /// where there are more, and whether it was refused since the second body is held.
 fn hold_by_turns(
@@ -233,7 +240,7 @@ fn hold_by_turns(
     world: &World,
     pass: &mut Pass,
     ids: &[BodyId],
-) -> Option<([SeenEntry; 2], bool)>
+) -> Option<(SeenEntries, bool)>
     requires idle { IsIdle world.now pass.old }
     requires layers { 0 < world.now.map.layers }
     requires below { All (λ id. id.index < world.now.map.bodies) ids.now }
@@ -243,7 +250,10 @@ fn hold_by_turns(
     let Ok(mut preparing) = PrepareOp::new(alloc, world, pass, 0, ids) else {
         return None;
     };
-    let mut entries = [SeenEntry::Nothing; 2];
+    let mut entries = SeenEntries {
+        first: SeenEntry::Nothing,
+        second: SeenEntry::Nothing,
+    };
     for _ in 0..200 {
         match preparing.turn(world, pass) {
             Turn::Done(answer) => return Some((entries, is_held_second(answer))),
@@ -266,13 +276,22 @@ fn told(made: Option<&Made>) -> SeenEntry {
     }
 }
 
-/// Two entries, and one that comes after them.
-fn and_then(entries: [SeenEntry; 2], next: SeenEntry) -> [SeenEntry; 2] {
-    match (entries, next) {
-        (_, SeenEntry::Nothing) => entries,
-        ([SeenEntry::Nothing, _], _) => [next, SeenEntry::Nothing],
-        ([first, SeenEntry::Nothing], _) => [first, next],
-        _ => [SeenEntry::Other; 2],
+/// The entries so far, and one that comes after them.
+fn and_then(entries: SeenEntries, next: SeenEntry) -> SeenEntries {
+    match (entries.first, entries.second, next) {
+        (_, _, SeenEntry::Nothing) => entries,
+        (SeenEntry::Nothing, _, _) => SeenEntries {
+            first: next,
+            second: SeenEntry::Nothing,
+        },
+        (first, SeenEntry::Nothing, _) => SeenEntries {
+            first,
+            second: next,
+        },
+        _ => SeenEntries {
+            first: SeenEntry::Other,
+            second: SeenEntry::Other,
+        },
     }
 }
 
@@ -290,7 +309,11 @@ fn marks_of_a_refused_batch_are_taken_back(rt: HostRuntime) -> Result<(), Fail> 
     other.look(&world);
     let seen = hold_by_turns(alloc, &world, &mut other, &[b, a]);
     attach(&world, &mut pass, batch);
-    assert!(rt; seen == Some(([SeenEntry::Mark(1), SeenEntry::Unmark(1)], true)));
+    let undone = SeenEntries {
+        first: SeenEntry::Mark(1),
+        second: SeenEntry::Unmark(1),
+    };
+    assert!(rt; seen == Some((undone, true)));
     assert!(rt; destroy_body(&rt, &world, &mut pass, b).is_ok());
     Ok(())
 }

@@ -93,7 +93,7 @@ fn a_body_of_another_layer_is_not_marked(rt: HostRuntime) -> Result<(), Fail> {
 #[test]
 fn a_body_that_is_held_is_in_use(rt: HostRuntime) -> Result<(), Fail> {
     let alloc = rt.alloc();
-    let Some((world, mut pass, _second, _third)) = open_three(alloc, batch_sizes(1, 4)) else {
+    let Some((world, mut pass, mut other, _third)) = open_three(alloc, batch_sizes(1, 4)) else {
         panic!(rt; "no world")
     };
     let id = BodyId::new(0, 1);
@@ -101,7 +101,7 @@ fn a_body_that_is_held_is_in_use(rt: HostRuntime) -> Result<(), Fail> {
     let Ok(batch) = hold(&rt, alloc, &world, &mut pass, &[id]) else {
         panic!(rt; "not prepared")
     };
-    let early = destroy_body(&rt, &world, &mut pass, id);
+    let early = destroy_body(&rt, &world, &mut other, id);
     drop_batch(&rt, &world, &mut pass, batch);
     let held = DestroyRefused::InUse { phase: Phase::Held };
     assert!(rt; early == Err(held));

@@ -1,10 +1,15 @@
 -- What a look at a body finds, and what that says.
-use Rattle.std.specs.Prelude.{◌≡◌, ◌≢◌, ⊤, ℕ, ◌<◌, ◌≤◌, Option, Some, None}
+use Rattle.std.specs.Prelude.{◌≡◌, ◌≢◌, ⊤, ℕ, ◌<◌, ◌≤◌, List, Option, Some, None}
 use Rattle.body_ident.specs.Id.{Id}
 use Rattle.scene_model.specs.declared.body_view.Phase.{Phase as BodyPhase}
 use Rattle.scene_model.specs.declared.body_view.Phase.TheVariants.{Out as OutPhase, Held as HeldPhase, In as InPhase}
+use Rattle.scene_model.specs.Cause.{IsCauseAt, held}
+use Rattle.word_map.specs.declared.config.Config.{Config}
 use Rattle.word_map.specs.declared.name.Name.TheVariants.{Phase, Layer, Slot}
+use Rattle.core_state.specs.declared.item.Item.{Item}
 use Rattle.core_state.specs.declared.view.View.{View}
+use Rattle.core_state.specs.Log.{word}
+use Rattle.core_state.specs.Guards.{scene_at}
 use Rattle.core_state.specs.View.{known_word}
 use Rattle.core_state.specs.Encoding.{phase_out, phase_in, phase_join}
 use Rattle.pass_table.specs.Bodies.{IsGoneAt, IsTold}
@@ -51,3 +56,13 @@ IsFound id view Out = IsInPhase id view OutPhase phase_out
 IsFound id view In = IsInPhase id view InPhase phase_in
 IsFound id view (Held layer slot word) = IsInPhase id view HeldPhase (phase_join slot) × HasSlot id view layer slot word × (word ≢ 0) × (word < 1024)
 IsFound id view (Joined layer slot word) = IsInPhase id view InPhase (phase_join slot) × HasSlot id view layer slot word × (1024 ≤ word)
+
+-- ---- a body that a batch holds
+
+-- the phase word names a slot whose word is this, and which is reserved: a batch holds the id's body, which is live
+pub record IsHeldAt (c : Config) (id : Id) (found : ℕ) (log : List Item) : Type 0 where
+  pub slot : ℕ
+  pub joins : word c log (Phase id.index) ≡ phase_join slot
+  pub word : word c log (Slot (word c log (Layer id.index)) slot) ≡ found
+  pub reserved : (found ≢ 0) × (found < 1024)
+  pub cause : IsCauseAt (held id) (scene_at c log)

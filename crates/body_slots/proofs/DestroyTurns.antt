@@ -24,7 +24,7 @@ use Rattle.pass_table.specs.Turning.{AtMostOneStep, MadeBy, Turned, LoadsNow}
 use Rattle.pass_table.specs.Holding.{IsAtRest}
 use Rattle.pass_table.proofs.TakingTurns.{taking-anew}
 use Rattle.pass_table.proofs.LockedBodies.{live-steady, phase-steady, told-body}
-use Rattle.pass_table.proofs.WorkLater.{worked-sizes}
+use Rattle.pass_table.proofs.WorkLater.{worked-sizes, one-taken}
 use Rattle.pass_table.proofs.Working.{worked-taken, worked-waited}
 use Rattle.pass_table.proofs.Stages.{Staged, went-on, inner-more, inner-again}
 use Rattle.pass_table.specs.Work.{IsCalling}
@@ -43,7 +43,7 @@ use Rattle.body_slots.specs.declared.destroy_op.DestroyStage.TheVariants.{Lookin
 use Rattle.body_slots.specs.declared.destroy_op.DestroyOp.{DestroyOp}
 use Rattle.body_slots.specs.Answers.{IsDestroyAnswer, IsInUseAt}
 use Rattle.body_slots.specs.stages.Destroying.{stripe_taken, both_taken, KnowsOut, HasStripeAlone, AtDestroy, PastLook, IsBegunFor, DestroysBody, DestroyAnswers, stage_left, takes_at, IsDestroyTurn}
-use Rattle.body_slots.specs.stages.DestroyLater.{one-taken, stripe-held, both-stripe, both-list}
+use Rattle.body_slots.specs.stages.DestroyLater.{stripe-held, both-stripe, both-list}
 
 -- ---- stages
 
@@ -125,7 +125,7 @@ list-on id start view next taking after rest goes by at = (
 
 -- the stripe alone is held
 stripe-alone : (c : Config) (id : Id) → HasStripeAlone c id (stripe_taken c id)
-stripe-alone c id = record { held = one-taken (stripe_of c id.index); alone = λ lock. go (eqb (stripe_of c id.index) lock) }
+stripe-alone c id = record { held = one-taken (stripe_of c id.index) Write; alone = λ lock. go (eqb (stripe_of c id.index) lock) }
   where
     go : (t : Bool) → cond {A = Option Mode} t None (cond t (Some Write) None) ≡ None
     go true = refl

@@ -11,11 +11,7 @@ use Rattle.core_state.specs.declared.item.Item.{Item}
 use Rattle.core_state.specs.declared.view.View.{View}
 use Rattle.core_state.specs.Log.{word}
 use Rattle.core_state.specs.Guards.{scene_at}
-use Rattle.pass_table.specs.Knowing.{KnowsLawful}
-use Rattle.pass_table.specs.Holding.{IsAtRest}
 use Rattle.pass_table.specs.Calls.{Adds, AtPoint, MakesAt}
-use Rattle.pass_table.specs.Work.{Tells}
-use Rattle.pass_table.specs.Belongings.{belongings_of}
 use Rattle.body_slots.specs.declared.answers.Full.{Full}
 use Rattle.scene_model.specs.declared.body_view.Phase.{Phase as BodyPhase}
 use Rattle.scene_model.specs.declared.body_view.Phase.TheVariants.{Out}
@@ -48,14 +44,6 @@ pub record WasFull (start next : View) (refused : Full) : Type 0 where
 -- what a creation answers is so
 abbrev pub IsCreateAnswer : ℕ → FixBox → ℕ → View → View → Result Id Full → Type 0
 IsCreateAnswer layer bounds user start next answer = MatchResult answer (HasCreated layer bounds user start next) (WasFull start next)
-
--- A call that a pass made at rest has ended: the pass is at rest again. It stored no word that is told, all that it has beside
--- its locks and its task is as it was, and the history is lawful
-pub record HasEnded (start next : View) : Type 0 where
-  pub rest : IsAtRest next
-  pub tells : Tells start next []
-  pub keeps : belongings_of next ≡ belongings_of start
-  pub lawful : KnowsLawful next
 
 -- the id's body was destroyed, by the one entry that the call made: just before it, it is live and out
 pub record HasDestroyed (id : Id) (start next : View) : Type 0 where

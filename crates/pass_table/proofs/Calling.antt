@@ -39,7 +39,7 @@ use Rattle.pass_table.specs.declared.turn.Turn.TheVariants.{More, Again}
 use Rattle.pass_table.specs.declared.take_op.TakeOp.{TakeOp}
 use Rattle.pass_table.specs.Holding.{LetGo}
 use Rattle.pass_table.specs.TakeTurns.{turns_after, turns_left, more-quiet}
-use Rattle.pass_table.specs.Calls.{own_entry, own_entries, Adds, AtPoint, Advances, StoresWord}
+use Rattle.pass_table.specs.Calls.{own_entry, own_entries, Adds, AtPoint, MakesAt, Advances, StoresWord}
 use Rattle.pass_table.proofs.Knowing.{came-others}
 use Rattle.pass_table.proofs.Turning.{one-step, made-entry}
 
@@ -122,6 +122,18 @@ point-later start view next fact later point = record {
   later = point.later ++ later.0;
   parts = later.1 ∙ (ap (λ (l : List Item). l ++ later.0) point.parts ∙ append_assoc (start.known ++ point.since) point.later later.0);
   holds = point.holds;
+}
+
+-- and so does an entry that was made
+pub makes-later : (start view next : View) (entry : Entry) (fact : List Item → Type 0) → IsPrefix view.known next.known → MakesAt start view entry fact → MakesAt start next entry fact
+makes-later start view next entry fact later at = record {
+  since = at.since;
+  item = at.item;
+  later = at.later ++ later.0;
+  parts = later.1 ∙ (ap (λ (l : List Item). l ++ later.0) at.parts ∙ append_assoc (start.known ++ at.since) (at.item ∷ at.later) later.0);
+  pass = at.pass;
+  makes = at.makes;
+  holds = at.holds;
 }
 
 -- what is known now is a point

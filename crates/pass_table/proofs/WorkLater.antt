@@ -1,17 +1,19 @@
 -- What others' steps leave of a call: all that it did, and all that the pass has.
 use Rattle.std.proofs.Common.{◌≡◌, ℕ, List, [], ◌∷◌, ◌++◌, Bool, true, false, Option, Some, None, cond, eqb, inl, inr, fold, append_assoc, refl, ap, sym, ◌∙◌, subst}
 use Rattle.std.specs.List.{cons_option}
-use Rattle.std.proofs.lemmas.Bool.{cases_eq, ne_eqb}
+use Rattle.std.proofs.lemmas.Bool.{cases_eq, eq-eqb, ne_eqb}
 use Rattle.std.proofs.lemmas.List.{append-nil}
 use Rattle.std.proofs.lemmas.List.Elements.{filter_map-append}
 use Rattle.std.proofs.lemmas.List.Sums.{fold-append}
+use Rattle.word_map.specs.declared.config.Config.{Config}
 use Rattle.word_map.specs.declared.name.Name.{Name}
 use Rattle.word_map.specs.declared.name.Name.TheVariants.{Lock}
 use Rattle.core_state.specs.declared.item.Item.{Item}
 use Rattle.core_state.specs.declared.item.Store.{Store}
 use Rattle.core_state.specs.declared.view.Mode.{Mode}
+use Rattle.core_state.specs.declared.view.LockStep.TheVariants.{Taken as TakenStep}
 use Rattle.core_state.specs.declared.view.View.{View}
-use Rattle.core_state.specs.View.{number_in, IsPass, mode_of, mode_after}
+use Rattle.core_state.specs.View.{number_in, IsPass, mode_of, mode_after, Holds}
 use Rattle.core_state.proofs.Quiet.{append_cut, in_first, in_second}
 use Rattle.pass_table.specs.Knowing.{KnowsMore, StoresAlone, more-alone}
 use Rattle.pass_table.specs.Holding.{IsAtRest}
@@ -122,6 +124,16 @@ module _ (start view : View) (w : Work) (worked : HasWorked start view w) where
   worked-mode rest lock =
       ap (λ (v : View). mode_of v.locks lock) worked.left
       ∙ (fold-append (mode_after lock) None start.locks w.steps ∙ ap (λ (o : Option Mode). fold (mode_after lock) o w.steps) (rest.free lock))
+
+-- ---- locks that were taken
+
+-- what the steps on locks leave held is held
+pub held-by : (start view : View) (w : Work) → HasWorked start view w → IsAtRest start → (lock : Config → ℕ) (mode : Mode) → mode_of w.steps (lock start.config) ≡ Some mode → Holds view (lock view.config) mode
+held-by start view w worked rest lock mode taken =
+    subst (λ (c : Config). Holds view (lock c) mode) (sym (worked-sizes start view w worked)) (worked-mode start view w worked rest (lock start.config) ∙ taken)
+
+pub one-taken : (a : ℕ) (mode : Mode) → mode_of (TakenStep a mode ∷ []) a ≡ Some mode
+one-taken a mode = ap (λ (t : Bool). cond {A = Option Mode} t (Some mode) None) (eq-eqb a a refl)
 
 -- others made steps, or the pass loaded a word
 module _ (start view next : View) (w : Work) (worked : HasWorked start view w) where

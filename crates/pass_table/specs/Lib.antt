@@ -16,5 +16,6 @@ pub mod Numbered
 pub mod Calls
 pub mod Work
 pub mod Belongings
+pub mod Ended
 pub mod Several
 pub mod Settled

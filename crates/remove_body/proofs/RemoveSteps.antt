@@ -63,7 +63,8 @@ use Rattle.remove_body.specs.declared.answers.RemoveRefused.{RemoveRefused}
 use Rattle.remove_body.specs.declared.remove_op.RemoveStage.{RemoveStage}
 use Rattle.remove_body.specs.declared.remove_op.RemoveStage.TheVariants.{Inside, HalfLocated, Located, TakenOut, Cleared, Forgotten, Leaving}
 use Rattle.remove_body.specs.declared.remove_op.RemoveOp.{RemoveOp}
-use Rattle.remove_body.specs.Answers.{HasRemoved, IsJustOut, IsRemoveAnswer, HasEnded}
+use Rattle.pass_table.specs.Ended.{HasEnded}
+use Rattle.remove_body.specs.Answers.{HasRemoved, IsJustOut, IsRemoveAnswer}
 use Rattle.remove_body.specs.stages.Removing.{IsAtWork, stripe_taken, IsInside, IsOutAt, HasClearedAt, AtRemove, IsBegunFor, IsRemoving, stage_label, answer_label, stage_left, IsRemoveTurn, ClearsEntry, no_place, a_place, IsLocationOf}
 use Rattle.remove_body.specs.stages.RemoveLater.{stripe-held, in-apart, out-apart, removed-later, answer-later, inside-later, first-later}
 use Rattle.remove_body.proofs.RemoveTurns.{unlabelled}

@@ -35,7 +35,8 @@ use Rattle.remove_body.specs.declared.answers.RemoveRefused.TheVariants.{Gone, N
 use Rattle.remove_body.specs.declared.remove_op.RemoveStage.{RemoveStage}
 use Rattle.remove_body.specs.declared.remove_op.RemoveStage.TheVariants.{Looking, Leaving}
 use Rattle.remove_body.specs.declared.remove_op.RemoveOp.{RemoveOp}
-use Rattle.remove_body.specs.Answers.{IsNotInAt, IsHeldAt, IsRemoveAnswer}
+use Rattle.body_look.specs.Found.{IsHeldAt}
+use Rattle.remove_body.specs.Answers.{IsNotInAt, IsRemoveAnswer}
 use Rattle.remove_body.specs.stages.Removing.{IsAtWork, stripe_taken, IsInside, AtRemove, IsRemoving, HasRemovedOr, stage_label, label_of, label_says, stage_left, takes_at, IsPlainTurn, IsRemoveTurn}
 
 -- ---- begun

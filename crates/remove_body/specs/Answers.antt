@@ -3,21 +3,19 @@ use Rattle.std.specs.Prelude.{◌≡◌, ◌≢◌, ℕ, ◌<◌, List, [], ◌�
 use Rattle.body_ident.specs.Id.{Id}
 use Rattle.scene_model.specs.declared.body_view.Phase.TheVariants.{In}
 use Rattle.scene_model.specs.declared.entry.Entry.TheVariants.{Remove}
-use Rattle.scene_model.specs.Cause.{HasIdBody, IsCauseAt, not_in, held}
+use Rattle.scene_model.specs.Cause.{HasIdBody, IsCauseAt, not_in}
 use Rattle.word_map.specs.declared.config.Config.{Config}
-use Rattle.word_map.specs.declared.name.Name.TheVariants.{Phase, Layer, Slot}
+use Rattle.word_map.specs.declared.name.Name.TheVariants.{Phase}
 use Rattle.core_state.specs.declared.item.Item.{Item}
 use Rattle.core_state.specs.declared.view.Task.TheVariants.{Removing as RemovingTask}
 use Rattle.core_state.specs.declared.view.View.{View}
 use Rattle.core_state.specs.Log.{word}
 use Rattle.core_state.specs.Guards.{scene_at}
-use Rattle.core_state.specs.Encoding.{phase_out, phase_join}
-use Rattle.pass_table.specs.Knowing.{KnowsLawful}
-use Rattle.pass_table.specs.Holding.{IsAtRest}
-use Rattle.pass_table.specs.Calls.{Adds, AtPoint, MakesAt}
-use Rattle.pass_table.specs.Work.{Tells}
-use Rattle.pass_table.specs.Belongings.{belongings_of}
+use Rattle.core_state.specs.Encoding.{phase_out}
+use Rattle.pass_table.specs.Calls.{Adds, MakesAt}
+use Rattle.pass_table.specs.Ended.{WasNot}
 use Rattle.pass_table.specs.Bodies.{IsGoneAt}
+use Rattle.body_look.specs.Found.{IsHeldAt}
 use Rattle.remove_body.specs.declared.answers.RemoveRefused.{RemoveRefused}
 use Rattle.remove_body.specs.declared.answers.RemoveRefused.TheVariants.{Gone, NotIn, Held}
 
@@ -32,24 +30,11 @@ pub record IsJustOut (id : Id) (start next : View) : Type 0 where
   pub doing : next.call.task ≡ RemovingTask id.index
   pub whole : next.call.stores ≡ []
 
--- nothing was taken out: so it was at a point of the call
-pub record WasNot (start next : View) (fact : List Item → Type 0) : Type 0 where
-  pub adds : Adds start next []
-  pub at : AtPoint start next fact
-
 -- the phase word is this, and it says that the id's body, which is live, is out and not held
 pub record IsNotInAt (c : Config) (id : Id) (phase : ℕ) (log : List Item) : Type 0 where
   pub word : word c log (Phase id.index) ≡ phase
   pub out : phase ≡ phase_out
   pub cause : IsCauseAt (not_in id) (scene_at c log)
-
--- the phase word names a slot whose word is this, and which is reserved: a batch holds the id's body, which is live
-pub record IsHeldAt (c : Config) (id : Id) (found : ℕ) (log : List Item) : Type 0 where
-  pub slot : ℕ
-  pub joins : word c log (Phase id.index) ≡ phase_join slot
-  pub word : word c log (Slot (word c log (Layer id.index)) slot) ≡ found
-  pub reserved : (found ≢ 0) × (found < 1024)
-  pub cause : IsCauseAt (held id) (scene_at c log)
 
 -- why it was refused
 abbrev pub WasRefused : Id → View → View → RemoveRefused → Type 0
@@ -60,11 +45,3 @@ WasRefused id start next (Held slot) = WasNot start next (IsHeldAt start.config 
 -- what a removal answers is so
 abbrev pub IsRemoveAnswer : Id → View → View → Result (Unit {0}) RemoveRefused → Type 0
 IsRemoveAnswer id start next answer = MatchResult answer (λ _. HasRemoved id start next) (WasRefused id start next)
-
--- A call that a pass made at rest has ended: the pass is at rest again. It stored no word that is told, all that it has beside
--- its locks and its task is as it was, and the history is lawful
-pub record HasEnded (start next : View) : Type 0 where
-  pub rest : IsAtRest next
-  pub tells : Tells start next []
-  pub keeps : belongings_of next ≡ belongings_of start
-  pub lawful : KnowsLawful next

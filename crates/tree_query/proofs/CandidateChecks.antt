@@ -154,21 +154,3 @@ pub none-later : (shape : Shape) (mask index : ℕ) (start view next : View) →
 none-later shape mask index start view next more point =
     point-from start view next (HasNoHit shape mask start.config index) (more.since, more.known)
     (subst (λ (c : Config). AtPoint view next (HasNoHit shape mask c index)) (ap (λ (v : View). v.config) more.rest) point)
-
--- the state word was loaded under the stripe, and says that the body of this sequence number is live: it is guarded
-module _ (index number : ℕ) (view next : View) (pass : IsPass view number) (under : IsUnderStripeOf view index) (below : index < view.config.bodies) (more : KnowsMore view next) where
-  pub guards-it : (seq : ℕ) → known_word next (State index) ≡ seq + 256 → IsGuarded (record { index = index; seq = seq }) next
-  guards-it seq live =
-      let sizes : next.config ≡ view.config = ap (λ (v : View). v.config) more.rest in (
-        number,
-        under.mode,
-        record {
-          pass = ap (λ (v : View). number_of v) more.rest ∙ pass;
-          stripe =
-              ap (λ (v : View). mode_of v.locks (stripe_of next.config index)) more.rest
-              ∙ (ap (λ (c : Config). mode_of view.locks (stripe_of c index)) sizes ∙ under.stripe);
-          below = subst (λ (c : Config). index < c.bodies) (sym sizes) below;
-          state = live;
-          done = ap (λ (v : View). v.call.task) more.rest ∙ under.done;
-        },
-      )

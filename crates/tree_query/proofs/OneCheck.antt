@@ -39,10 +39,6 @@ module _ (index : ℕ) (start mid : View) (rest : IsAtRest start) (taken : HasTa
   may : MayLetGo mid lock
   may = taken-may-go start mid lock Read rest taken.left
 
-  -- the stripe is held
-  pub under-stripe : IsUnderStripeOf mid index
-  under-stripe = record { mode = may.mode; stripe = subst (λ (c : Config). Holds mid (stripe_of c index) may.mode) (sym sizes) may.holds; done = may.done }
-
   -- and may be let go after what others did
   pub may-go : (view : View) → KnowsMore mid view → MayLetGo view lock
   may-go view more = record {
@@ -61,9 +57,6 @@ module _ (index : ℕ) (start mid : View) (rest : IsAtRest start) (taken : HasTa
 
     pub check-done : HasDone start next (idle start)
     check-done = worked-done start next (record (begun start) { steps = check_steps start.config index }) worked rest refl (λ other. none-held (eqb lock other))
-
-    pub check-locks : next.locks ≡ start.locks ++ check_steps start.config index
-    check-locks = ap (λ (v : View). v.locks) worked.left
 
   -- what was answered under the stripe is the answer
   pub checked-so : (shape : Shape) (mask : ℕ) (view next : View) (answer : Option ℕ) → IsPrefix view.known next.known → IsCheckedSo shape mask index mid view answer → IsCheckedSo shape mask index start next answer

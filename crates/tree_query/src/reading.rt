@@ -1,4 +1,4 @@
-//! Reading a child of a node in a walk that collects candidates: its word, and the six sides of its bound.
+//! Reading the bound of a child of a node in a walk that collects candidates: its six sides, and whether the shape touches them.
 ghost use Rattle.std.specs.Prelude.{◌≡◌, ◌↔◌, IsTrue, ℕ, ◌+◌, ◌<◌, true, List, length};
 ghost use Rattle.fixed_box.specs.declared.fix_box.FixBox.{FixBox};
 ghost use Rattle.fixed_box.specs.FixBox.{words_of};

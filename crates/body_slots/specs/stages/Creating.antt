@@ -24,7 +24,8 @@ use Rattle.body_slots.specs.declared.answers.Full.{Full}
 use Rattle.body_slots.specs.declared.create_op.CreateStage.{CreateStage}
 use Rattle.body_slots.specs.declared.create_op.CreateStage.TheVariants.{Taking, Locked, First, Linked, Taken, Fields, Filled, Leaving}
 use Rattle.body_slots.specs.declared.create_op.CreateOp.{CreateOp}
-use Rattle.body_slots.specs.Answers.{IsCreateAnswer, HasEnded}
+use Rattle.pass_table.specs.Ended.{HasEnded}
+use Rattle.body_slots.specs.Answers.{IsCreateAnswer}
 
 -- ---- the words that a body is given
 

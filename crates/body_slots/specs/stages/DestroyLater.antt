@@ -18,10 +18,10 @@ use Rattle.pass_table.specs.Knowing.{KnowsMore}
 use Rattle.pass_table.specs.Holding.{IsAtRest}
 use Rattle.pass_table.specs.TakeTurns.{taking-later}
 use Rattle.pass_table.specs.Calls.{Adds}
-use Rattle.pass_table.proofs.Calling.{adds-more, point-later, steady-more}
+use Rattle.pass_table.proofs.Calling.{adds-more, point-later, makes-later, steady-more}
 use Rattle.pass_table.proofs.TakingTurns.{taking-anew}
 use Rattle.pass_table.proofs.LockedBodies.{phase-steady, live-more}
-use Rattle.pass_table.proofs.WorkLater.{worked-role, worked-sizes, worked-mode, worked-more}
+use Rattle.pass_table.proofs.WorkLater.{worked-role, worked-more, held-by, one-taken}
 use Rattle.pass_table.specs.Work.{IsCalling}
 use Rattle.body_look.specs.declared.look_op.LookOp.{LookOp}
 use Rattle.body_look.specs.stages.LookLater.{looking-later}
@@ -30,18 +30,15 @@ use Rattle.body_slots.specs.declared.answers.DestroyRefused.TheVariants.{Gone, I
 use Rattle.body_slots.specs.declared.destroy_op.DestroyStage.{DestroyStage}
 use Rattle.body_slots.specs.declared.destroy_op.DestroyStage.TheVariants.{Looking, TakingList, Locked, Headed, Linked, InFront, Destroyed, Leaving}
 use Rattle.body_slots.specs.declared.destroy_op.DestroyOp.{DestroyOp}
-use Rattle.body_slots.specs.stages.Later.{makes-later, listed-steady}
+use Rattle.body_slots.specs.stages.Later.{listed-steady}
 use Rattle.body_slots.specs.Answers.{HasDestroyed, IsDestroyAnswer}
 use Rattle.body_slots.specs.stages.Destroying.{stripe_taken, both_taken, KnowsOut, AtDestroy, DestroysBody}
 
 -- ---- locks
 
--- one lock that was taken is held, and of two both
-pub one-taken : (a : ℕ) → mode_of (TakenStep a Write ∷ []) a ≡ Some Write
-one-taken a = ap (λ (t : Bool). cond {A = Option Mode} t (Some Write) None) (eq-eqb a a refl)
-
+-- of two locks that were taken both are held
 pub first-taken : (a b : ℕ) → mode_of (TakenStep a Write ∷ TakenStep b Write ∷ []) a ≡ Some Write
-first-taken a b = ap (λ (o : Option Mode). cond (eqb b a) (Some Write) o) (one-taken a) ∙ go (eqb b a)
+first-taken a b = ap (λ (o : Option Mode). cond (eqb b a) (Some Write) o) (one-taken a Write) ∙ go (eqb b a)
   where
     go : (t : Bool) → cond {A = Option Mode} t (Some Write) (Some Write) ≡ Some Write
     go true = refl
@@ -51,20 +48,15 @@ second-taken : (a b : ℕ) → mode_of (TakenStep a Write ∷ TakenStep b Write 
 second-taken a b = ap (λ (t : Bool). cond {A = Option Mode} t (Some Write) (mode_of (TakenStep a Write ∷ []) b)) (eq-eqb b b refl)
 
 module _ (id : Id) (start view : View) (task : Task) (entries : List Entry) (rest : IsAtRest start) where
-  held_by : (steps : List LockStep) (lock : Config → ℕ) → IsCalling start view steps task entries → mode_of steps (lock start.config) ≡ Some Write → Holds view (lock view.config) Write
-  held_by steps lock calling taken =
-      subst (λ (c : Config). Holds view (lock c) Write) (sym (worked-sizes start view _ calling))
-      (worked-mode start view _ calling rest (lock start.config) ∙ taken)
-
   -- the stripe, and both locks
   pub stripe-held : IsCalling start view (stripe_taken start.config id) task entries → Holds view (stripe_of view.config id.index) Write
-  stripe-held calling = held_by (stripe_taken start.config id) (λ c. stripe_of c id.index) calling (one-taken (stripe_of start.config id.index))
+  stripe-held calling = held-by start view _ calling rest (λ c. stripe_of c id.index) Write (one-taken (stripe_of start.config id.index) Write)
 
   pub both-stripe : IsCalling start view (both_taken start.config id) task entries → Holds view (stripe_of view.config id.index) Write
-  both-stripe calling = held_by (both_taken start.config id) (λ c. stripe_of c id.index) calling (first-taken (stripe_of start.config id.index) (index_lock start.config))
+  both-stripe calling = held-by start view _ calling rest (λ c. stripe_of c id.index) Write (first-taken (stripe_of start.config id.index) (index_lock start.config))
 
   pub both-list : IsCalling start view (both_taken start.config id) task entries → Holds view (index_lock view.config) Write
-  both-list calling = held_by (both_taken start.config id) index_lock calling (second-taken (stripe_of start.config id.index) (index_lock start.config))
+  both-list calling = held-by start view _ calling rest index_lock Write (second-taken (stripe_of start.config id.index) (index_lock start.config))
 
 -- ---- words
 

@@ -27,7 +27,8 @@ use Rattle.body_slots.specs.declared.answers.DestroyRefused.{DestroyRefused}
 use Rattle.body_slots.specs.declared.destroy_op.DestroyStage.{DestroyStage}
 use Rattle.body_slots.specs.declared.destroy_op.DestroyStage.TheVariants.{Looking, TakingList, Locked, Headed, Linked, InFront, Destroyed, Leaving}
 use Rattle.body_slots.specs.declared.destroy_op.DestroyOp.{DestroyOp}
-use Rattle.body_slots.specs.Answers.{HasEnded, HasDestroyed, IsDestroyAnswer}
+use Rattle.pass_table.specs.Ended.{HasEnded}
+use Rattle.body_slots.specs.Answers.{HasDestroyed, IsDestroyAnswer}
 
 -- ---- stages
 

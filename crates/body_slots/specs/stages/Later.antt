@@ -21,10 +21,10 @@ use Rattle.core_state.specs.Quietly.{IsSteady, of_pass}
 use Rattle.pass_table.specs.Knowing.{KnowsMore}
 use Rattle.pass_table.specs.Holding.{IsAtRest}
 use Rattle.pass_table.specs.TakeTurns.{taking-later}
-use Rattle.pass_table.specs.Calls.{Adds, MakesAt}
-use Rattle.pass_table.proofs.Calling.{adds-more, point-later, steady-more}
+use Rattle.pass_table.specs.Calls.{Adds}
+use Rattle.pass_table.proofs.Calling.{adds-more, point-later, makes-later, steady-more}
 use Rattle.pass_table.proofs.TakingTurns.{taking-anew}
-use Rattle.pass_table.proofs.WorkLater.{worked-role, worked-sizes, worked-mode, worked-more}
+use Rattle.pass_table.proofs.WorkLater.{worked-role, worked-more, held-by, one-taken}
 use Rattle.pass_table.specs.Work.{IsCalling}
 use Rattle.body_slots.specs.declared.answers.Full.{Full}
 use Rattle.body_slots.specs.declared.create_op.CreateStage.{CreateStage}
@@ -37,12 +37,7 @@ use Rattle.body_slots.specs.stages.Creating.{field_name, list_taken, IsTakenOff,
 
 -- the lock of the list is held
 pub list-held : (start view : View) (task : Task) (entries : List Entry) → IsAtRest start → IsCalling start view (list_taken start.config) task entries → Holds view (index_lock view.config) Write
-list-held start view task entries rest calling =
-    let lock = index_lock start.config in
-    let held : Holds view lock Write =
-    worked-mode start view _ calling rest lock ∙ ap (λ (t : Bool). cond {A = Option Mode} t (Some Write) None) (eq-eqb lock lock refl)
-    in
-    subst (λ (c : Config). Holds view (index_lock c) Write) (sym (worked-sizes start view _ calling)) held
+list-held start view task entries rest calling = held-by start view _ calling rest index_lock Write (one-taken (index_lock start.config) Write)
 
 -- ---- words
 
@@ -60,17 +55,6 @@ pub created-steady : (view : View) (index : ℕ) (name : Name) → view.call.tas
 created-steady view index name task own = of_pass (by_creation index task own)
 
 -- ---- answers
-
-pub makes-later : (start view next : View) (entry : Entry) (fact : List Item → Type 0) → IsPrefix view.known next.known → MakesAt start view entry fact → MakesAt start next entry fact
-makes-later start view next entry fact later at = record {
-  since = at.since;
-  item = at.item;
-  later = at.later ++ later.0;
-  parts = later.1 ∙ (ap (λ (l : List Item). l ++ later.0) at.parts ∙ append_assoc (start.known ++ at.since) (at.item ∷ at.later) later.0);
-  pass = at.pass;
-  makes = at.makes;
-  holds = at.holds;
-}
 
 -- what an answer says stays so while others make steps, or the pass ones without an entry
 pub answer-later : (layer : ℕ) (bounds : FixBox) (user : ℕ) (start view next : View) (answer : Result Id Full) → IsPrefix view.known next.known

@@ -1,28 +1,23 @@
 -- What others' steps between two turns of a removal leave as it was.
 use Rattle.std.specs.Prelude.{[]}
-use Rattle.std.proofs.Common.{◌≡◌, ◌≢◌, ℕ, List, ◌∷◌, ◌++◌, append_assoc, Bool, Option, Some, None, Ok, Err, Result, cond, refl, ap, sym, ◌∙◌, subst}
-use Rattle.std.proofs.lemmas.Bool.{eq-eqb}
+use Rattle.std.proofs.Common.{◌≡◌, ◌≢◌, ℕ, List, Ok, Err, Result, refl, ap, sym, subst}
 use Rattle.body_ident.specs.Id.{Id}
 use Rattle.scene_model.specs.declared.body_view.Phase.TheVariants.{Out, Held, In}
 use Rattle.scene_model.specs.declared.entry.Entry.{Entry}
-use Rattle.word_map.specs.declared.config.Config.{Config}
 use Rattle.word_map.specs.Names.{stripe_of}
-use Rattle.core_state.specs.declared.item.Item.{Item}
-use Rattle.core_state.specs.declared.view.Mode.{Mode}
 use Rattle.core_state.specs.declared.view.Mode.TheVariants.{Write}
-use Rattle.core_state.specs.declared.view.LockStep.TheVariants.{Taken as TakenStep}
 use Rattle.core_state.specs.declared.view.Task.{Task}
 use Rattle.core_state.specs.declared.view.Call.{Call}
 use Rattle.core_state.specs.declared.view.View.{View}
 use Rattle.core_state.specs.Log.{IsPrefix}
-use Rattle.core_state.specs.View.{Holds, mode_of}
+use Rattle.core_state.specs.View.{Holds}
 use Rattle.pass_table.specs.Knowing.{KnowsMore}
 use Rattle.pass_table.specs.Holding.{IsAtRest}
-use Rattle.pass_table.specs.Calls.{Adds, MakesAt}
+use Rattle.pass_table.specs.Calls.{Adds}
 use Rattle.pass_table.specs.Settled.{KnowsFirst}
-use Rattle.pass_table.proofs.Calling.{adds-more, point-later}
+use Rattle.pass_table.proofs.Calling.{adds-more, point-later, makes-later}
 use Rattle.pass_table.proofs.Settled.{phase-more, first-more, second-more}
-use Rattle.pass_table.proofs.WorkLater.{worked-role, worked-sizes, worked-mode, worked-more}
+use Rattle.pass_table.proofs.WorkLater.{worked-role, worked-more, held-by, one-taken}
 use Rattle.body_look.specs.declared.look_op.LookOp.{LookOp}
 use Rattle.body_look.specs.stages.LookLater.{looking-later}
 use Rattle.remove_body.specs.declared.answers.RemoveRefused.{RemoveRefused}
@@ -35,14 +30,9 @@ use Rattle.remove_body.specs.stages.Removing.{IsAtWork, stripe_taken, IsInside, 
 
 -- ---- the stripe
 
-one-taken : (a : ℕ) → mode_of (TakenStep a Write ∷ []) a ≡ Some Write
-one-taken a = ap (λ (t : Bool). cond {A = Option Mode} t (Some Write) None) (eq-eqb a a refl)
-
 pub stripe-held : (id : Id) (start view : View) (task : Task) (entries : List Entry) → IsAtRest start → IsAtWork start view (stripe_taken start.config id) task entries
     → Holds view (stripe_of view.config id.index) Write
-stripe-held id start view task entries rest calling =
-    subst (λ (c : Config). Holds view (stripe_of c id.index) Write) (sym (worked-sizes start view _ calling))
-    (worked-mode start view _ calling rest (stripe_of start.config id.index) ∙ one-taken (stripe_of start.config id.index))
+stripe-held id start view task entries rest calling = held-by start view _ calling rest (λ c. stripe_of c id.index) Write (one-taken (stripe_of start.config id.index) Write)
 
 -- ---- phases that are not held
 
@@ -53,17 +43,6 @@ pub out-apart : Out ≢ Held
 out-apart e = absurd cc
 
 -- ---- answers
-
-makes-later : (start view next : View) (entry : Entry) (fact : List Item → Type 0) → IsPrefix view.known next.known → MakesAt start view entry fact → MakesAt start next entry fact
-makes-later start view next entry fact later at = record {
-  since = at.since;
-  item = at.item;
-  later = at.later ++ later.0;
-  parts = later.1 ∙ (ap (λ (l : List Item). l ++ later.0) at.parts ∙ append_assoc (start.known ++ at.since) (at.item ∷ at.later) later.0);
-  pass = at.pass;
-  makes = at.makes;
-  holds = at.holds;
-}
 
 pub removed-later : (id : Id) (start view next : View) → IsPrefix view.known next.known → ((entries : List Entry) → Adds start view entries → Adds start next entries) → HasRemoved id start view
     → HasRemoved id start next

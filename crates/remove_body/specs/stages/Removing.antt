@@ -34,7 +34,8 @@ use Rattle.remove_body.specs.declared.answers.RemoveRefused.{RemoveRefused}
 use Rattle.remove_body.specs.declared.remove_op.RemoveStage.{RemoveStage}
 use Rattle.remove_body.specs.declared.remove_op.RemoveStage.TheVariants.{Looking, Inside, HalfLocated, Located, TakenOut, HalfCleared, Cleared, Forgotten, Leaving}
 use Rattle.remove_body.specs.declared.remove_op.RemoveOp.{RemoveOp}
-use Rattle.remove_body.specs.Answers.{HasRemoved, IsRemoveAnswer, HasEnded, IsJustOut}
+use Rattle.pass_table.specs.Ended.{HasEnded}
+use Rattle.remove_body.specs.Answers.{HasRemoved, IsRemoveAnswer, IsJustOut}
 
 -- ---- stages
 

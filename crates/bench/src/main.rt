@@ -5,12 +5,15 @@
 //! at all every part is run so. Other words end it with the usage on standard error and status 2.
 #![tactic(auto)]
 
+mod batches;
+mod bodies;
 mod boxes;
 mod lock;
 mod pass;
 mod plan;
 mod shape;
 mod table;
+mod town;
 
 use std::io::{Eprint, Print};
 use std::process::ExitCode;
@@ -31,10 +34,21 @@ enum Part {
     Pass,
     /// Locks on bodies.
     Lock,
+    /// Bodies that are created and destroyed.
+    Bodies,
+    /// Batches of bodies.
+    Batches,
 }
 
 impl Part {
-    const ALL: [Part; 4] = [Part::Shape, Part::Plan, Part::Pass, Part::Lock];
+    const ALL: [Part; 6] = [
+        Part::Shape,
+        Part::Plan,
+        Part::Pass,
+        Part::Lock,
+        Part::Bodies,
+        Part::Batches,
+    ];
 
     /// The part of a name.
     fn named(name: &str) -> Option<Part> {
@@ -43,6 +57,8 @@ impl Part {
             "plan" => Some(Part::Plan),
             "pass" => Some(Part::Pass),
             "lock" => Some(Part::Lock),
+            "bodies" => Some(Part::Bodies),
+            "batches" => Some(Part::Batches),
             _ => None,
         }
     }
@@ -54,6 +70,8 @@ impl Part {
             Part::Plan => plan::run(table),
             Part::Pass => pass::run(table),
             Part::Lock => lock::run(table),
+            Part::Bodies => bodies::run(table),
+            Part::Batches => batches::run(table),
         }
     }
 }
@@ -102,7 +120,7 @@ fn main(rt: HostRuntime) -> io::Result<ExitCode> {
             Ok(ExitCode::SUCCESS)
         }
         Request::Unknown => {
-            eprintln!(rt; "usage: bench [shape | plan | pass | lock [time]]")?;
+            eprintln!(rt; "usage: bench [shape | plan | pass | lock | bodies | batches [time]]")?;
             Ok(ExitCode::from(2))
         }
     }

@@ -1,0 +1,174 @@
+//! Batches that are prepared, attached and given up. A call is a body.
+ghost use Rattle.std.specs.Prelude.{◌≡◌};
+ghost use Rattle.pass_table.specs.Passes.{view_of, IsIdle};
+ghost use Rattle.batch_add.specs.PreparedLists.{AreGood};
+
+use crate::table::Table;
+use crate::town::{BATCHES, BODIES, create_all, ids_of, open, some_boxes};
+use batch_add::{PreparedList, abort, finalize, prepare};
+use fixed_box::FixBox;
+use pass_table::{Pass, World};
+use std::alloc::{AllocError, Global};
+use std::io;
+use std::io::Print;
+use std::sync::Wait;
+use std::time::Clock;
+
+/// Prepares one batch and puts it into the list. It answers whether it did.
+fn prepare_one<R: Wait>(
+    rt: &R,
+    alloc: Global,
+    world: &World,
+    pass: &mut Pass,
+    list: &mut PreparedList,
+    number: u32,
+) -> bool
+    requires idle { IsIdle world.now pass.old }
+    requires bodies { world.now.map.bodies ≡ 65536 }
+    requires layers { world.now.map.layers ≡ 1 }
+    requires good { AreGood list.old (view_of pass.old) }
+    requires number { number < 32 }
+    ensures idle { IsIdle world.now pass.new }
+    ensures good { AreGood list.new (view_of pass.new) }
+{
+    let Ok(ids) = ids_of(alloc, number) else {
+        return false;
+    };
+    match prepare(rt, alloc, world, pass, 0, &ids) {
+        Ok(batch) => match list.push(batch) {
+            Ok(()) => true,
+            Err(batch) => {
+                batch.leave();
+                false
+            }
+        },
+        Err(_) => false,
+    }
+}
+
+/// Prepares all bodies, batch by batch. It answers how many batches hold them.
+fn prepare_all<R: Wait>(
+    rt: &R,
+    alloc: Global,
+    world: &World,
+    pass: &mut Pass,
+    list: &mut PreparedList,
+) -> u32
+    requires idle { IsIdle world.now pass.old }
+    requires bodies { world.now.map.bodies ≡ 65536 }
+    requires layers { world.now.map.layers ≡ 1 }
+    requires good { AreGood list.old (view_of pass.old) }
+    ensures idle { IsIdle world.now pass.new }
+    ensures good { AreGood list.new (view_of pass.new) }
+{
+    let mut held = 0u32;
+    for number in 0..BATCHES {
+        if prepare_one(rt, alloc, world, pass, list, number) {
+            held = held.wrapping_add(1);
+        }
+    }
+    held
+}
+
+/// Attaches all batches of the list, the last one first.
+fn attach_all(world: &World, pass: &mut Pass, list: &mut PreparedList)
+    requires idle { IsIdle world.now pass.old }
+    requires good { AreGood list.old (view_of pass.old) }
+    ensures idle { IsIdle world.now pass.new }
+{
+    for _ in 0..list.len() {
+        if let Some(last) = list.len().checked_sub(1) {
+            finalize(world, pass, list.take(last));
+        }
+    }
+}
+
+/// Gives all batches of the list up, the last one first.
+fn abort_all<R: Wait>(rt: &R, world: &World, pass: &mut Pass, list: &mut PreparedList)
+    requires idle { IsIdle world.now pass.old }
+    requires good { AreGood list.old (view_of pass.old) }
+    ensures idle { IsIdle world.now pass.new }
+{
+    for _ in 0..list.len() {
+        if let Some(last) = list.len().checked_sub(1) {
+            abort(rt, world, pass, list.take(last));
+        }
+    }
+}
+
+/// What a run did with all bodies, and its nanoseconds.
+#[derive(Clone, Copy)]
+struct Stream {
+    held: u32,
+    prepare: u128,
+    spend: u128,
+}
+
+/// One run in a new world: all bodies are created, which is not timed, prepared in batches, and these are attached or given up.
+fn measure<R: Clock + Print + Wait>(
+    table: &Table<R>,
+    boxes: &[FixBox],
+    attaches: bool,
+) -> io::Result<Stream> {
+    let (rt, alloc) = (table.runtime(), table.alloc());
+    let (world, mut pass) = open(alloc).ok_or(AllocError)?;
+    create_all(rt, &world, &mut pass, boxes);
+    let mut list = PreparedList::new(alloc);
+    let start = table.start()?;
+    let held = prepare_all(rt, alloc, &world, &mut pass, &mut list);
+    let prepare = table.since(start)?;
+    let start = table.start()?;
+    if attaches {
+        attach_all(&world, &mut pass, &mut list);
+    } else {
+        abort_all(rt, &world, &mut pass, &mut list);
+    }
+    let spend = table.since(start)?;
+    Ok(Stream {
+        held,
+        prepare,
+        spend,
+    })
+}
+
+/// The quickest of all runs.
+fn quickest<R: Clock + Print + Wait>(
+    table: &Table<R>,
+    boxes: &[FixBox],
+    attaches: bool,
+) -> io::Result<Stream> {
+    let mut least = measure(table, boxes, attaches)?;
+    for _ in 1..table.runs() {
+        let next = measure(table, boxes, attaches)?;
+        least.prepare = least.prepare.min(next.prepare);
+        least.spend = least.spend.min(next.spend);
+    }
+    Ok(least)
+}
+
+/// Writes rows for preparing batches, attaching them, and giving them up.
+pub(crate) fn run<R: Clock + Print + Wait>(table: &Table<R>) -> io::Result<()> {
+    let boxes = some_boxes(table.alloc())?;
+    let attached = quickest(table, &boxes, true)?;
+    let held = format!(in table.alloc(); "{} batches", attached.held)?;
+    table.write(
+        "batch, prepare",
+        held.as_str(),
+        attached.prepare,
+        u64::from(BODIES),
+    )?;
+    table.write(
+        "batch, finalize",
+        held.as_str(),
+        attached.spend,
+        u64::from(BODIES),
+    )?;
+    let given_up = quickest(table, &boxes, false)?;
+    let held = format!(in table.alloc(); "{} batches", given_up.held)?;
+    table.write(
+        "batch, abort",
+        held.as_str(),
+        given_up.spend,
+        u64::from(BODIES),
+    )
+}

@@ -1,0 +1,7 @@
+use Rattle.query_tests.proofs.places.open_two.Goals as goal
+
+pub returns-clause-first : goal.returns-clause-first
+returns-clause-first c = c.in_ok-first.ensures.idle c.in-Ok.world c.in-Ok.ensures.idle
+
+pub returns-clause-second : goal.returns-clause-second
+returns-clause-second c = c.in_ok-second.ensures.idle c.in-Ok.world (c.in_ok-first.ensures.others c.in-Ok.world c.in-Ok.ensures.idle)

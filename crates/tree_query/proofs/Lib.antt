@@ -11,3 +11,5 @@ pub mod RightAnswers
 pub mod Trips
 pub mod Sides
 pub mod Kept
+pub mod Closing
+pub mod Ended

@@ -123,6 +123,7 @@ module _ (shape : Shape) (mask : ℕ) (trip : Trip) (finder : Finder) (last next
     first = first;
     second = second;
     walked = subst (λ (stores : List Store). HasWalked trip.start next (stores ++ reader_store count second ∷ [])) told (ends.walked trip.start trip.told h.on.walked);
+    odd = ends.odd;
     ended = ap (λ (w : Walk). w.is_on) ends.walk;
     query = trip.query;
     asks = (asks, h.asks);

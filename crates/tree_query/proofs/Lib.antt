@@ -13,3 +13,5 @@ pub mod Sides
 pub mod Kept
 pub mod Closing
 pub mod Ended
+pub mod WalkGuards
+pub mod Labels

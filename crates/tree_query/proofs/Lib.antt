@@ -15,3 +15,4 @@ pub mod Closing
 pub mod Ended
 pub mod WalkGuards
 pub mod Labels
+pub mod WalkMulti

@@ -3,7 +3,7 @@
 //! So far it has the finder, which holds what a query finds; the steps of a walk, and the reading of one bound; and the
 //! check of what a walk has found, each body under its stripe. No public call makes a walk yet.
 //!
-//! It stands on worlds and passes, on looking at a body, and on the tests of shapes. Nothing stands on it.
+//! It stands on worlds and passes, on looking at a body, on guards of bodies, and on the tests of shapes. Nothing stands on it.
 #![tactic(auto)]
 
 mod bit_set;

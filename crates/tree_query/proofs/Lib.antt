@@ -16,3 +16,4 @@ pub mod Ended
 pub mod WalkGuards
 pub mod Labels
 pub mod WalkMulti
+pub mod Later

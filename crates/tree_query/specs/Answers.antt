@@ -40,9 +40,9 @@ pub record SaysWalk (mask : ℕ) (start next : View) (label : ℕ) : Type 0 wher
 
 -- ---- a walk
 
--- The pass has walked, its reader word is even again, and all else that it has is as it was, but for what it knows. Its record is that of a whole walk of the
--- asked layers. The finder holds just the candidates of the record, each a body of the world, and each body that a query has
--- to find is among them
+-- The pass has walked, its reader word is even again, and all else that it has is as it was, but for what it knows. Its record
+-- is that of a whole walk of the asked layers. The finder holds just the candidates of the record, each a body of the world,
+-- and each body that a query has to find is among them
 pub record HasCollected (shape : Shape) (mask : ℕ) (start next : View) (finder : Finder) : Type 0 where
   pub number : ℕ
   pub pass : IsPass start number

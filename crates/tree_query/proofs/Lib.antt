@@ -11,3 +11,6 @@ pub mod RightAnswers
 pub mod Trips
 pub mod Sides
 pub mod Kept
+pub mod Keeping
+pub mod NodeStacks
+pub mod ChildReads

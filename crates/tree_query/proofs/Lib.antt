@@ -17,3 +17,6 @@ pub mod WalkGuards
 pub mod Labels
 pub mod WalkMulti
 pub mod Later
+pub mod Keeping
+pub mod NodeStacks
+pub mod ChildReads

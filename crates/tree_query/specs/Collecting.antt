@@ -1,5 +1,5 @@
 -- How far a walk that collects candidates is: what it has read, and what its finder holds.
-use Rattle.std.specs.Prelude.{◌≡◌, ◌↔◌, ◌⊎◌, ℕ, suc, ◌+◌, ◌-◌, ◌/◌, ◌%◌, ◌==◌, ◌<◌, Bool, true, nat_lt, if◌then◌else◌, List, [], ◌∷◌, ◌++◌, length, Contains}
+use Rattle.std.specs.Prelude.{◌≡◌, ◌↔◌, ◌⊎◌, ℕ, ◌+◌, ◌-◌, ◌/◌, ◌%◌, ◌==◌, Bool, true, nat_lt, if◌then◌else◌, List, [], ◌∷◌, ◌++◌, length, Contains}
 use Rattle.fixed_box.specs.declared.shape.Shape.{Shape}
 use Rattle.word_map.specs.declared.config.Config.{Config}
 use Rattle.word_map.specs.declared.name.Name.{Name}
@@ -7,7 +7,7 @@ use Rattle.core_state.specs.declared.item.Load.{Load}
 use Rattle.core_state.specs.declared.item.Store.{Store}
 use Rattle.core_state.specs.declared.view.Waiting.{Waiting}
 use Rattle.core_state.specs.declared.view.View.{View}
-use Rattle.core_state.specs.Walking.{Query, Spot, resting, at_child, at_bound, Position, waiting, start as first_place, next_node, next_child, pushed, advance}
+use Rattle.core_state.specs.Walking.{Query, Spot, resting, at_child, at_bound, Position, start as first_place, next_node, next_child, pushed, advance}
 use Rattle.tree_query.specs.declared.finder.Finder.{Finder}
 use Rattle.tree_query.specs.Finding.{has_index, seq_of, room_of}
 use Rattle.tree_query.specs.Walking.{HasWalked, IsWalkingAt}
@@ -95,6 +95,10 @@ word_place rest = record { rest = rest; stack = []; spot = resting }
 abbrev pub IsAtChild : Trip → List Name → Shape → Finder → List ℕ → View → ℕ → ℕ → Type 0
 IsAtChild trip rest shape finder nodes view n k =
     (level : ℕ) × (stack : List Waiting) × (nodes ≡ nodes_in stack) × IsCollecting trip shape finder view (child_place rest stack n level k)
+
+-- this holds of some walk and some words that are still to be read
+abbrev pub OfSomeTrip : (Trip → List Name → Type 0) → Type 0
+OfSomeTrip P = (trip : Trip) × (rest : List Name) × P trip rest
 
 -- it is to walk the nodes on its stack
 abbrev pub IsAtNodes : Trip → List Name → Shape → Finder → List ℕ → View → Type 0

@@ -9,10 +9,12 @@
 mod bit_set;
 mod bits;
 mod checking;
+mod children;
 mod finder;
 mod finding;
 mod found_ids;
 pub mod laws;
+mod nodes;
 mod reading;
 mod walk_steps;
 

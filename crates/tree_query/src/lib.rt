@@ -10,6 +10,7 @@ mod bit_set;
 mod bits;
 mod checking;
 mod children;
+mod collecting;
 mod finder;
 mod finding;
 mod found_ids;

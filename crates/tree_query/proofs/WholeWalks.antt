@@ -1,7 +1,6 @@
 -- A whole walk of a call, from the step that begins it to the one that ends it.
 use Rattle.std.proofs.Common.{◌≡◌, ℕ, List, [], ◌∷◌, true, false, length, refl, ap, sym, ◌∙◌, subst}
 use Rattle.std.specs.Prelude.{Contains}
-use Rattle.std.proofs.lemmas.List.{append-nil}
 use Rattle.std.proofs.lemmas.Option.{same_Some}
 use Rattle.fixed_box.specs.declared.shape.Shape.{Shape}
 use Rattle.core_state.specs.declared.item.Load.{Load}
@@ -9,24 +8,15 @@ use Rattle.core_state.specs.declared.view.View.{View}
 use Rattle.core_state.specs.View.{IsPass}
 use Rattle.core_state.specs.Walking.{asked_words}
 use Rattle.core_state.proofs.Opening.{none_in}
-use Rattle.core_state.proofs.Quiet.{KnowsQuietly-refl}
 use Rattle.pass_table.specs.Bodies.{IsCurrent}
-use Rattle.pass_table.proofs.Working.{tells-refl}
 use Rattle.pass_table.proofs.WorkLater.{same_pass}
 use Rattle.tree_query.specs.declared.finder.Finder.{Finder}
 use Rattle.tree_query.specs.Finding.{has_index}
-use Rattle.tree_query.specs.Walking.{HasWalked, reader_store, BeginsWalk, EndsWalk}
-use Rattle.tree_query.specs.Collecting.{Trip, found_by, IsCollecting, word_place, HasWalkedAll}
+use Rattle.tree_query.specs.Walking.{reader_store, BeginsWalk, EndsWalk}
+use Rattle.tree_query.specs.Collecting.{Trip, found_by, IsCollecting, word_place}
+use Rattle.tree_query.specs.Answers.{HasCollected}
+use Rattle.tree_query.proofs.Ended.{walked-none, collected}
 use Rattle.tree_query.proofs.Queries.{query_of}
-
--- a pass has walked since a moment, before it does anything more
-walked-none : (view : View) (number : ℕ) → IsPass view number → HasWalked view view []
-walked-none view number pass = record {
-  adds = record { number = number; pass = pass; since = []; known = sym (append-nil view.known); own = refl };
-  tells = tells-refl view number pass;
-  quiet = KnowsQuietly-refl view;
-  left = refl;
-}
 
 -- the walk of a call that begins with this view
 abbrev pub trip_of : Shape → ℕ → View → ℕ → ℕ → Trip
@@ -50,21 +40,8 @@ walk-begins shape mask start mid number first finder pass begun none loads = rec
 
 -- it has ended
 pub walk-ends : (shape : Shape) (mask : ℕ) (start last next : View) (number first other second : ℕ) (finder : Finder) → IsPass start number
-    → IsCollecting (trip_of shape mask start number first) shape finder last (word_place []) → ∥ IsCurrent last ∥₁ → IsPass last other → EndsWalk last next other second → HasWalkedAll shape mask start next finder
+    → IsCollecting (trip_of shape mask start number first) shape finder last (word_place []) → ∥ IsCurrent last ∥₁ → IsPass last other → EndsWalk last next other second → HasCollected shape mask start next finder
 walk-ends shape mask start last next number first other second finder pass h current own ended =
     let role : last.role ≡ start.role = ap (λ (v : View). v.role) h.on.walked.left in
     let same : other ≡ number = same_Some other number (sym own ∙ same_pass start last number role pass) in
-    record {
-      trip = trip_of shape mask start number first;
-      last = last;
-      number = number;
-      first = first;
-      second = second;
-      begins = refl;
-      pass = pass;
-      told = refl;
-      asks = refl;
-      collecting = h;
-      current = current;
-      ends = subst (λ (n : ℕ). EndsWalk last next n second) same ended;
-    }
+    collected shape mask (trip_of shape mask start number first) finder last next number first second pass refl refl h current (subst (λ (n : ℕ). EndsWalk last next n second) same ended)

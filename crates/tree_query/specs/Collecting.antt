@@ -10,12 +10,10 @@ use Rattle.core_state.specs.declared.item.Load.{Load}
 use Rattle.core_state.specs.declared.item.Store.{Store}
 use Rattle.core_state.specs.declared.view.Waiting.{Waiting}
 use Rattle.core_state.specs.declared.view.View.{View}
-use Rattle.core_state.specs.View.{IsPass}
 use Rattle.core_state.specs.Walking.{words_of_layer, Query, Spot, resting, at_child, at_bound, Position, waiting, start as first_place, next_node, next_child, pushed, advance}
-use Rattle.pass_table.specs.Bodies.{IsCurrent}
 use Rattle.tree_query.specs.declared.finder.Finder.{Finder}
 use Rattle.tree_query.specs.Finding.{has_index, seq_of, room_of}
-use Rattle.tree_query.specs.Walking.{HasWalked, IsWalkingAt, reader_store, EndsWalk}
+use Rattle.tree_query.specs.Walking.{HasWalked, IsWalkingAt}
 
 -- ---- the bodies that a walk finds
 
@@ -147,20 +145,3 @@ pub record KeepsChild (touches : Bool) (x : ℕ) (nodes later : List ℕ) (befor
   pub puts : Puts before after (if touches then body_named x else [])
   pub loads : after.loads ≡ before.loads
   pub room : room_of after ≡ room_of before
-
--- ---- the whole walk
-
--- The pass has walked all asked words of the world and has ended its walk. The finder holds just what it found
-pub record HasWalkedAll (shape : Shape) (mask : ℕ) (start next : View) (finder : Finder) : Type 0 where
-  pub trip : Trip
-  pub last : View
-  pub number : ℕ
-  pub first : ℕ
-  pub second : ℕ
-  pub begins : trip.start ≡ start
-  pub pass : IsPass start number
-  pub told : trip.told ≡ reader_store number first ∷ []
-  pub asks : trip.query.mask ≡ mask
-  pub collecting : IsCollecting trip shape finder last (word_place [])
-  pub current : ∥ IsCurrent last ∥₁
-  pub ends : EndsWalk last next number second

@@ -5,7 +5,8 @@ ghost use Rattle.word_map.specs.declared.name.Name.TheVariants.{Main, Slot};
 ghost use Rattle.core_state.specs.Walking.{roots_in, next_node, words_of_layer, asked_words};
 ghost use Rattle.pass_table.specs.Passes.{view_of, IsOf};
 ghost use Rattle.tree_query.specs.Finding.{room_of};
-ghost use Rattle.tree_query.specs.Collecting.{Trip, IsCollecting, OfSomeTrip, word_place, roots_of, words_asked, HasWalkedAll};
+ghost use Rattle.tree_query.specs.Collecting.{Trip, IsCollecting, OfSomeTrip, word_place, roots_of, words_asked};
+ghost use Rattle.tree_query.specs.Answers.{HasCollected};
 
 use crate::checking::is_asked;
 use crate::children::MOST_NODES;
@@ -208,7 +209,7 @@ pub(crate) fn walk_all(world: &World, pass: &mut Pass, shape: &Shape, mask: u8, 
     requires room { world.now.map.bodies ≤ room_of finder.old }
     ensures of { IsOf world.now pass.new }
     ensures room { room_of finder.new ≡ room_of finder.old }
-    ensures walked { HasWalkedAll shape.now mask (view_of pass.old) (view_of pass.new) finder.new }
+    ensures collected { HasCollected shape.now mask (view_of pass.old) (view_of pass.new) finder.new }
 {
     let mut stack = ArrayVec::new();
     finder.clear();

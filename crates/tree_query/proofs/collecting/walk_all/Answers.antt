@@ -34,8 +34,8 @@ end-requires-clause-walks c =
     in
     walked.on.walking.on
 
-pub returns-clause-walked : goal.returns-clause-walked
-returns-clause-walked c =
+pub returns-clause-collected : goal.returns-clause-collected
+returns-clause-collected c =
     let begun = c.begin.ensures.begins in
     let ended = c.end.ensures.ends in
     let shape = c.args.shape.now in

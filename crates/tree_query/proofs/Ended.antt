@@ -91,7 +91,7 @@ module _ (trip : Trip) (view : View) (on : IsOnTrip trip view (word_place [])) w
 -- ---- the call
 
 -- a pass has walked since a moment, before it does anything more
-walked-none : (view : View) (number : ℕ) → IsPass view number → HasWalked view view []
+pub walked-none : (view : View) (number : ℕ) → IsPass view number → HasWalked view view []
 walked-none view number pass = record {
   adds = record { number = number; pass = pass; since = []; known = sym (append-nil view.known); own = refl };
   tells = tells-refl view number pass;

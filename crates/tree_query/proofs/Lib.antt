@@ -20,3 +20,6 @@ pub mod Later
 pub mod Keeping
 pub mod NodeStacks
 pub mod ChildReads
+pub mod WordWalks
+pub mod Queries
+pub mod WholeWalks

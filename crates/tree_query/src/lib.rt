@@ -1,15 +1,18 @@
 //! Asking a shared world which bodies touch a shape, without locks on the way through the trees.
 //!
-//! So far it has the finder, which holds what a query finds; the steps of a walk, and the reading of one bound; and the
-//! check of what a walk has found, each body under its stripe. No public call makes a walk yet.
+//! So far it has the finder, which holds what a query finds; `collect`, which walks the trees of the asked layers and puts
+//! each body that may touch the shape into the finder; and the check of what a walk has found, each body under its stripe. No
+//! public call makes that check yet.
 //!
 //! It stands on worlds and passes, on looking at a body, on guards of bodies, and on the tests of shapes. Nothing stands on it.
 #![tactic(auto)]
 
 mod bit_set;
 mod bits;
+mod calls;
 mod checking;
 mod children;
+mod collecting;
 mod finder;
 mod finding;
 mod found_ids;
@@ -18,5 +21,6 @@ mod nodes;
 mod reading;
 mod walk_steps;
 
+pub use calls::collect;
 pub use finder::Finder;
 pub use found_ids::FoundIds;

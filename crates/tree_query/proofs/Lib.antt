@@ -18,6 +18,7 @@ pub mod Labels
 pub mod WalkMulti
 pub mod Later
 pub mod Keeping
+pub mod WholeQueries
 pub mod NodeStacks
 pub mod ChildReads
 pub mod WordWalks

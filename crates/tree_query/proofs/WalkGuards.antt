@@ -1,6 +1,6 @@
 -- What a walk leaves of all else that its pass has: what is guarded is guarded still, and the locks, the batches and what is
 -- under way are as they were.
-use Rattle.std.proofs.Common.{◌≡◌, ℕ, ◌<◌, List, refl, ap, sym, ◌∙◌, subst}
+use Rattle.std.proofs.Common.{◌≡◌, ℕ, ◌<◌, List, false, refl, ap, sym, ◌∙◌, subst}
 use Rattle.body_ident.specs.Id.{Id}
 use Rattle.word_map.specs.declared.config.Config.{Config}
 use Rattle.word_map.specs.declared.name.Name.TheVariants.{State}
@@ -38,9 +38,10 @@ module _ (start next : View) (stores : List Store) (h : HasWalked start next sto
   pub walked-keeps : belongings_of next ≡ belongings_of start
   walked-keeps = ap belongings_of h.left
 
-  -- a pass at rest is at rest
-  pub walked-rest : IsAtRest start → IsAtRest next
-  walked-rest rest = record {
+  -- a pass at rest that has ended its walk is at rest
+  pub walked-rest : next.walk.is_on ≡ false → IsAtRest start → IsAtRest next
+  walked-rest still rest = record {
+    still = still;
     free = λ lock. ap (λ (v : View). mode_of v.locks lock) h.left ∙ rest.free lock;
     done = ap (λ (v : View). v.call.task) h.left ∙ rest.done;
   }
@@ -56,12 +57,13 @@ module _ (start next : View) (stores : List Store) (h : HasWalked start next sto
   }
 
   -- and the pass holds no other lock where it held none
-  pub walked-alone : (number : ℕ) (id : Id) (mode : Mode) → IsAlone number id mode start → IsAlone number id mode next
-  walked-alone number id mode alone = record {
+  pub walked-alone : next.walk.is_on ≡ false → (number : ℕ) (id : Id) (mode : Mode) → IsAlone number id mode start → IsAlone number id mode next
+  walked-alone still number id mode alone = record {
+    still = still;
     guarding = walked-guards number id mode alone.guarding;
     only = λ lock apart. ap (λ (v : View). mode_of v.locks lock) h.left ∙ alone.only lock (λ same. apart (same ∙ ap (λ (c : Config). stripe_of c id.index) (sym walked-sizes)));
   }
 
 -- a pass that was idle is idle
-pub walked-idle : (world : World) (old new : Pass) (stores : List Store) → HasWalked (view_of old) (view_of new) stores → IsOf world new → IsIdle world old → IsIdle world new
-walked-idle world old new stores h of idle = record { of = of; rest = walked-rest (view_of old) (view_of new) stores h idle.rest }
+pub walked-idle : (world : World) (old new : Pass) (stores : List Store) → HasWalked (view_of old) (view_of new) stores → (view_of new).walk.is_on ≡ false → IsOf world new → IsIdle world old → IsIdle world new
+walked-idle world old new stores h still of idle = record { of = of; rest = walked-rest (view_of old) (view_of new) stores h still idle.rest }

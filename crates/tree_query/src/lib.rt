@@ -1,8 +1,7 @@
 //! Asking a shared world which bodies touch a shape, without locks on the way through the trees.
 //!
-//! So far it has the finder, which holds what a query finds; `collect`, which walks the trees of the asked layers and puts
-//! each body that may touch the shape into the finder; and the check of what a walk has found, each body under its stripe. No
-//! public call makes that check yet.
+//! `collect` walks the trees of the asked layers and puts each body that may touch the shape into a finder. `query` looks at
+//! each of these under its stripe too, and leaves in the finder those that do.
 //!
 //! It stands on worlds and passes, on looking at a body, on guards of bodies, and on the tests of shapes. Nothing stands on it.
 #![tactic(auto)]
@@ -21,6 +20,6 @@ mod nodes;
 mod reading;
 mod walk_steps;
 
-pub use calls::collect;
+pub use calls::{collect, query};
 pub use finder::Finder;
 pub use found_ids::FoundIds;

@@ -7,6 +7,9 @@ pub mod WalkEnds
 pub mod CandidateChecks
 pub mod OneCheck
 pub mod AllChecks
+pub mod CheckLoads
+pub mod CheckTurns
+pub mod ChecksTurns
 pub mod RightAnswers
 pub mod Trips
 pub mod Sides

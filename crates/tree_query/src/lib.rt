@@ -9,7 +9,11 @@
 mod bit_set;
 mod bits;
 mod calls;
+mod check_loads;
+mod check_op;
+mod check_turns;
 mod checking;
+mod checks;
 mod children;
 mod collecting;
 mod finder;

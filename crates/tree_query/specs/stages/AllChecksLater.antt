@@ -23,6 +23,7 @@ done-later start view next o done more = record {
   rest = record {
     free = λ lock. ap (λ (v : View). mode_of v.locks lock) more.rest ∙ done.rest.free lock;
     done = ap (λ (v : View). v.call.task) more.rest ∙ done.rest.done;
+    still = ap (λ (v : View). v.walk.is_on) more.rest ∙ done.rest.still;
   };
   left =
       more.rest

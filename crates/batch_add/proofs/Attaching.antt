@@ -242,6 +242,7 @@ module _ (prepared : Prepared) (view next : View) (number : ℕ) (pass : IsPass 
     alone_left other id mode alone = record {
       guarding = guards_left other id mode alone.guarding;
       only = λ lock apart. ap (λ (v : View). mode_of v.locks lock) left_now ∙ alone.only lock (λ same. apart (same ∙ ap (λ (c : Config). stripe_of c id.index) (sym sizes)));
+      still = ap (λ (v : View). v.walk.is_on) left_now ∙ alone.still;
     }
 
     -- ---- the boxes

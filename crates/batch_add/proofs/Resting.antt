@@ -27,6 +27,7 @@ pub attached-rest : (prepared : Prepared) (start next : View) → IsAtRest start
 attached-rest prepared start next rest h = record {
   free = λ lock. ap (λ (v : View). mode_of v.locks lock) h.left ∙ rest.free lock;
   done = ap (λ (v : View). v.call.task) h.left ∙ rest.done;
+  still = ap (λ (v : View). v.walk.is_on) h.left ∙ rest.still;
 }
 
 pub aborted-rest : (prepared : Prepared) (start next : View) → HasAborted prepared start next → IsAtRest next

@@ -39,6 +39,7 @@ pub rests-left : (view mid : View) → IsAtRest view → Leaves view mid view.lo
 rests-left view mid rest left = record {
   free = λ other. still-free view mid other left (rest.free other);
   done = ap (λ (v : View). v.call.task) left.rest ∙ rest.done;
+  still = ap (λ (v : View). v.walk.is_on) left.rest ∙ rest.still;
 }
 
 -- a pass at rest that did not get a lock is at rest

@@ -31,7 +31,7 @@ pub holds-more : (view next : View) (bits : ℕ) (mode : Mode) → KnowsMore vie
 holds-more view next bits mode more = holds-kept view next bits mode (λ lock. ap (λ (v : View). mode_of v.locks lock) more.rest)
 
 -- A step that leaves the locks and what is under way keeps the guard as long as it keeps what is said of each body that is guarded
-module _ (guard : MultiGuard) (view next : View) (sizes : next.config ≡ view.config) (role : next.role ≡ view.role) (locks : next.locks ≡ view.locks) (task : next.call.task ≡ view.call.task)
+module _ (guard : MultiGuard) (view next : View) (sizes : next.config ≡ view.config) (role : next.role ≡ view.role) (locks : next.locks ≡ view.locks) (task : next.call.task ≡ view.call.task) (walk : next.walk.is_on ≡ view.walk.is_on)
     (guards : (id : Id) → IsGuarding guard.number id guard.mode view → IsGuarding guard.number id guard.mode next) where
   reach-kept : (id : Id) (entry : MultiEntry) → IsReachGood guard.number guard.mode view id entry → IsReachGood guard.number guard.mode next id entry
   reach-kept id Reached good = guards id good
@@ -43,6 +43,7 @@ module _ (guard : MultiGuard) (view next : View) (sizes : next.config ≡ view.c
     holds = holds-kept view next guard.stripes.bits guard.mode (λ lock. ap (λ (l : List LockStep). mode_of l lock) locks) good.holds;
     within = λ stripe has. subst (λ (c : Config). stripe < c.stripes) (sym sizes) (good.within stripe has);
     done = task ∙ good.done;
+    still = walk ∙ good.still;
     each =
         All-weaker (IsEntryGood guard.number guard.mode view) (IsEntryGood guard.number guard.mode next) (λ body. reach-kept body.id body.entry) guard.bodies.items
         good.each;
@@ -51,6 +52,7 @@ module _ (guard : MultiGuard) (view next : View) (sizes : next.config ≡ view.c
 pub multi-more : (guard : MultiGuard) (view next : View) → KnowsMore view next → IsMultiGood guard view → IsMultiGood guard next
 multi-more guard view next more =
     multi-kept guard view next (ap (λ (v : View). v.config) more.rest) (ap (λ (v : View). v.role) more.rest) (ap (λ (v : View). v.locks) more.rest) (ap (λ (v : View). v.call.task) more.rest)
+    (ap (λ (v : View). v.walk.is_on) more.rest)
     (λ id good. guarding-more guard.number id guard.mode view good next more)
 
 -- the k-th body, where it was reached
@@ -77,4 +79,5 @@ module _ (guard : MultiGuard) (view : View) (good : IsMultiGood guard view) (k :
 pub multi-set : (guard : MultiGuard) (view next : View) (index user : ℕ) → HasSetUser view next guard.number index user → IsMultiGood guard view → IsMultiGood guard next
 multi-set guard view next index user set =
     multi-kept guard view next (ap (λ (v : View). v.config) set.rest) (ap (λ (v : View). v.role) set.rest) (ap (λ (v : View). v.locks) set.rest) (ap (λ (v : View). v.call.task) set.rest)
+    (ap (λ (v : View). v.walk.is_on) set.rest)
     (λ id good. user-guarding guard.number id guard.mode view next guard.number index user good set)

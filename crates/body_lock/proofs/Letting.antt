@@ -1,5 +1,5 @@
 -- A lock is let go.
-use Rattle.std.proofs.Common.{◌≡◌, ◌≢◌, ℕ, [], ◌∷◌, ◌++◌, Bool, cond, Option, None, refl, ap, sym, ◌∙◌, inl, inr}
+use Rattle.std.proofs.Common.{◌≡◌, ◌≢◌, ℕ, [], ◌∷◌, ◌++◌, Bool, false, cond, Option, None, refl, ap, sym, ◌∙◌, inl, inr}
 use Rattle.std.proofs.lemmas.Bool.{cases_eq, eq-eqb, ne_eqb}
 use Rattle.std.proofs.lemmas.List.Sums.{fold-append}
 use Rattle.word_map.specs.declared.name.Name.TheVariants.{Lock}
@@ -48,8 +48,8 @@ module _ (view next : View) (lock found : ℕ) (go : LetGo view lock found next)
   let-go-adds number pass = adds-none view view next [] refl (Adds-refl view number pass) let-go-made
 
   -- who held no other lock is at rest
-  pub let-go-done : (number : ℕ) → IsPass view number → ((other : ℕ) → other ≢ lock → HoldsNot view other) → HasDone view next (idle view)
-  let-go-done number pass only = record {
+  pub let-go-done : (number : ℕ) → IsPass view number → view.walk.is_on ≡ false → ((other : ℕ) → other ≢ lock → HoldsNot view other) → HasDone view next (idle view)
+  let-go-done number pass still only = record {
     adds = let-go-adds number pass;
     tells = tells-alone view view next [] (Lock lock) refl (tells-refl view number pass) (step-alone MayRelease release view next (Lock lock) go.0 0 found go.1) refl;
     spares = λ none. spares-alone view view next (Lock lock) refl (spares-refl view) (step-alone MayRelease release view next (Lock lock) go.0 0 found go.1) refl;
@@ -59,6 +59,7 @@ module _ (view next : View) (lock found : ℕ) (go : LetGo view lock found next)
         | inr apart ↦ let-go-mode other ∙ (ap (λ (t : Bool). cond t no_mode (mode_of view.locks other)) (ne_eqb lock other (λ e. apart (sym e))) ∙ only other apart)
       ];
       done = ap (λ (v : View). v.call.task) let-go-view;
+      still = ap (λ (v : View). v.walk.is_on) let-go-view ∙ still;
     };
     left = let-go-left;
   }
@@ -69,5 +70,5 @@ module _ (view next : View) (lock found : ℕ) (go : LetGo view lock found next)
 -- a guard is unlocked
 pub unlocked : (number : ℕ) (id : Id) (mode : Mode) (view next : View) (c : Config) → view.config ≡ c → IsAlone number id mode view → (found : ℕ) × LetGo view (stripe_of c id.index) found next → HasDone view next (idle view)
 unlocked number id mode view next c sizes alone step =
-    let-go-done view next (stripe_of c id.index) step.0 step.1 number alone.guarding.pass
+    let-go-done view next (stripe_of c id.index) step.0 step.1 number alone.guarding.pass alone.still
     (λ other apart. alone.only other (λ same. apart (same ∙ ap (λ (s : Config). stripe_of s id.index) sizes)))

@@ -57,6 +57,7 @@ look-locks id mode start next found rest other looked = record {
   alone = λ number pass. record {
     guarding = not_gone-guards id mode next found other looked.guards number (ap (λ (v : View). number_of v) looked.stripe.worked.left ∙ pass);
     only = no-other id mode start next looked.stripe rest;
+    still = ap (λ (v : View). v.walk.is_on) looked.stripe.worked.left ∙ rest.still;
   };
   now = looked.now;
   calling = looked.stripe.worked;

@@ -270,6 +270,7 @@ module _ (operation : LockMultiOp) (view : View) (stage : operation.stage ≡ He
             holds = holds-more view next first.stripes.bits first.mode more holds-now;
             within = λ stripe has. subst (λ (c : Config). stripe < c.stripes) (sym (same_sizes ∙ sizes)) (locking.begun.within stripe has);
             done = next-calling.doing;
+            still = ap (λ (v : View). v.walk.is_on) next-calling.left ∙ locking.begun.rest.still;
             each =
                 All-weaker (IsEntryRight locking.number first.mode reading.held next) (IsEntryGood number first.mode next) (λ b. reach-good number same b.id b.entry) bodies.items
                 (all-right bodies.items is);

@@ -46,6 +46,7 @@ alone-more number id mode view next alone more = record {
   only = λ lock other.
       ap (λ (v : View). mode_of v.locks lock) more.rest
       ∙ alone.only lock (λ same. other (same ∙ ap (λ (v : View). stripe_of v.config id.index) (sym more.rest)));
+  still = ap (λ (v : View). v.walk.is_on) more.rest ∙ alone.still;
 }
 
 -- what giving the body another user number tells
@@ -113,4 +114,5 @@ user-alone number id view next user alone set = record {
   only = λ lock other.
       ap (λ (v : View). mode_of v.locks lock) set.rest
       ∙ alone.only lock (λ same. other (same ∙ ap (λ (v : View). stripe_of v.config id.index) (sym set.rest)));
+  still = ap (λ (v : View). v.walk.is_on) set.rest ∙ alone.still;
 }

@@ -90,12 +90,12 @@ module _ (start view next : View) (bits rest stripe : ℕ) (mode : Mode) (takes 
       }
 
 -- when none is left the pass is at rest, and has what it had
-pub release-ends : (start next : View) (bits : ℕ) (mode : Mode) → HasNone bits 0 → HasReleased start next bits mode → HasDone start next (idle start)
-release-ends start next bits mode none released = record {
+pub release-ends : (start next : View) (bits : ℕ) (mode : Mode) → start.walk.is_on ≡ false → HasNone bits 0 → HasReleased start next bits mode → HasDone start next (idle start)
+release-ends start next bits mode still none released = record {
   adds = released.calling.adds;
   tells = released.calling.tells;
   spares = released.calling.spares;
-  rest = record { free = λ lock. released.holds.others lock (none lock (omega arith)); done = released.calling.doing };
+  rest = record { free = λ lock. released.holds.others lock (none lock (omega arith)); done = released.calling.doing; still = ap (λ (v : View). v.walk.is_on) released.calling.left ∙ still };
   left =
       released.calling.left
       ∙ (λ i. record start { known = next.known; joined = next.joined; locks = sym (ap (λ (v : View). v.locks) released.calling.left) i; call = next.call });

@@ -1,5 +1,5 @@
 -- What a pass has that holds the locks of several bodies.
-use Rattle.std.specs.Prelude.{◌≡◌, ℕ, ◌<◌, true, ⊤, All, Result, Ok, Err}
+use Rattle.std.specs.Prelude.{◌≡◌, ℕ, ◌<◌, true, false, ⊤, All, Result, Ok, Err}
 use Rattle.body_ident.specs.Id.{Id}
 use Rattle.scene_model.specs.declared.body_view.BodyView.{BodyView}
 use Rattle.core_state.specs.declared.view.Mode.{Mode}
@@ -33,6 +33,7 @@ pub record IsMultiGood (guard : MultiGuard) (view : View) : Type 0 where
   pub holds : HoldsAll view guard.stripes.bits guard.mode
   pub within : (stripe : ℕ) → has_stripe guard.stripes.bits stripe ≡ true → stripe < view.config.stripes
   pub done : view.call.task ≡ Nothing
+  pub still : view.walk.is_on ≡ false
   pub each : All (IsEntryGood guard.number guard.mode view) guard.bodies.items
 
 -- the body was seen at a point of the call

@@ -1,5 +1,5 @@
 //! The guard of several bodies that are locked at once.
-ghost use Rattle.std.specs.Prelude.{◌≡◌, ◌<◌, ℕ, true, [], ◌∷◌, length, slice_index_or};
+ghost use Rattle.std.specs.Prelude.{◌≡◌, ◌<◌, ℕ, true, [], ◌∷◌, length, slice_index_or, false};
 ghost use Rattle.scene_model.specs.declared.entry.Entry.TheVariants.{SetUser};
 ghost use Rattle.core_state.specs.declared.view.Mode.{Mode};
 ghost use Rattle.core_state.specs.declared.view.Mode.TheVariants.{Write};
@@ -157,6 +157,7 @@ fn release_all(world: &World, pass: &mut Pass, stripes: StripeSet)
     requires holds { (mode : Mode) × HoldsAll (view_of pass.old) stripes.bits mode }
     requires within { (stripe : ℕ) → has_stripe stripes.bits stripe ≡ true → stripe < (view_of pass.old).config.stripes }
     requires done { (view_of pass.old).call.task ≡ Nothing }
+    requires still { (view_of pass.old).walk.is_on ≡ false }
     ensures of { IsOf world.now pass.new }
     ensures done { HasDone (view_of pass.old) (view_of pass.new) (idle (view_of pass.old)) }
 {

@@ -5,16 +5,20 @@
 //! printed; no schedule changes it.
 //!
 //! It shows that the contracts of the calls chain: what a call leaves is what the next one asks. Proved beside it are what
-//! its loops keep, and a line each at the few places where the search does not find which clauses to take. Nothing stands
-//! on it.
+//! its loops keep, and a line each at the few places where a clause that holds for every pass, batch or guard is taken at
+//! one. Nothing stands on it.
 #![tactic(auto)]
+
+ghost use Rattle.std.specs.Prelude.{IfSome};
+ghost use Rattle.pass_table.specs.Opened.{AreIdle};
+ghost use Rattle.pass_table.specs.Passes.{IsIdle};
 
 mod lives;
 mod stream;
 mod tally;
 mod threads;
 
-use pass_table::open_world;
+use pass_table::{Pass, PassList, World, open_world};
 use std::alloc::Global;
 use std::io;
 use std::io::Print;
@@ -35,15 +39,24 @@ const SIZES: Config = Config {
     passes: 4,
 };
 
+/// The next pass of the world, which is idle.
+fn next_pass(world: &World, passes: &mut PassList) -> Option<Pass>
+    requires idle { AreIdle world.now passes.old.passes.items }
+    ensures idle { IfSome result (IsIdle world.now) }
+    ensures others { AreIdle world.now passes.new.passes.items }
+{
+    passes.next()
+}
+
 /// Opens the world and runs the threads. `None` where there is not enough memory.
 fn run<R: Threads + Wait + Sync>(rt: &R, alloc: Global) -> Option<Tally> {
     let Ok((world, mut passes)) = open_world(alloc, SIZES) else {
         return None;
     };
-    let first = passes.next()?;
-    let second = passes.next()?;
-    let third = passes.next()?;
-    let fourth = passes.next()?;
+    let first = next_pass(&world, &mut passes)?;
+    let second = next_pass(&world, &mut passes)?;
+    let third = next_pass(&world, &mut passes)?;
+    let fourth = next_pass(&world, &mut passes)?;
     Some(share(rt, alloc, &world, first, second, third, fourth))
 }
 

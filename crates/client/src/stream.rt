@@ -30,30 +30,49 @@ fn body<R: Wait>(rt: &R, world: &World, pass: &mut Pass, layer: u32) -> Option<B
     create(rt, world, pass, layer, point()?, 7).ok()
 }
 
-/// Attaches a batch while a body is locked to read, and looks at that body then. Answers its user number.
-fn attach_and_see(world: &World, pass: &mut Pass, guard: &BodyRead, batch: Prepared) -> u32
+/// Attaches a batch while a body is locked to read, and looks at that body then. Answers its user number. An older batch is
+/// good still.
+fn attach_and_see(
+    world: &World,
+    pass: &mut Pass,
+    guard: &BodyRead,
+    batch: Prepared,
+    older: &Prepared,
+) -> u32
     requires of { IsOf world.now pass.old }
     requires guarded { IsReading guard.now (view_of pass.old) }
     requires good { IsGood batch (view_of pass.old) }
+    requires older { IsGood older.now (view_of pass.old) }
+    requires apart { IsApart older.now batch }
     ensures of { IsOf world.now pass.new }
     ensures guarded { IsReading guard.now (view_of pass.new) }
-    ensures others { (other : Prepared) → IsGood other (view_of pass.old) → IsApart other batch → IsGood other (view_of pass.new) }
+    ensures older { IsGood older.now (view_of pass.new) }
 {
     finalize(world, pass, batch);
     guard.view(world, pass).user
 }
 
 /// Attaches a batch, under the lock of a body where this one is live. Answers how many bodies were seen as they were created.
-fn attach<R: Wait>(rt: &R, world: &World, pass: &mut Pass, id: BodyId, batch: Prepared) -> u32
+/// An older batch is good still.
+fn attach<R: Wait>(
+    rt: &R,
+    world: &World,
+    pass: &mut Pass,
+    id: BodyId,
+    batch: Prepared,
+    older: &Prepared,
+) -> u32
     requires idle { IsIdle world.now pass.old }
     requires below { id.index < world.now.map.bodies }
     requires good { IsGood batch (view_of pass.old) }
+    requires older { IsGood older.now (view_of pass.old) }
+    requires apart { IsApart older.now batch }
     ensures idle { IsIdle world.now pass.new }
-    ensures others { (other : Prepared) → IsGood other (view_of pass.old) → IsApart other batch → IsGood other (view_of pass.new) }
+    ensures older { IsGood older.now (view_of pass.new) }
 {
     match lock_read(rt, world, pass, id) {
         Ok(guard) => {
-            let user = attach_and_see(world, pass, &guard, batch);
+            let user = attach_and_see(world, pass, &guard, batch, older);
             guard.unlock(world, pass);
             u32::from(user == 7)
         }
@@ -82,7 +101,7 @@ fn end<R: Wait>(
     requires apart { IsApart older younger }
     ensures idle { IsIdle world.now pass.new }
 {
-    let read = attach(rt, world, pass, id, younger);
+    let read = attach(rt, world, pass, id, younger, &older);
     let lived = live(rt, world, pass, layer, 1).unwrap_or(Tally::NOTHING);
     abort(rt, world, pass, older);
     let ended = Tally {

@@ -146,8 +146,9 @@ module _ (view : View) (free : (lock : ℕ) → HoldsNot view lock) where
       (each-seat body_scope body-numbers now.core (λ n v. IsUnderStripe s v v.call.task) laws.bodies.stripes now.seat number view now.at pass)
       (each-seat node_scope node-numbers now.core (λ n v. PoolsUnder t v v.call.task (length laws.places.chain)) laws.places.pool now.seat number view now.at pass)
 
-  pub free-rests : (number : ℕ) → IsPass view number → ∥ IsCurrent view ∥₁ → IsAtRest view
-  free-rests number pass current = record {
+  pub free-rests : view.walk.is_on ≡ false → (number : ℕ) → IsPass view number → ∥ IsCurrent view ∥₁ → IsAtRest view
+  free-rests still number pass current = record {
     free = free;
+    still = still;
     done = nothing-is view.call.task (∥∥₁_elim current (hlevel props) (λ now. ap is_nothing (current-rests number pass now)));
   }

@@ -39,13 +39,14 @@ module _ (view mid : View) (lock : ℕ) (mode : Mode) (rest : IsAtRest view) (le
         ap (λ (v : View). mode_of v.locks other) go.1.leaves ∙
         (mode-push mid.locks (Released lock) other ∙ (ap (λ (o : Option Mode). mode_after other o (Released lock)) (mid-mode other) ∙ none-left (eqb lock other)));
     done = ap (λ (v : View). v.call.task) go.1.leaves;
+    still = ap (λ (v : View). v.walk.is_on) go.1.leaves ∙ (ap (λ (v : View). v.walk.is_on) left.rest ∙ rest.still);
   }
 
 -- a pass of a world that was just opened is idle
 pub fresh-idle : (world : World) (number : ℕ) (pass : Pass) → IsFresh world number pass → IsIdle world pass
 fresh-idle world number pass fresh = record {
   of = fresh.of;
-  rest = record { free = λ lock. ap (λ (v : View). mode_of v.locks lock) fresh.view; done = ap (λ (v : View). v.call.task) fresh.view };
+  rest = record { free = λ lock. ap (λ (v : View). mode_of v.locks lock) fresh.view; done = ap (λ (v : View). v.call.task) fresh.view; still = ap (λ (v : View). v.walk.is_on) fresh.view };
 }
 
 -- and so is each of all its passes

@@ -151,7 +151,7 @@ module _ (start view : View) (w : Work) (worked : HasWorked start view w) where
     adds = worked.adds;
     tells = worked.tells;
     spares = worked.spares;
-    rest = record { free = λ lock. worked-mode start view w worked rest lock ∙ free lock; done = worked.doing ∙ none };
+    rest = record { free = λ lock. worked-mode start view w worked rest lock ∙ free lock; done = worked.doing ∙ none; still = ap (λ (v : View). v.walk.is_on) worked.left ∙ rest.still };
     left =
         worked.left
         ∙ (λ i. record start { known = view.known; joined = view.joined; locks = sym (ap (λ (v : View). v.locks) worked.left) i; call = view.call; batches = w.batches; loose = w.loose; written = w.written });

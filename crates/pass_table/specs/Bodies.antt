@@ -1,5 +1,5 @@
 -- What the words of a body tell a pass: that a body is gone, and what a body is while its lock is held.
-use Rattle.std.specs.Prelude.{◌≡◌, ◌≢◌, ◌⊎◌, ℕ, ◌+◌, ◌-◌, ◌%◌, ◌^◌, ◌<◌, slice_index, List, Some, None}
+use Rattle.std.specs.Prelude.{◌≡◌, ◌≢◌, ◌⊎◌, ℕ, ◌+◌, ◌-◌, ◌%◌, ◌^◌, ◌<◌, slice_index, List, Some, None, false}
 use Rattle.fixed_box.specs.FixBox.{words_of}
 use Rattle.body_ident.specs.Id.{Id}
 use Rattle.scene_model.specs.Scene.{Record, record_at}
@@ -70,10 +70,11 @@ pub record IsGuarding (number : ℕ) (id : Id) (mode : Mode) (view : View) : Typ
 abbrev pub IsGuarded : Id → View → Type 0
 IsGuarded id view = (number : ℕ) × (mode : Mode) × IsGuarding number id mode view
 
--- the pass with this number guards the body so, and holds no other lock
+-- the pass with this number guards the body so, holds no other lock, and does not walk
 pub record IsAlone (number : ℕ) (id : Id) (mode : Mode) (view : View) : Type 0 where
   pub guarding : IsGuarding number id mode view
   pub only : (lock : ℕ) → lock ≢ stripe_of view.config id.index → HoldsNot view lock
+  pub still : view.walk.is_on ≡ false
 
 -- after all that the pass knows the body that the id names is live, and this holds of it
 abbrev pub HasKnownBody : Id → View → (Record → Type 0) → Type 0

@@ -1,5 +1,5 @@
 -- How a pass keeps what its view says of locks: as two sets of locks.
-use Rattle.std.specs.Prelude.{◌≡◌, ℕ, ◌==◌, if◌then◌else◌, Bool, List, Option, Some, None}
+use Rattle.std.specs.Prelude.{◌≡◌, ℕ, ◌==◌, if◌then◌else◌, Bool, false, List, Option, Some, None}
 use Rattle.core_state.specs.declared.view.Mode.{Mode}
 use Rattle.core_state.specs.declared.view.Mode.TheVariants.{Read, Write}
 use Rattle.core_state.specs.declared.view.LockStep.{LockStep}
@@ -42,7 +42,8 @@ pub record MayLetGo (view : View) (lock : ℕ) : Type 0 where
 abbrev pub LetGo : View → ℕ → ℕ → View → Type 0
 LetGo view lock found next = (summand : ℕ) × Stepped MayRelease release view (Lock lock) summand 0 found next
 
--- the pass holds no lock, and nothing is half done
+-- the pass holds no lock, nothing is half done, and it does not walk
 pub record IsAtRest (view : View) : Type 0 where
   pub free : (lock : ℕ) → HoldsNot view lock
   pub done : view.call.task ≡ Nothing
+  pub still : view.walk.is_on ≡ false

@@ -15,10 +15,9 @@ use Rattle.scene_model.specs.Scene.{Record, record_at}
 use Rattle.scene_model.specs.History.{IsHit}
 use Rattle.word_map.specs.declared.config.Config.{Config}
 use Rattle.word_map.specs.declared.name.Name.TheVariants.{State, Layer, BoxWord}
-use Rattle.word_map.specs.Names.{stripe_of}
 use Rattle.core_state.specs.declared.item.Item.{Item}
 use Rattle.core_state.specs.declared.view.View.{View}
-use Rattle.core_state.specs.View.{IsPass, number_of, mode_of, known_word}
+use Rattle.core_state.specs.View.{known_word}
 use Rattle.core_state.specs.Guards.{scene_at}
 use Rattle.core_state.proofs.Beginning.{body_record}
 use Rattle.core_state.proofs.Boxes.{box_of-words}
@@ -33,7 +32,7 @@ use Rattle.body_look.specs.declared.body_found.BodyFound.{BodyFound}
 use Rattle.body_look.specs.declared.body_found.BodyFound.TheVariants.{Gone, Live as FoundLive, Out as FoundOut, In as FoundIn, Held, Joined}
 use Rattle.body_look.specs.declared.look_op.LookDepth.TheVariants.{Phase as ItsPhase}
 use Rattle.body_look.specs.Found.{IsAsked, IsFound, IsInPhase}
-use Rattle.tree_query.specs.Checking.{IsHitAfter, HasNoHit, IsLayerIn, IsUnderStripeOf}
+use Rattle.tree_query.specs.Checking.{IsHitAfter, HasNoHit, IsLayerIn}
 
 -- ---- points
 
@@ -86,7 +85,7 @@ module _ (id : Id) (start view next : View) (more : KnowsMore start view) (later
   seen-in layer word is lies = record { view = view; more = more; later = later; guarded = guarded; told = is.told; holds = (is.is, sym is.told.layer ∙ lies) }
 
   -- or in another phase
-  seen-apart : (phase : BodyPhase) (word : ℕ) → phase ≢ InPhase → IsInPhase id view phase word → IsLayerIn id start next None
+  pub seen-apart : (phase : BodyPhase) (word : ℕ) → phase ≢ InPhase → IsInPhase id view phase word → IsLayerIn id start next None
   seen-apart phase word other is = record { view = view; more = more; later = later; guarded = guarded; told = is.told; holds = λ same. other (sym is.is ∙ same) }
 
   pub seen-none : (found : BodyFound) → IsCurrent view → IsAsked ItsPhase found → IsFound id view found → found ≢ FoundIn → ((layer slot word : ℕ) → found ≢ Joined layer slot word) → IsLayerIn id start next None

@@ -1,5 +1,5 @@
 -- One check from beginning to end: the stripe of the body is taken to read, and let go again.
-use Rattle.std.proofs.Common.{◌≡◌, ℕ, [], ◌∷◌, ◌++◌, Bool, true, false, eqb, cond, Option, Some, None, refl, ap, sym, ◌∙◌, subst}
+use Rattle.std.proofs.Common.{◌≡◌, ℕ, [], ◌∷◌, Bool, true, false, eqb, cond, Option, Some, None, refl, ap, ◌∙◌, subst}
 use Rattle.fixed_box.specs.declared.shape.Shape.{Shape}
 use Rattle.word_map.specs.declared.config.Config.{Config}
 use Rattle.word_map.specs.Names.{stripe_of}
@@ -8,7 +8,7 @@ use Rattle.core_state.specs.declared.view.Mode.TheVariants.{Read}
 use Rattle.core_state.specs.declared.view.LockStep.TheVariants.{Taken}
 use Rattle.core_state.specs.declared.view.View.{View}
 use Rattle.core_state.specs.Log.{IsPrefix}
-use Rattle.core_state.specs.View.{IsPass, Holds, mode_of}
+use Rattle.core_state.specs.View.{IsPass, mode_of}
 use Rattle.pass_table.specs.Knowing.{KnowsMore}
 use Rattle.pass_table.specs.Holding.{IsAtRest, MayLetGo, LetGo}
 use Rattle.pass_table.specs.TakeTurns.{taking_of, HasTaken}
@@ -19,15 +19,26 @@ use Rattle.pass_table.proofs.Calling.{point-later}
 use Rattle.pass_table.proofs.Resting.{taken-may-go}
 use Rattle.pass_table.proofs.WorkLater.{worked-more}
 use Rattle.pass_table.proofs.Working.{worked-begun, worked-taken, worked-released, worked-done, point-from}
-use Rattle.tree_query.specs.Checking.{IsHitAfter, HasNoHit, IsCheckedSo, IsUnderStripeOf, check_steps}
+use Rattle.tree_query.specs.Checking.{IsHitAfter, HasNoHit, IsCheckedSo, check_steps}
 
 abbrev no_mode : Option Mode
 no_mode = None
 
 -- no lock is held after it
-none-held : (t : Bool) → cond t None (cond t (Some Read) no_mode) ≡ no_mode
+pub none-held : (t : Bool) → cond t None (cond t (Some Read) no_mode) ≡ no_mode
 none-held true = refl
 none-held false = refl
+
+-- an answer that is right at a point of a part is right at a point of the whole
+pub checked-within : (shape : Shape) (mask index : ℕ) (start mid view next : View) → mid.config ≡ start.config → IsPrefix start.known mid.known → IsPrefix view.known next.known → (answer : Option ℕ)
+    → IsCheckedSo shape mask index mid view answer → IsCheckedSo shape mask index start next answer
+checked-within shape mask index start mid view next sizes early later None point =
+    point-later start view next (HasNoHit shape mask start.config index) later
+    (point-from start mid view (HasNoHit shape mask start.config index) early (subst (λ (c : Config). AtPoint mid view (HasNoHit shape mask c index)) sizes point))
+checked-within shape mask index start mid view next sizes early later (Some seq) point =
+    point-later start view next (IsHitAfter shape mask start.config (record { index = index; seq = seq })) later
+    (point-from start mid view (IsHitAfter shape mask start.config (record { index = index; seq = seq })) early
+    (subst (λ (c : Config). AtPoint mid view (IsHitAfter shape mask c (record { index = index; seq = seq }))) sizes point))
 
 module _ (index : ℕ) (start mid : View) (rest : IsAtRest start) (taken : HasTaken (taking_of (stripe_of start.config index) Read) start mid) where
   abbrev lock : ℕ
@@ -60,10 +71,4 @@ module _ (index : ℕ) (start mid : View) (rest : IsAtRest start) (taken : HasTa
 
   -- what was answered under the stripe is the answer
   pub checked-so : (shape : Shape) (mask : ℕ) (view next : View) (answer : Option ℕ) → IsPrefix view.known next.known → IsCheckedSo shape mask index mid view answer → IsCheckedSo shape mask index start next answer
-  checked-so shape mask view next None later point =
-      point-later start view next (HasNoHit shape mask start.config index) later
-      (point-from start mid view (HasNoHit shape mask start.config index) taken.left.known (subst (λ (c : Config). AtPoint mid view (HasNoHit shape mask c index)) sizes point))
-  checked-so shape mask view next (Some seq) later point =
-      point-later start view next (IsHitAfter shape mask start.config (record { index = index; seq = seq })) later
-      (point-from start mid view (IsHitAfter shape mask start.config (record { index = index; seq = seq })) taken.left.known
-      (subst (λ (c : Config). AtPoint mid view (IsHitAfter shape mask c (record { index = index; seq = seq }))) sizes point))
+  checked-so shape mask view next answer later = checked-within shape mask index start mid view next sizes taken.left.known later answer

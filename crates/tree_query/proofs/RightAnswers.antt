@@ -29,11 +29,11 @@ history-on : (first since : List Item) → history (first ++ since) ≡ history 
 history-on first since = filter_map-append made_by first since
 
 -- its first entries are those of the first part
-taken-on : (n : ℕ) (first since : List Item) → n ≤ length (history first) → take n (history (first ++ since)) ≡ take n (history first)
+pub taken-on : (n : ℕ) (first since : List Item) → n ≤ length (history first) → take n (history (first ++ since)) ≡ take n (history first)
 taken-on n first since low = ap (take n) (history-on first since) ∙ take-append-le n (history first) (history since) low
 
 -- and it is no shorter
-longer : (first since : List Item) → length (history first) ≤ length (history (first ++ since))
+pub longer : (first since : List Item) → length (history first) ≤ length (history (first ++ since))
 longer first since =
     let whole = ap length (history-on first since) ∙ length-append (history first) (history since) in
     omega arith

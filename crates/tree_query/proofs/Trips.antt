@@ -29,7 +29,7 @@ use Rattle.tree_query.specs.Collecting.{found_with, found_from, found_by, Trip, 
 
 -- ---- one load
 
-found-more : (query : Query) (at : Position) (loads : List Load) (new : Load)
+pub found-more : (query : Query) (at : Position) (loads : List Load) (new : Load)
     → found_from query at (loads ++ new ∷ []) ≡ found_from query at loads ++ found_with query (replay query at loads).spot new.value
 found-more query at [] new = append-nil (found_with query at.spot new.value)
 found-more query at (l ∷ loads) new =
@@ -68,19 +68,19 @@ reaches-trans trip view mid next at later found more count further one two = rec
 -- ---- what holds at each place
 
 module _ (trip : Trip) (view : View) (at : Position) (h : IsOnTrip trip view at) (now : IsCurrent view) where
-  abbrev number : ℕ
+  abbrev pub number : ℕ
   number = h.walked.adds.number
 
-  number-is : IsPass view number
+  pub number-is : IsPass view number
   number-is = subst (λ (v : View). IsPass v number) (sym h.walked.left) h.walked.adds.pass
 
-  sizes : now.core.config ≡ trip.start.config
+  pub sizes : now.core.config ≡ trip.start.config
   sizes = now.sizes ∙ trip-sizes trip view at h
 
-  walking-now : IsWalking now.core trip.query now.seat number view
+  pub walking-now : IsWalking now.core trip.query now.seat number view
   walking-now = record { at = now.at; pass = number-is; on = h.walking.on; follows = subst (λ (c : Config). Follows c trip.query view.walk.loads) (sym sizes) h.walking.follows }
 
-  there : position_of now.core.config trip.query view.walk.loads ≡ at
+  pub there : position_of now.core.config trip.query view.walk.loads ≡ at
   there = ap (λ (c : Config). position_of c trip.query view.walk.loads) sizes ∙ h.walking.place
 
   named-now : (name : Name) → next_word at.rest at.spot ≡ Some name → IsName view.config name

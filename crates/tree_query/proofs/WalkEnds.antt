@@ -2,7 +2,7 @@
 -- new, or has ended, and all else is as it was.
 use mathlib.Core.Logic.{∥∥₁_elim}
 use Rattle.std.proofs.Props.{props}
-use Rattle.std.proofs.Common.{◌≡◌, ℕ, ◌+◌, ◌%◌, ◌^◌, ◌<◌, ◌≤◌, List, [], ◌∷◌, ◌++◌, append_assoc, None, length, false, refl, ap, sym, ◌∙◌, subst, arith}
+use Rattle.std.proofs.Common.{◌≡◌, ℕ, ◌+◌, ◌%◌, ◌^◌, ◌<◌, ◌≤◌, List, [], ◌∷◌, ◌++◌, append_assoc, Some, None, length, true, false, refl, ap, sym, ◌∙◌, subst, arith}
 use Rattle.std.specs.Prelude.{option_map, option_to_list}
 use Rattle.std.proofs.lemmas.List.Elements.{filter_map-append}
 use Rattle.word_map.specs.declared.config.Config.{Config}
@@ -18,12 +18,14 @@ use Rattle.core_state.specs.Guards.{Owns, IsBodyWord, IsQuiet}
 use Rattle.core_state.specs.Quietly.{KnowsQuietly}
 use Rattle.core_state.specs.Operation.{Operation, fetch_add, stored_by}
 use Rattle.core_state.specs.Kind.{Kind, Asking, Step, learned, found_by, item_of, gained_by, log_after}
+use Rattle.core_state.specs.ReadersCounted.{reader_scope}
 use Rattle.core_state.specs.Walking.{Query, Follows, position_of, start as first_place}
 use Rattle.core_state.specs.Walks.{MayBegin, begin_walk, MayEnd, end_walk}
 use Rattle.core_state.proofs.Forming.{unspent_pass, pass_role}
 use Rattle.core_state.proofs.Quiet.{KnowsQuietly-trans, in_first, in_second, append_cut, one_cut}
 use Rattle.core_guard.proofs.Growing.{length-grown}
 use Rattle.core_guard.proofs.Holders.{by_name}
+use Rattle.core_guard.proofs.Seats.{seat-has}
 use Rattle.pass_table.specs.Bodies.{IsCurrent}
 use Rattle.pass_table.specs.Stepping.{step_by, Stepped}
 use Rattle.pass_table.specs.Calls.{Advances, StoresWord}
@@ -152,8 +154,19 @@ module _ (view next : View) (number found : ℕ) (stepped : Stepped MayEnd end_w
   pub ended-walk : next.walk ≡ record view.walk { is_on = false }
   ended-walk = count-left MayEnd end_walk view next number found stepped (λ v n f a b. refl) refl (λ value. refl)
 
+  -- the reader word is odd while its pass walks
+  ended-odd : found % 2 ≡ 1
+  ended-odd =
+      let asked = stepped.allowed.asked in
+      let names : Reader number ≡ Reader asked.number = asked.names in
+      let same : asked.number ≡ number = cc in
+      let own : IsPass view number = asked.pass ∙ ap Some same in
+      subst (λ (word : ℕ). word % 2 ≡ 1) (sym stepped.finds)
+      ((stepped.stands.laws.readers.odd number).1
+      (seat-has reader_scope (λ p v. refl) stepped.before number (λ v. v.walk.is_on ≡ true) (record { seat = stepped.seat; view = view; at = stepped.allowed.at; pass = own; holds = asked.walks })))
+
   pub walk-ended : EndsWalk view next number found
-  walk-ended = record { now = stepped-current MayEnd end_walk view next (Reader number) 1 0 found stepped; walked = ended-walked; walk = ended-walk }
+  walk-ended = record { now = stepped-current MayEnd end_walk view next (Reader number) 1 0 found stepped; odd = ended-odd; walked = ended-walked; walk = ended-walk }
 
 -- ---- the own reader word is one of the world
 

@@ -1,5 +1,5 @@
 -- What a walk that collects leaves, what its labels say, and what a whole query leaves.
-use Rattle.std.specs.Prelude.{◌≡◌, ◌↔◌, ℕ, ◌+◌, ◌%◌, ◌^◌, ◌<◌, true, false, List, [], ◌∷◌, ◌++◌, length}
+use Rattle.std.specs.Prelude.{◌≡◌, ◌↔◌, ℕ, ◌%◌, ◌<◌, true, false, List, [], ◌∷◌, ◌++◌, length}
 use Rattle.std.specs.Int.{bit_at}
 use Rattle.fixed_box.specs.declared.shape.Shape.{Shape}
 use Rattle.fixed_box.specs.Touch.{Touch}
@@ -20,33 +20,36 @@ use Rattle.tree_query.specs.Checking.{AreAllChecked, HoldsDue, points_between, s
 
 -- ---- the reader word
 
--- what a walk stores in the reader word of its pass, which had this value: it is raised by one, twice
-abbrev pub raised : ℕ → ℕ → List Store
-raised number word = reader_store number word ∷ reader_store number ((word + 1) % 2 ^ 64) ∷ []
+-- what a walk stores in the reader word of its pass: twice one more than the value that stood there
+abbrev pub raised : ℕ → ℕ → ℕ → List Store
+raised number first second = reader_store number first ∷ reader_store number second ∷ []
 
 -- a layer of the world is asked
 abbrev pub AsksAny : Config → ℕ → Type 0
 AsksAny c mask = (layer : ℕ) × (layer < c.layers) × (bit_at mask layer ≡ 1)
 
--- At the labels `slots` and `root` the reader word was raised once, where a layer is asked, and at `walked` twice
+-- At the labels `slots` and `root` the reader word was raised once, where a layer is asked, and at `walked` twice, the second
+-- time from an odd value, so that it is even again
 pub record SaysWalk (mask : ℕ) (start next : View) (label : ℕ) : Type 0 where
   pub number : ℕ
   pub pass : IsPass start number
-  pub word : ℕ
+  pub first : ℕ
   pub adds : Adds start next []
-  pub inside : label < 2 → AsksAny start.config mask → Tells start next (reader_store number word ∷ [])
-  pub after : label ≡ 2 → Tells start next (raised number word)
+  pub inside : label < 2 → AsksAny start.config mask → Tells start next (reader_store number first ∷ [])
+  pub after : label ≡ 2 → (second : ℕ) × (second % 2 ≡ 1) × Tells start next (raised number first second)
 
 -- ---- a walk
 
--- The pass has walked, and all else that it has is as it was, but for what it knows. Its record is that of a whole walk of the
--- asked layers. The finder holds just the candidates of the record, each a body of the world, and each body that a query has
--- to find is among them
+-- The pass has walked, its reader word is even again, and all else that it has is as it was, but for what it knows. Its record
+-- is that of a whole walk of the asked layers. The finder holds just the candidates of the record, each a body of the world,
+-- and each body that a query has to find is among them
 pub record HasCollected (shape : Shape) (mask : ℕ) (start next : View) (finder : Finder) : Type 0 where
   pub number : ℕ
   pub pass : IsPass start number
-  pub word : ℕ
-  pub walked : HasWalked start next (raised number word)
+  pub first : ℕ
+  pub second : ℕ
+  pub walked : HasWalked start next (raised number first second)
+  pub odd : second % 2 ≡ 1
   pub ended : next.walk.is_on ≡ false
   pub query : Query
   pub asks : (query.mask ≡ mask) × (query.shape ≡ shape)

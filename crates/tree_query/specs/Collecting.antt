@@ -1,13 +1,16 @@
 -- How far a walk that collects candidates is: what it has read, and what its finder holds.
-use Rattle.std.specs.Prelude.{◌≡◌, ◌↔◌, ◌⊎◌, ℕ, suc, ◌+◌, ◌-◌, ◌/◌, ◌%◌, ◌==◌, ◌<◌, Bool, true, nat_lt, if◌then◌else◌, List, [], ◌∷◌, ◌++◌, length, Contains}
+use Rattle.std.specs.Prelude.{◌≡◌, ◌↔◌, ◌⊎◌, ℕ, ◌+◌, ◌-◌, ◌/◌, ◌%◌, ◌==◌, Bool, true, nat_lt, if◌then◌else◌, List, [], ◌∷◌, ◌++◌, length, map, flat_map, filter, Contains, Option, Some, None}
+use Rattle.std.specs.Int.{bit_at}
+use Rattle.std.specs.List.{range_with_len}
 use Rattle.fixed_box.specs.declared.shape.Shape.{Shape}
 use Rattle.word_map.specs.declared.config.Config.{Config}
 use Rattle.word_map.specs.declared.name.Name.{Name}
+use Rattle.word_map.specs.declared.name.Name.TheVariants.{Main, Slot}
 use Rattle.core_state.specs.declared.item.Load.{Load}
 use Rattle.core_state.specs.declared.item.Store.{Store}
 use Rattle.core_state.specs.declared.view.Waiting.{Waiting}
 use Rattle.core_state.specs.declared.view.View.{View}
-use Rattle.core_state.specs.Walking.{Query, Spot, resting, at_child, at_bound, Position, waiting, start as first_place, next_node, next_child, pushed, advance}
+use Rattle.core_state.specs.Walking.{words_of_layer, Query, Spot, resting, at_child, at_bound, Position, waiting, start as first_place, next_node, next_child, pushed, advance}
 use Rattle.tree_query.specs.declared.finder.Finder.{Finder}
 use Rattle.tree_query.specs.Finding.{has_index, seq_of, room_of}
 use Rattle.tree_query.specs.Walking.{HasWalked, IsWalkingAt}
@@ -96,9 +99,30 @@ abbrev pub IsAtChild : Trip → List Name → Shape → Finder → List ℕ → 
 IsAtChild trip rest shape finder nodes view n k =
     (level : ℕ) × (stack : List Waiting) × (nodes ≡ nodes_in stack) × IsCollecting trip shape finder view (child_place rest stack n level k)
 
+-- this holds of some walk and some words that are still to be read
+abbrev pub OfSomeTrip : (Trip → List Name → Type 0) → Type 0
+OfSomeTrip P = (trip : Trip) × (rest : List Name) × P trip rest
+
 -- it is to walk the nodes on its stack
 abbrev pub IsAtNodes : Trip → List Name → Shape → Finder → List ℕ → View → Type 0
 IsAtNodes trip rest shape finder nodes view = (stack : List Waiting) × (nodes ≡ nodes_in stack) × IsCollecting trip shape finder view (next_node rest stack)
+
+-- the root that a word names, if it names one
+abbrev pub roots_of : Option ℕ → List Waiting
+roots_of None = []
+roots_of (Some root) = waiting root 1 ∷ []
+
+-- the words of a layer from a slot on
+abbrev pub words_from : Config → ℕ → ℕ → List Name
+words_from c layer slot = map (Slot layer) (range_with_len slot (c.slots - slot)) ++ Main layer ∷ []
+
+-- those of a layer, where it is asked
+abbrev pub words_asked : Config → ℕ → ℕ → List Name
+words_asked c mask layer = if bit_at mask layer == 1 then words_of_layer c layer else []
+
+-- the words of the asked layers from one on
+abbrev pub layers_from : Config → ℕ → ℕ → List Name
+layers_from c mask layer = flat_map (words_of_layer c) (filter (λ k. bit_at mask k == 1) (range_with_len layer (c.layers - layer)))
 
 -- it has read the bound of a child that has this word
 abbrev pub HasReadBound : Trip → View → View → List Name → List Waiting → ℕ → ℕ → ℕ → ℕ → Bool → Type 0

@@ -48,8 +48,9 @@ pub record BeginsWalk (view next : View) (number found : ℕ) : Type 0 where
   pub walked : (start : View) (told : List Store) → HasWalked start view told → HasWalked start next (told ++ reader_store number found ∷ [])
   pub walking : (start : View) (told : List Store) → HasWalked start view told → (query : Query) → IsWalkingAt query start next (first_place start.config query)
 
--- it ended its walk, and what it has read stays
+-- it ended its walk, and what it has read stays. Its reader word was odd, as it is while it walks, and is even again
 pub record EndsWalk (view next : View) (number found : ℕ) : Type 0 where
   pub now : IsCurrent next
+  pub odd : found % 2 ≡ 1
   pub walked : (start : View) (told : List Store) → HasWalked start view told → HasWalked start next (told ++ reader_store number found ∷ [])
   pub walk : next.walk ≡ record view.walk { is_on = false }

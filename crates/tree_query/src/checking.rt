@@ -22,7 +22,7 @@ use std::sync::Wait;
 use word_map::{Name, StateWord};
 
 /// Whether the layer is one of the mask: bit k of it stands for layer k.
-fn is_asked(mask: u8, layer: u32) -> bool
+pub(crate) fn is_asked(mask: u8, layer: u32) -> bool
     ensures { result ≡ (bit_at mask layer == 1) }
 {
     layer < u8::BITS && (mask >> layer) % 2 == 1

@@ -1,20 +1,29 @@
 //! Asking a shared world which bodies touch a shape, without locks on the way through the trees.
 //!
-//! So far it has the finder, which holds what a query finds; the steps of a walk, and the reading of one bound; and the
-//! check of what a walk has found, each body under its stripe. No public call makes a walk yet.
+//! `collect` walks the trees of the asked layers and puts each body that may touch the shape into a finder. `query` looks at
+//! each of these under its stripe too, and leaves in the finder those that do.
 //!
-//! It stands on worlds and passes, on looking at a body, and on the tests of shapes. Nothing stands on it.
+//! It stands on worlds and passes, on looking at a body, on guards of bodies, and on the tests of shapes. Nothing stands on it.
 #![tactic(auto)]
 
 mod bit_set;
 mod bits;
+mod calls;
+mod check_loads;
+mod check_op;
+mod check_turns;
 mod checking;
+mod checks;
+mod children;
+mod collecting;
 mod finder;
 mod finding;
 mod found_ids;
 pub mod laws;
+mod nodes;
 mod reading;
 mod walk_steps;
 
+pub use calls::{collect, query};
 pub use finder::Finder;
 pub use found_ids::FoundIds;

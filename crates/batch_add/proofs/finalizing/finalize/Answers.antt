@@ -69,7 +69,7 @@ pub returns-clause-multi : goal.returns-clause-multi
 returns-clause-multi c guard =
     let left = (returns-clause-attached c).left in
     multi-kept guard (view_of c.args.pass.now) (view_of c.step_24.new.pass) (ap (λ (v : View). v.config) left) (ap (λ (v : View). v.role) left) (ap (λ (v : View). v.locks) left)
-    (ap (λ (v : View). v.call.task) left) (λ id. returns-clause-guards c guard.number id guard.mode)
+    (ap (λ (v : View). v.call.task) left) (ap (λ (v : View). v.walk.is_on) left) (λ id. returns-clause-guards c guard.number id guard.mode)
 
 pub returns-clause-others : goal.returns-clause-others
 returns-clause-others c = (returns-clause-attached c).others

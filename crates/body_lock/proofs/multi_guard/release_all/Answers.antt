@@ -24,4 +24,4 @@ loop-stripe-preserved c =
 pub returns-clause-done : goal.returns-clause-done
 returns-clause-done c =
     let mode = c.loop-stripe.invariant.1.0 in
-    release-ends (view_of c.args.pass.now) (view_of c.loop-stripe.pass) c.loop-stripe.held.bits mode c.in_default.ensures.none c.loop-stripe.invariant.1.1
+    release-ends (view_of c.args.pass.now) (view_of c.loop-stripe.pass) c.loop-stripe.held.bits mode c.requires.still c.in_default.ensures.none c.loop-stripe.invariant.1.1

@@ -8,4 +8,4 @@ use Rattle.pass_table.proofs.pass.Pass.is_idle.Goals as goal
 pub returns-then-not-self-clause-rest : goal.returns-then-not-self-clause-rest
 returns-then-not-self-clause-rest c empty =
     let pass = c.args.self.now in
-    free-rests (view_of pass) (λ lock. sym (pass.holds lock) ∙ ap (λ (h : ℕ). mode_by h (bit_in pass.written lock)) (c.is_empty.ensures.0 empty lock)) pass.number pass.numbered pass.current
+    free-rests (view_of pass) (λ lock. sym (pass.holds lock) ∙ ap (λ (h : ℕ). mode_by h (bit_in pass.written lock)) (c.is_empty.ensures.0 empty lock)) (sym pass.walking ∙ c.if-not-self.true) pass.number pass.numbered pass.current

@@ -1,0 +1,5 @@
+-- What holds between two turns, stage by stage; a caller need not read it.
+pub mod CandidateCheck
+pub mod CheckLater
+pub mod AllChecks
+pub mod AllChecksLater

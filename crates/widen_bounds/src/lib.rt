@@ -7,4 +7,5 @@
 //! It stands on the look at a body, on its lock and on the typed steps.
 #![tactic(auto)]
 
+mod climbing;
 mod widening;

@@ -22,7 +22,7 @@ use Rattle.pass_table.specs.Labels.{SaysNew}
 use Rattle.pass_table.specs.Settled.{KnowsPhase, KnowsFirst, KnowsSecond}
 use Rattle.pass_table.specs.Turning.{AtMostOneStep, MadeBy, HasReached}
 use Rattle.pass_table.specs.Work.{IsCalling}
-use Rattle.widen_bounds.specs.declared.widening.Climb.{Climb}
+use Rattle.widen_bounds.specs.declared.climbing.Climb.{Climb}
 use Rattle.widen_bounds.specs.declared.widening.Widening.{Widening}
 use Rattle.widen_bounds.specs.declared.widening.Widening.TheVariants.{First, Second, Ended}
 
@@ -79,7 +79,7 @@ HasClosed call box at = (n k : ℕ) → k < 4 → at ≡ place n k → HasClimbe
 
 abbrev pub AtWidening : Call → Sides → ℕ → ℕ → ℕ → Widening → Type 0
 AtWidening call box known first second (First climb later) = (later ≡ second) × IsClimbing call box known first climb
-AtWidening call box known first second (Second climb) = HasClosed call box first × IsClimbing call box known second climb
+AtWidening call box known first second (Second climb) = HasClosed call box first × ((first ≡ 0) ⊎ (known ≡ 6)) × IsClimbing call box known second climb
 AtWidening call box known first second Ended = HasClosed call box first × HasClosed call box second × (known ≡ 6)
 
 -- a call that was begun at this view and made these steps on locks widens bounds for the box that the body is to have
@@ -90,9 +90,10 @@ pub record IsWidening (id : Id) (target : FixBox) (steps : List LockStep) (start
   pub move : IsMidMove id target steps start view known first second
   pub at : AtWidening view.call (sides_of (words_of target)) known first second widening
 
--- some call does so
-pub record WidensFor (target : FixBox) (widening : Widening) (view : View) : Type 0 where
+-- some call does so for a body at this index
+pub record WidensFor (index : ℕ) (target : FixBox) (widening : Widening) (view : View) : Type 0 where
   pub id : Id
+  pub same : id.index ≡ index
   pub steps : List LockStep
   pub start : View
   pub goes : IsWidening id target steps start view widening
@@ -155,13 +156,13 @@ widening_says id target view (suc more) = KnowsAllWide id.index (sides_of (words
 
 -- ---- turns
 
--- what a turn owes of the widening for this box
-pub record IsWideningTurn (target : FixBox) (before after : Widening) (view next : View) : Type 0 where
+-- what a turn owes of the widening for this box of a body at this index
+pub record IsWideningTurn (index : ℕ) (target : FixBox) (before after : Widening) (view next : View) : Type 0 where
   pub step : AtMostOneStep view next
   pub made : MadeBy view next None
   pub current : IsCurrent next
   pub fewer : widening_left after < widening_left before
-  pub keeps : (id : Id) (steps : List LockStep) (start : View) → IsWidening id target steps start view before → IsWidening id target steps start next after
+  pub keeps : (id : Id) (steps : List LockStep) (start : View) → id.index ≡ index → IsWidening id target steps start view before → IsWidening id target steps start next after
   pub labelled : (label : ℕ) → HasReached (widening_label before) label → HasReached (widening_label after) label
-  pub says : (id : Id) (steps : List LockStep) (start : View) → IsWidening id target steps start view before
+  pub says : (id : Id) (steps : List LockStep) (start : View) → id.index ≡ index → IsWidening id target steps start view before
       → SaysNew (widening_label before) (widening_label after) (widening_says id target next)

@@ -1,6 +1,6 @@
 -- What a step on a way up leaves of the whole widening.
 use Rattle.std.specs.Prelude.{◌^◌}
-use Rattle.std.proofs.Common.{◌≡◌, ◌⊎◌, ℕ, ◌+◌, ◌<◌, ◌≤◌, List, Some, None, inl, inr, refl, sym, ◌∙◌, subst, arith}
+use Rattle.std.proofs.Common.{◌≡◌, ◌≢◌, ◌⊎◌, ℕ, ◌+◌, ◌<◌, ◌≤◌, List, Some, None, inl, inr, refl, sym, ◌∙◌, subst, arith}
 use Rattle.fixed_box.specs.FixBox.{words_of}
 use Rattle.fixed_box.specs.declared.fix_box.FixBox.{FixBox}
 use Rattle.body_ident.specs.Id.{Id}
@@ -16,7 +16,7 @@ use Rattle.pass_table.proofs.Settled.{sound-now}
 use Rattle.widen_bounds.specs.declared.climbing.Climb.{Climb}
 use Rattle.widen_bounds.specs.declared.widening.Widening.{Widening}
 use Rattle.widen_bounds.specs.declared.widening.Widening.TheVariants.{First, Second, Ended}
-use Rattle.widen_bounds.specs.stages.Widening.{HasClimbedTo, at_begin, IsClimbing, HasClosed, AtWidening, IsWidening, WidensFor, IsBottom, IsBegun, climb_left, widening_left, widening_label, IsWideningTurn}
+use Rattle.widen_bounds.specs.stages.Widening.{HasClimbedTo, at_begin, IsClimbing, HasClosed, AtWidening, IsWidening, WidensFor, IsBottom, IsBegun, HasWidenedOn, climb_left, widening_left, widening_label, IsWideningTurn}
 use Rattle.widen_bounds.specs.stages.Climbing.{Grows, IsClimbTurn}
 use Rattle.widen_bounds.proofs.WidenPlaces.{location-stands, node-below, word-below}
 use Rattle.widen_bounds.proofs.WidenWays.{closed-grows, none-closed}
@@ -156,3 +156,13 @@ second-begins index target climb second view next way turn =
     let w = way.goes in
     let t = turn.keeps way.id way.steps way.start w.known w.first w.second w.first way.same (record { move = w.move; one = inl refl; climbing = w.at.1 }) in
     second-fits way.id second next t.move.phase (t.move.at_second ∙ sym w.at.0) turn.current
+
+-- ---- turn after turn
+
+module _ (index : ℕ) (target : FixBox) (before : Widening) (view : View) where
+  pub on-more : (mid after : Widening) (between next : View) → mid ≢ Ended → HasWidenedOn index target before mid view between → IsWideningTurn index target mid after between next → HasWidenedOn index target before after view next
+  on-more mid after between next unended on turn = record {
+    keeps = λ id steps start same w. turn.keeps id steps start same (on.keeps id steps start same w);
+    goes = λ more. let way = on.goes unended in record { id = way.id; same = way.same; steps = way.steps; start = way.start; goes = turn.keeps way.id way.steps way.start way.same way.goes };
+    idle = λ ended. absurd (unended (on.idle ended).0);
+  }

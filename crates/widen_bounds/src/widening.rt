@@ -1,8 +1,8 @@
 //! Widening the bounds of trees for the box that a body is to have, from its locations up to the roots, one step a turn.
-ghost use Rattle.std.specs.Prelude.{◌≡◌, ◌≢◌, ◌≤◌, ◌^◌, ℕ};
+ghost use Rattle.std.specs.Prelude.{◌≡◌, ◌≢◌, ◌↔◌, ◌≤◌, ◌^◌, IsTrue, ℕ};
 ghost use Rattle.pass_table.specs.Passes.{view_of, IsOf};
 ghost use Rattle.widen_bounds.specs.declared.widening.Widening.TheVariants.{First as FirstWay, Second as SecondWay, Ended};
-ghost use Rattle.widen_bounds.specs.stages.Widening.{WidensFor, IsWideningTurn, IsBegun};
+ghost use Rattle.widen_bounds.specs.stages.Widening.{WidensFor, IsWideningTurn, HasWidenedOn, IsBegun};
 
 use crate::climbing::Climb;
 use fixed_box::FixBox;
@@ -67,6 +67,27 @@ impl Widening {
             Widening::Second { climb } => Widening::on_second(world, pass, target, climb),
             Widening::Ended => Widening::Ended,
         };
+    }
+
+    /// Whether both ways are closed.
+    pub(crate) fn is_ended(&self) -> bool
+        ensures { IsTrue result ↔ (self.now ≡ Ended) }
+    {
+        matches!(self, Widening::Ended)
+    }
+
+    /// All that is left of the widening, under the stripe of the body. A way up has at most ten places, so it ends.
+    pub(crate) fn widen_all(self, world: &World, pass: &mut Pass, target: &FixBox)
+        ghost index: { ℕ }
+        requires of { IsOf world.now pass.old }
+        requires under_way { self ≢ Ended → WidensFor index target.now self (view_of pass.old) }
+        ensures of { IsOf world.now pass.new }
+        ensures widened { HasWidenedOn index target.now self Ended (view_of pass.old) (view_of pass.new) }
+    {
+        let mut widening = self;
+        while !widening.is_ended() {
+            widening.turn(world, pass, target);
+        }
     }
 
     /// A step on the way up from the first location. Where it closes the way, that from the second is next.

@@ -1,5 +1,5 @@
 -- How bounds are widened for the box that a body is to have, turn by turn, from its locations up to the roots.
-use Rattle.std.specs.Prelude.{◌≡◌, ◌⊎◌, ℕ, zero, suc, ◌+◌, ◌-◌, ◌*◌, ◌<◌, ◌≤◌, ◌==◌, if◌then◌else◌, List, [], ◌++◌, take, Option, Some, None, false}
+use Rattle.std.specs.Prelude.{◌≡◌, ◌≢◌, ◌⊎◌, ℕ, zero, suc, ◌+◌, ◌-◌, ◌*◌, ◌<◌, ◌≤◌, ◌==◌, if◌then◌else◌, List, [], ◌++◌, take, Option, Some, None, false}
 use Rattle.fixed_box.specs.FixBox.{words_of}
 use Rattle.fixed_box.specs.declared.fix_box.FixBox.{FixBox}
 use Rattle.body_ident.specs.Id.{Id}
@@ -166,3 +166,9 @@ pub record IsWideningTurn (index : ℕ) (target : FixBox) (before after : Wideni
   pub labelled : (label : ℕ) → HasReached (widening_label before) label → HasReached (widening_label after) label
   pub says : (id : Id) (steps : List LockStep) (start : View) → id.index ≡ index → IsWidening id target steps start view before
       → SaysNew (widening_label before) (widening_label after) (widening_says id target next)
+
+-- from where the widening was it has come to this by turns; where it was at its end, none was made
+pub record HasWidenedOn (index : ℕ) (target : FixBox) (before after : Widening) (view next : View) : Type 0 where
+  pub keeps : (id : Id) (steps : List LockStep) (start : View) → id.index ≡ index → IsWidening id target steps start view before → IsWidening id target steps start next after
+  pub goes : after ≢ Ended → WidensFor index target after next
+  pub idle : before ≡ Ended → (after ≡ Ended) × (next ≡ view)

@@ -7,3 +7,7 @@ pub mod WidenParents
 pub mod WidenSays
 pub mod WidenTurns
 pub mod WidenEnds
+pub mod BoxStores
+pub mod Locations
+pub mod MoveTurns
+pub mod MoveSteps

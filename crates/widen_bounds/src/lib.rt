@@ -7,5 +7,14 @@
 //! It stands on the look at a body, on its lock and on the typed steps.
 #![tactic(auto)]
 
+mod answers;
+mod calls;
 mod climbing;
+mod move_op;
+mod moving;
+mod storing;
 mod widening;
+
+pub use answers::{HeldAt, MoveRefused};
+pub use calls::move_body;
+pub use move_op::MoveOp;

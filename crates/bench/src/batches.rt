@@ -1,10 +1,10 @@
 //! Batches that are prepared, attached and given up. A call is a body.
-ghost use Rattle.std.specs.Prelude.{◌≡◌};
+ghost use Rattle.std.specs.Prelude.{◌≡◌, ◌+◌, ◌≤◌};
 ghost use Rattle.pass_table.specs.Passes.{view_of, IsIdle};
 ghost use Rattle.batch_add.specs.PreparedLists.{AreGood};
 
 use crate::table::Table;
-use crate::town::{BATCHES, BODIES, create_all, ids_of, open, some_boxes};
+use crate::town::{create_all, ids_from, open, some_boxes};
 use batch_add::{PreparedList, abort, finalize, prepare};
 use fixed_box::FixBox;
 use pass_table::{Pass, World};
@@ -14,6 +14,12 @@ use std::io::Print;
 use std::sync::Wait;
 use std::time::Clock;
 
+/// How many bodies there are.
+const BODIES: u32 = 65_536;
+
+/// How many come in one batch.
+const BATCH: u32 = 2_048;
+
 /// Prepares one batch and puts it into the list. It answers whether it did.
 fn prepare_one<R: Wait>(
     rt: &R,
@@ -21,17 +27,17 @@ fn prepare_one<R: Wait>(
     world: &World,
     pass: &mut Pass,
     list: &mut PreparedList,
-    number: u32,
+    first: u32,
 ) -> bool
     requires idle { IsIdle world.now pass.old }
     requires bodies { world.now.map.bodies ≡ 65536 }
     requires layers { world.now.map.layers ≡ 1 }
     requires good { AreGood list.old (view_of pass.old) }
-    requires number { number < 32 }
+    requires room { first + 2048 ≤ 65536 }
     ensures idle { IsIdle world.now pass.new }
     ensures good { AreGood list.new (view_of pass.new) }
 {
-    let Ok(ids) = ids_of(alloc, number) else {
+    let Ok(ids) = ids_from(alloc, first, BATCH) else {
         return false;
     };
     match prepare(rt, alloc, world, pass, 0, &ids) {
@@ -62,8 +68,8 @@ fn prepare_all<R: Wait>(
     ensures good { AreGood list.new (view_of pass.new) }
 {
     let mut held = 0u32;
-    for number in 0..BATCHES {
-        if prepare_one(rt, alloc, world, pass, list, number) {
+    for first in (0..BODIES).step_by(BATCH as usize) {
+        if first <= BODIES - BATCH && prepare_one(rt, alloc, world, pass, list, first) {
             held = held.wrapping_add(1);
         }
     }
@@ -111,7 +117,7 @@ fn measure<R: Clock + Print + Wait>(
     attaches: bool,
 ) -> io::Result<Stream> {
     let (rt, alloc) = (table.runtime(), table.alloc());
-    let (world, mut pass) = open(alloc).ok_or(AllocError)?;
+    let (world, mut pass) = open(alloc, BODIES).ok_or(AllocError)?;
     create_all(rt, &world, &mut pass, boxes);
     let mut list = PreparedList::new(alloc);
     let start = table.start()?;
@@ -148,7 +154,7 @@ fn quickest<R: Clock + Print + Wait>(
 
 /// Writes rows for preparing batches, attaching them, and giving them up.
 pub(crate) fn run<R: Clock + Print + Wait>(table: &Table<R>) -> io::Result<()> {
-    let boxes = some_boxes(table.alloc())?;
+    let boxes = some_boxes(table.alloc(), BODIES)?;
     let attached = quickest(table, &boxes, true)?;
     let held = format!(in table.alloc(); "{} batches", attached.held)?;
     table.write(

@@ -9,8 +9,10 @@ mod batches;
 mod bodies;
 mod boxes;
 mod lock;
+mod moves;
 mod pass;
 mod plan;
+mod queries;
 mod shape;
 mod table;
 mod town;
@@ -38,16 +40,22 @@ enum Part {
     Bodies,
     /// Batches of bodies.
     Batches,
+    /// Queries.
+    Queries,
+    /// Bodies that are moved and taken out.
+    Moves,
 }
 
 impl Part {
-    const ALL: [Part; 6] = [
+    const ALL: [Part; 8] = [
         Part::Shape,
         Part::Plan,
         Part::Pass,
         Part::Lock,
         Part::Bodies,
         Part::Batches,
+        Part::Queries,
+        Part::Moves,
     ];
 
     /// The part of a name.
@@ -59,6 +67,8 @@ impl Part {
             "lock" => Some(Part::Lock),
             "bodies" => Some(Part::Bodies),
             "batches" => Some(Part::Batches),
+            "queries" => Some(Part::Queries),
+            "moves" => Some(Part::Moves),
             _ => None,
         }
     }
@@ -72,6 +82,8 @@ impl Part {
             Part::Lock => lock::run(table),
             Part::Bodies => bodies::run(table),
             Part::Batches => batches::run(table),
+            Part::Queries => queries::run(table),
+            Part::Moves => moves::run(table),
         }
     }
 }
@@ -120,7 +132,9 @@ fn main(rt: HostRuntime) -> io::Result<ExitCode> {
             Ok(ExitCode::SUCCESS)
         }
         Request::Unknown => {
-            eprintln!(rt; "usage: bench [shape | plan | pass | lock | bodies | batches [time]]")?;
+            eprintln!(rt;
+                "usage: bench [NAME [time]], where NAME is shape, plan, pass, lock, bodies, batches, queries or moves"
+            )?;
             Ok(ExitCode::from(2))
         }
     }

@@ -1,56 +1,52 @@
 //! A world that is full of bodies, in boxes by a generator of a fixed seed, and its one pass.
-ghost use Rattle.std.specs.Prelude.{◌≡◌, ◌+◌, ◌<◌, ◌≤◌, All, IfSome, IfOk, length};
+ghost use Rattle.std.specs.Prelude.{◌≡◌, ◌+◌, ◌^◌, ◌<◌, ◌≤◌, All, IfSome, IfOk, length};
 ghost use Rattle.pass_table.specs.Passes.{IsIdle};
 
 use crate::boxes::{a_box, generator};
+use batch_add::{finalize, prepare};
 use body_ident::BodyId;
-use body_slots::{create, destroy};
+use body_slots::create;
 use fixed_box::FixBox;
 use pass_table::{Pass, World, open_world};
 use std::alloc::{AllocError, Global};
 use std::sync::Wait;
 use word_map::Config;
 
-/// How many bodies there are.
-pub(crate) const BODIES: u32 = 65_536;
-
-/// How many of them come in one batch.
-pub(crate) const BATCH: u32 = 2_048;
-
-/// How many batches hold them all.
-pub(crate) const BATCHES: u32 = BODIES / BATCH;
-
 /// Boxes have sides of up to this part of the space.
 const PARTS: u32 = 256;
 
-/// Room for all bodies, and for each batch a slot.
-const SIZES: Config = Config {
-    bodies: BODIES,
-    stripes: 64,
-    layers: 1,
-    slots: 32,
-    nodes: BODIES,
-    passes: 1,
-};
+/// Room for so many bodies in one layer, and for 64 batches.
+fn sizes(bodies: u32) -> Config
+    ensures { (result.bodies ≡ bodies) × (result.layers ≡ 1) }
+{
+    Config {
+        bodies,
+        stripes: 64,
+        layers: 1,
+        slots: 64,
+        nodes: 65_536,
+        passes: 1,
+    }
+}
 
 /// A world with no bodies, and its pass. `None` is want of memory.
-pub(crate) fn open(alloc: Global) -> Option<(World, Pass)>
-    ensures bodies { IfSome result (λ opened. opened.0.map.bodies ≡ 65536) }
+pub(crate) fn open(alloc: Global, bodies: u32) -> Option<(World, Pass)>
+    ensures bodies { IfSome result (λ opened. opened.0.map.bodies ≡ bodies) }
     ensures layers { IfSome result (λ opened. opened.0.map.layers ≡ 1) }
     ensures idle { IfSome result (λ opened. IsIdle opened.0 opened.1) }
 {
-    let Ok((world, mut list)) = open_world(alloc, SIZES) else {
+    let Ok((world, mut list)) = open_world(alloc, sizes(bodies)) else {
         return None;
     };
     let pass = list.next()?;
     Some((world, pass))
 }
 
-/// A box for each body, the same each time.
-pub(crate) fn some_boxes(alloc: Global) -> Result<Vec<FixBox>, AllocError> {
+/// So many boxes, the same each time.
+pub(crate) fn some_boxes(alloc: Global, count: u32) -> Result<Vec<FixBox>, AllocError> {
     let mut random = generator();
     let mut boxes = Vec::new(alloc);
-    for _ in 0..BODIES {
+    for _ in 0..count {
         if let Some(bounds) = a_box(&mut random, PARTS) {
             boxes.push(bounds)?;
         }
@@ -73,31 +69,66 @@ pub(crate) fn create_all<R: Wait>(rt: &R, world: &World, pass: &mut Pass, boxes:
     created
 }
 
-/// Destroys the first body at each index. Answers how many were destroyed.
-pub(crate) fn destroy_all<R: Wait>(rt: &R, world: &World, pass: &mut Pass) -> u32
-    requires idle { IsIdle world.now pass.old }
-    requires bodies { world.now.map.bodies ≡ 65536 }
-    ensures idle { IsIdle world.now pass.new }
+/// The ids of the first bodies at so many indexes, from one on.
+pub(crate) fn ids_from(alloc: Global, first: u32, count: u32) -> Result<Vec<BodyId>, AllocError>
+    requires { first + count ≤ 2 ^ 23 }
+    ensures below { IfOk result (λ ids. All (λ id. id.index < first + count) ids.items) }
+    ensures few { IfOk result (λ ids. length ids.items ≤ count) }
 {
-    let mut gone = 0u32;
-    for index in 0..BODIES {
-        if destroy(rt, world, pass, BodyId::new(index, 1)).is_ok() {
-            gone = gone.wrapping_add(1);
-        }
-    }
-    gone
-}
-
-/// The ids of the first bodies at the indexes of a batch.
-pub(crate) fn ids_of(alloc: Global, batch: u32) -> Result<Vec<BodyId>, AllocError>
-    requires { batch < 32 }
-    ensures below { IfOk result (λ ids. All (λ id. id.index < 65536) ids.items) }
-    ensures few { IfOk result (λ ids. length ids.items ≤ 65536) }
-{
-    let first = batch * BATCH;
     let mut ids = Vec::new(alloc);
-    for index in first..first + BATCH {
+    for index in first..first + count {
         ids.push(BodyId::new(index, 1))?;
     }
     Ok(ids)
+}
+
+/// Brings the bodies at so many indexes from one on into the broad phase, as one batch. It answers whether it did.
+fn add<R: Wait>(
+    rt: &R,
+    alloc: Global,
+    world: &World,
+    pass: &mut Pass,
+    first: u32,
+    count: u32,
+) -> bool
+    requires idle { IsIdle world.now pass.old }
+    requires layers { world.now.map.layers ≡ 1 }
+    requires below { first + count ≤ world.now.map.bodies }
+    ensures idle { IsIdle world.now pass.new }
+{
+    let Ok(ids) = ids_from(alloc, first, count) else {
+        return false;
+    };
+    match prepare(rt, alloc, world, pass, 0, &ids) {
+        Ok(batch) => {
+            finalize(world, pass, batch);
+            true
+        }
+        Err(_) => false,
+    }
+}
+
+/// Brings all bodies in, in batches of so many. It answers how many batches there are.
+pub(crate) fn add_all<R: Wait>(
+    rt: &R,
+    alloc: Global,
+    world: &World,
+    pass: &mut Pass,
+    bodies: u32,
+    batch: u32,
+) -> u32
+    requires idle { IsIdle world.now pass.old }
+    requires layers { world.now.map.layers ≡ 1 }
+    requires bodies { world.now.map.bodies ≡ bodies }
+    ensures idle { IsIdle world.now pass.new }
+{
+    let mut added = 0u32;
+    let mut first = 0u32;
+    for _ in 0..64 {
+        if batch <= bodies - first && add(rt, alloc, world, pass, first, batch) {
+            added = added.wrapping_add(1);
+            first += batch;
+        }
+    }
+    added
 }

@@ -170,7 +170,9 @@ fn stream<R: Threads + Wait + Sync>(
 }
 
 #[test]
-fn a_query_beside_batches_finds_what_stays_and_nothing_that_is_given_up(rt: HostRuntime) -> Result<(), Fail> {
+fn a_query_beside_batches_finds_what_stays_and_nothing_that_is_given_up(
+    rt: HostRuntime,
+) -> Result<(), Fail> {
     let alloc = rt.alloc();
     let Some((world, mut first, second, third)) = open_three(alloc) else {
         panic!(rt; "no world")
@@ -210,14 +212,7 @@ fn put_three<R: Wait>(rt: &R, world: &World, pass: &mut Pass) -> Option<()>
 }
 
 /// Moves a body to and fro, round after round, from one end of space to the other. It answers how often it was moved.
-fn wander<R: Wait>(
-    rt: &R,
-    world: &World,
-    pass: Pass,
-    id: BodyId,
-    near: FixBox,
-    far: FixBox,
-) -> u32
+fn wander<R: Wait>(rt: &R, world: &World, pass: Pass, id: BodyId, near: FixBox, far: FixBox) -> u32
     requires idle { IsIdle world.now pass }
     requires below { id.index < world.now.map.bodies }
 {

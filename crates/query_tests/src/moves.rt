@@ -5,21 +5,20 @@ ghost use Rattle.pass_table.specs.Passes.{IsIdle};
 use crate::places::{add, ask, between, go_to, holds, open_two, point, put, sizes};
 use batch_add::{finalize, prepare};
 use body_ident::BodyId;
-use body_lock::{lock_read, lock_write};
+use body_lock::lock_read;
 use body_slots::{DestroyRefused, destroy};
-use fixed_box::Shape;
 use pass_table::{Pass, World, drive};
 use remove_body::{RemoveRefused, remove};
 use scene_model::{BodyView, Phase};
 use std::alloc::Global;
 use std::sync::Wait;
 use std::test::Fail;
-use tree_query::{Finder, QueryOp};
-use widen_bounds::{MoveOp, MoveRefused, move_body, move_to};
+use tree_query::Finder;
+use widen_bounds::{MoveOp, MoveRefused, move_body};
 use word_map::Config;
 
 /// Moves a body to the box between two corners. `None` where the corners make no box.
-fn shift<R: Wait>(
+pub(crate) fn shift<R: Wait>(
     rt: &R,
     world: &World,
     pass: &mut Pass,
@@ -35,32 +34,6 @@ fn shift<R: Wait>(
     Some(move_body(rt, world, pass, id, to))
 }
 
-#[test]
-fn a_candidate_that_moved_away_is_not_answered(rt: HostRuntime) -> Result<(), Fail> {
-    let alloc = rt.alloc();
-    let Some((world, mut pass, mut other)) = open_two(alloc, sizes(4, 2, 4)) else {
-        panic!(rt; "no world")
-    };
-    let (Some(id), Some(bounds)) = (
-        put(&rt, &world, &mut pass, [0, 0, 0], [10, 10, 10]),
-        between([0, 0, 0], [20, 20, 20]),
-    ) else {
-        panic!(rt; "no body")
-    };
-    assert!(rt; add(&rt, alloc, &world, &mut pass, &[id]));
-    let finder = Finder::new(alloc, 4)?;
-    let mut asking = QueryOp::new(&world, &mut other, &Shape::Box(bounds), 1, finder);
-    // The label 2: the walk is at its end, and no candidate was checked.
-    if !go_to(&world, &mut other, &mut asking, 2) {
-        panic!(rt; "no label")
-    }
-    let moved = shift(&rt, &world, &mut pass, id, [100, 0, 0], [110, 10, 10]);
-    let finder = drive(&rt, &world, &mut other, &mut asking);
-    assert!(rt; moved == Some(Ok(())));
-    assert!(rt; holds(&finder, &[]));
-    Ok(())
-}
-
 /// The sizes of a world of four stripes, so that two bodies may move at once.
 fn four_stripes() -> Config
     ensures { (result.bodies ≡ 32) × (result.layers ≡ 1) }
@@ -73,12 +46,7 @@ fn four_stripes() -> Config
 
 /// Creates 17 bodies a thousand units apart and brings them in as one batch. Its tree has three levels, and the first two
 /// bodies share a node of the deepest one.
-fn add_seventeen<R: Wait>(
-    rt: &R,
-    alloc: Global,
-    world: &World,
-    pass: &mut Pass,
-) -> Option<bool>
+fn add_seventeen<R: Wait>(rt: &R, alloc: Global, world: &World, pass: &mut Pass) -> Option<bool>
     requires idle { IsIdle world.now pass.old }
     requires layers { 0 < world.now.map.layers }
     requires bodies { 17 ≤ world.now.map.bodies }
@@ -115,7 +83,14 @@ fn two_bodies_of_one_node_move_at_once(rt: HostRuntime) -> Result<(), Fail> {
     if !go_to(&world, &mut other, &mut moving, 0) {
         panic!(rt; "no label")
     }
-    let moved = shift(&rt, &world, &mut pass, b, [1_000, 50_000, 0], [1_010, 50_010, 10]);
+    let moved = shift(
+        &rt,
+        &world,
+        &mut pass,
+        b,
+        [1_000, 50_000, 0],
+        [1_010, 50_010, 10],
+    );
     ask(&rt, &world, &mut pass, &near, &mut finder);
     let early = holds(&finder, &[b]);
     let answer = drive(&rt, &world, &mut other, &mut moving);
@@ -140,7 +115,9 @@ fn seen<R: Wait>(rt: &R, world: &World, pass: &mut Pass, id: BodyId) -> Option<B
 }
 
 #[test]
-fn a_held_body_does_not_move_and_a_body_in_the_broad_phase_does(rt: HostRuntime) -> Result<(), Fail> {
+fn a_held_body_does_not_move_and_a_body_in_the_broad_phase_does(
+    rt: HostRuntime,
+) -> Result<(), Fail> {
     let alloc = rt.alloc();
     let Some((world, mut pass, mut other)) = open_two(alloc, sizes(4, 1, 4)) else {
         panic!(rt; "no world")
@@ -176,32 +153,5 @@ fn a_held_body_does_not_move_and_a_body_in_the_broad_phase_does(rt: HostRuntime)
     assert!(rt; destroy(&rt, &world, &mut other, id).is_ok());
     let late = shift(&rt, &world, &mut other, id, [0, 0, 0], [1, 1, 1]);
     assert!(rt; late == Some(Err(MoveRefused::Gone { state: 1 })));
-    Ok(())
-}
-
-#[test]
-fn a_body_moves_under_its_guard(rt: HostRuntime) -> Result<(), Fail> {
-    let alloc = rt.alloc();
-    let Some((world, mut pass, _other)) = open_two(alloc, sizes(4, 1, 4)) else {
-        panic!(rt; "no world")
-    };
-    let (Some(id), Some(to)) = (
-        put(&rt, &world, &mut pass, [0, 0, 0], [1, 1, 1]),
-        between([5, 5, 5], [6, 6, 6]),
-    ) else {
-        panic!(rt; "no body")
-    };
-    assert!(rt; add(&rt, alloc, &world, &mut pass, &[id]));
-    let Ok(mut guard) = lock_write(&rt, &world, &mut pass, id) else {
-        panic!(rt; "not locked")
-    };
-    let answer = move_to(&world, &mut pass, &mut guard, to);
-    let bounds = guard.view(&world, &mut pass).bounds;
-    guard.unlock(&world, &mut pass);
-    assert!(rt; answer.is_ok());
-    assert!(rt; bounds == to);
-    let mut finder = Finder::new(alloc, 4)?;
-    ask(&rt, &world, &mut pass, &Shape::Box(to), &mut finder);
-    assert!(rt; holds(&finder, &[id]));
     Ok(())
 }

@@ -84,9 +84,11 @@ pub(crate) fn add<R: Wait>(
     requires idle { IsIdle world.now pass.old }
     requires layers { 0 < world.now.map.layers }
     requires below { All (λ id. id.index < world.now.map.bodies) ids.now }
-    requires few { length ids.now ≤ world.now.map.bodies }
     ensures idle { IsIdle world.now pass.new }
 {
+    if ids.len() > world.config().bodies as usize {
+        return false;
+    }
     match prepare(rt, alloc, world, pass, 0, ids) {
         Ok(batch) => {
             finalize(world, pass, batch);
@@ -130,6 +132,8 @@ pub(crate) fn go_to<O: Operation>(
     operation: &mut O,
     number: u32,
 ) -> bool
+where
+    O::Done: Drop,
     requires of { IsOf world.now pass.old }
     requires under_way { IsUnderWay O.under_way operation.old (view_of pass.old) }
     ensures of { IsOf world.now pass.new }

@@ -2,15 +2,14 @@
 ghost use Rattle.std.specs.Prelude.{◌≡◌, ◌<◌, ◌≤◌, ◌+◌, ◌*◌, All, IfSome, length};
 ghost use Rattle.pass_table.specs.Passes.{IsIdle};
 
-use crate::places::{add, ask, between, go_to, holds, open_two, point, put, sizes};
+use crate::places::{add, ask, between, holds, open_two, point, put, sizes};
 use batch_add::{abort, prepare};
-use body_ident::BodyId;
 use fixed_box::Shape;
-use pass_table::{Pass, World, drive};
+use pass_table::{Pass, World};
 use std::alloc::Global;
 use std::sync::Wait;
 use std::test::Fail;
-use tree_query::{Finder, QueryOp, collect};
+use tree_query::{Finder, collect};
 
 /// Creates bodies beside one another on an axis, a thousand units apart, and brings them in as one batch. It answers whether
 /// all of them came in.
@@ -38,7 +37,7 @@ fn add_row<R: Wait>(
 #[test]
 fn a_point_beside_all_bodies_costs_59_loads(rt: HostRuntime) -> Result<(), Fail> {
     let alloc = rt.alloc();
-    let Some((world, mut pass, _other)) = open_two(alloc, sizes(1_000, 2, 400)) else {
+    let Some((world, mut pass, _other)) = open_two(alloc, sizes(1_000, 2, 1_000)) else {
         panic!(rt; "no world")
     };
     assert!(rt; add_row(&rt, alloc, &world, &mut pass, 0, 500) == Some(true));
@@ -80,29 +79,5 @@ fn a_batch_is_found_once_it_is_attached(rt: HostRuntime) -> Result<(), Fail> {
     assert!(rt; add(&rt, alloc, &world, &mut pass, &[id]));
     ask(&rt, &world, &mut pass, &shape, &mut finder);
     assert!(rt; holds(&finder, &[id]));
-    Ok(())
-}
-
-#[test]
-fn what_joins_behind_the_walk_is_not_found(rt: HostRuntime) -> Result<(), Fail> {
-    let alloc = rt.alloc();
-    let Some((world, mut pass, mut other)) = open_two(alloc, sizes(4, 2, 4)) else {
-        panic!(rt; "no world")
-    };
-    let Some(bounds) = between([0, 0, 0], [9, 9, 9]) else {
-        panic!(rt; "no box")
-    };
-    let finder = Finder::new(alloc, 4)?;
-    let mut asking = QueryOp::new(&world, &mut other, &Shape::Box(bounds), 1, finder);
-    // The label 0: both slots were read, and were empty.
-    if !go_to(&world, &mut other, &mut asking, 0) {
-        panic!(rt; "no label")
-    }
-    let Some(id) = put(&rt, &world, &mut pass, [0, 0, 0], [10, 10, 10]) else {
-        panic!(rt; "no body")
-    };
-    assert!(rt; add(&rt, alloc, &world, &mut pass, &[id]));
-    let finder = drive(&rt, &world, &mut other, &mut asking);
-    assert!(rt; holds(&finder, &[]));
     Ok(())
 }

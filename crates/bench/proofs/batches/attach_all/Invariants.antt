@@ -3,4 +3,4 @@ use Rattle.batch_add.specs.PreparedLists.{AreGood}
 use Rattle.bench.proofs.batches.attach_all.Given as goal
 
 abbrev pub invariant-loop : goal.invariant-loop
-invariant-loop g l = IsIdle l.world l.pass × AreGood l.list (view_of l.pass)
+invariant-loop l = IsIdle l.world l.pass × AreGood l.list (view_of l.pass)

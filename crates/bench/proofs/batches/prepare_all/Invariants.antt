@@ -2,5 +2,5 @@ use Rattle.pass_table.specs.Passes.{IsIdle, view_of}
 use Rattle.batch_add.specs.PreparedLists.{AreGood}
 use Rattle.bench.proofs.batches.prepare_all.Given as goal
 
-abbrev pub invariant-loop-number : goal.invariant-loop-number
-invariant-loop-number g l = IsIdle l.world l.pass × AreGood l.list (view_of l.pass)
+abbrev pub invariant-loop-first : goal.invariant-loop-first
+invariant-loop-first g l = IsIdle l.world l.pass × AreGood l.list (view_of l.pass)

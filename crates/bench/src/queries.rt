@@ -1,0 +1,211 @@
+//! Queries of bodies that came in batches: of each body's own box, and of all space.
+ghost use Rattle.std.specs.Prelude.{◌≡◌, ◌≤◌};
+ghost use Rattle.pass_table.specs.Passes.{IsIdle};
+ghost use Rattle.tree_query.specs.Finding.{room_of};
+
+use crate::table::Table;
+use crate::town::{add_all, create_all, open, some_boxes};
+use fixed_box::{FixBox, Shape};
+use pass_table::{Pass, World};
+use std::alloc::{AllocError, Global};
+use std::io;
+use std::io::Print;
+use std::sync::Wait;
+use std::time::Clock;
+use tree_query::{Finder, collect, query};
+
+/// What queries of a run found.
+#[derive(Clone, Copy)]
+struct Asked {
+    /// How many bodies they answered, or had as candidates.
+    hits: u64,
+    /// How many words their walks read.
+    loads: u64,
+}
+
+impl Asked {
+    const NOTHING: Asked = Asked { hits: 0, loads: 0 };
+
+    /// What one more query found.
+    fn with(self, finder: &Finder) -> Asked {
+        let mut hits = self.hits;
+        for _ in finder.ids() {
+            hits = hits.wrapping_add(1);
+        }
+        Asked {
+            hits,
+            loads: self.loads.wrapping_add(finder.loads()),
+        }
+    }
+}
+
+/// Asks for each box, one after the other.
+fn ask_all<R: Wait>(
+    rt: &R,
+    world: &World,
+    pass: &mut Pass,
+    finder: &mut Finder,
+    boxes: &[FixBox],
+) -> Asked
+    requires idle { IsIdle world.now pass.old }
+    requires room { world.now.map.bodies ≤ room_of finder.old }
+    ensures idle { IsIdle world.now pass.new }
+    ensures room { world.now.map.bodies ≤ room_of finder.new }
+{
+    let mut asked = Asked::NOTHING;
+    for bounds in boxes {
+        query(rt, world, pass, &Shape::Box(*bounds), 1, finder);
+        asked = asked.with(finder);
+    }
+    asked
+}
+
+/// Collects the candidates of each box, one after the other.
+fn collect_all(world: &World, pass: &mut Pass, finder: &mut Finder, boxes: &[FixBox]) -> Asked
+    requires idle { IsIdle world.now pass.old }
+    requires room { world.now.map.bodies ≤ room_of finder.old }
+    ensures idle { IsIdle world.now pass.new }
+    ensures room { world.now.map.bodies ≤ room_of finder.new }
+{
+    let mut asked = Asked::NOTHING;
+    for bounds in boxes {
+        collect(world, pass, &Shape::Box(*bounds), 1, finder);
+        asked = asked.with(finder);
+    }
+    asked
+}
+
+/// A shape of queries, and how their rows are called.
+#[derive(Clone, Copy)]
+enum Of {
+    /// Each body's own box.
+    OwnBoxes,
+    /// All space.
+    AllSpace,
+}
+
+impl Of {
+    fn name(self) -> &'static str {
+        match self {
+            Of::OwnBoxes => "own box",
+            Of::AllSpace => "all space",
+        }
+    }
+
+    /// The boxes that are asked for, where the bodies have these.
+    fn boxes(self, alloc: Global, bodies: &[FixBox]) -> Result<Vec<FixBox>, AllocError> {
+        let mut boxes = Vec::new(alloc);
+        match self {
+            Of::OwnBoxes => {
+                for bounds in bodies {
+                    boxes.push(*bounds)?;
+                }
+            }
+            Of::AllSpace => {
+                if let Some(space) = FixBox::from_words([1, 1, 1, ALL, ALL, ALL]) {
+                    boxes.push(space)?;
+                }
+            }
+        }
+        Ok(boxes)
+    }
+}
+
+/// The word of the greatest coordinate.
+const ALL: u64 = 16_777_216;
+
+/// What one run found, and its nanoseconds.
+#[derive(Clone, Copy)]
+struct Figures {
+    collected: Asked,
+    answered: Asked,
+    collect: u128,
+    query: u128,
+}
+
+/// One run: the candidates of all boxes are collected, and then all are asked for.
+fn measure<R: Clock + Print + Wait>(
+    table: &Table<R>,
+    world: &World,
+    pass: &mut Pass,
+    finder: &mut Finder,
+    boxes: &[FixBox],
+) -> io::Result<Figures>
+    requires idle { IsIdle world.now pass.old }
+    requires room { world.now.map.bodies ≤ room_of finder.old }
+    ensures idle { IsIdle world.now pass.new }
+    ensures room { world.now.map.bodies ≤ room_of finder.new }
+{
+    let start = table.start()?;
+    let collected = collect_all(world, pass, finder, boxes);
+    let collect = table.since(start)?;
+    let start = table.start()?;
+    let answered = ask_all(table.runtime(), world, pass, finder, boxes);
+    let query = table.since(start)?;
+    Ok(Figures {
+        collected,
+        answered,
+        collect,
+        query,
+    })
+}
+
+/// Writes two rows: what a load of a walk took, and what a query took.
+fn rows<R: Clock + Print + Wait>(
+    table: &Table<R>,
+    world: &World,
+    pass: &mut Pass,
+    finder: &mut Finder,
+    boxes: &[FixBox],
+    what: &str,
+) -> io::Result<()>
+    requires idle { IsIdle world.now pass.old }
+    requires room { world.now.map.bodies ≤ room_of finder.old }
+    ensures idle { IsIdle world.now pass.new }
+    ensures room { world.now.map.bodies ≤ room_of finder.new }
+{
+    let mut least = measure(table, world, pass, finder, boxes)?;
+    for _ in 1..table.runs() {
+        let next = measure(table, world, pass, finder, boxes)?;
+        least.collect = least.collect.min(next.collect);
+        least.query = least.query.min(next.query);
+    }
+    let (candidates, loads) = (least.collected.hits, least.collected.loads);
+    let found = format!(in table.alloc(); "{candidates} candidates, {loads} loads")?;
+    let name = format!(in table.alloc(); "load, {what}")?;
+    table.write(name.as_str(), found.as_str(), least.collect, loads)?;
+    let found = format!(in table.alloc(); "{} answered", least.answered.hits)?;
+    let name = format!(in table.alloc(); "query, {what}")?;
+    table.write(
+        name.as_str(),
+        found.as_str(),
+        least.query,
+        boxes.len() as u64,
+    )
+}
+
+/// Writes the rows of so many bodies that came in batches of so many.
+fn town<R: Clock + Print + Wait>(table: &Table<R>, bodies: u32, batch: u32) -> io::Result<()>
+    requires { bodies ≤ 65536 }
+{
+    let (rt, alloc) = (table.runtime(), table.alloc());
+    let boxes = some_boxes(alloc, bodies)?;
+    let (world, mut pass) = open(alloc, bodies).ok_or(AllocError)?;
+    create_all(rt, &world, &mut pass, &boxes);
+    let batches = add_all(rt, alloc, &world, &mut pass, bodies, batch);
+    let mut finder = Finder::new(alloc, bodies)?;
+    for of in [Of::OwnBoxes, Of::AllSpace] {
+        let asked = of.boxes(alloc, &boxes)?;
+        let what = format!(in alloc; "{} of {bodies} in {batches}", of.name())?;
+        rows(table, &world, &mut pass, &mut finder, &asked, what.as_str())?;
+    }
+    Ok(())
+}
+
+/// Writes the rows of 1,024 and of 16,384 bodies, in one batch and in 64.
+pub(crate) fn run<R: Clock + Print + Wait>(table: &Table<R>) -> io::Result<()> {
+    town(table, 1_024, 1_024)?;
+    town(table, 1_024, 16)?;
+    town(table, 16_384, 16_384)?;
+    town(table, 16_384, 256)
+}

@@ -15,10 +15,9 @@ use Rattle.scene_model.specs.Scene.{Record, record_at}
 use Rattle.scene_model.specs.History.{IsHit}
 use Rattle.word_map.specs.declared.config.Config.{Config}
 use Rattle.word_map.specs.declared.name.Name.TheVariants.{State, Layer, BoxWord}
-use Rattle.word_map.specs.Names.{stripe_of}
 use Rattle.core_state.specs.declared.item.Item.{Item}
 use Rattle.core_state.specs.declared.view.View.{View}
-use Rattle.core_state.specs.View.{IsPass, number_of, mode_of, known_word}
+use Rattle.core_state.specs.View.{known_word}
 use Rattle.core_state.specs.Guards.{scene_at}
 use Rattle.core_state.proofs.Beginning.{body_record}
 use Rattle.core_state.proofs.Boxes.{box_of-words}
@@ -33,7 +32,7 @@ use Rattle.body_look.specs.declared.body_found.BodyFound.{BodyFound}
 use Rattle.body_look.specs.declared.body_found.BodyFound.TheVariants.{Gone, Live as FoundLive, Out as FoundOut, In as FoundIn, Held, Joined}
 use Rattle.body_look.specs.declared.look_op.LookDepth.TheVariants.{Phase as ItsPhase}
 use Rattle.body_look.specs.Found.{IsAsked, IsFound, IsInPhase}
-use Rattle.tree_query.specs.Checking.{IsHitAfter, HasNoHit, IsLayerIn, IsUnderStripeOf}
+use Rattle.tree_query.specs.Checking.{IsHitAfter, HasNoHit, IsLayerIn}
 
 -- ---- points
 

@@ -1,5 +1,5 @@
 -- One check from beginning to end: the stripe of the body is taken to read, and let go again.
-use Rattle.std.proofs.Common.{◌≡◌, ℕ, [], ◌∷◌, ◌++◌, Bool, true, false, eqb, cond, Option, Some, None, refl, ap, sym, ◌∙◌, subst}
+use Rattle.std.proofs.Common.{◌≡◌, ℕ, [], ◌∷◌, Bool, true, false, eqb, cond, Option, Some, None, refl, ap, ◌∙◌, subst}
 use Rattle.fixed_box.specs.declared.shape.Shape.{Shape}
 use Rattle.word_map.specs.declared.config.Config.{Config}
 use Rattle.word_map.specs.Names.{stripe_of}
@@ -8,7 +8,7 @@ use Rattle.core_state.specs.declared.view.Mode.TheVariants.{Read}
 use Rattle.core_state.specs.declared.view.LockStep.TheVariants.{Taken}
 use Rattle.core_state.specs.declared.view.View.{View}
 use Rattle.core_state.specs.Log.{IsPrefix}
-use Rattle.core_state.specs.View.{IsPass, Holds, mode_of}
+use Rattle.core_state.specs.View.{IsPass, mode_of}
 use Rattle.pass_table.specs.Knowing.{KnowsMore}
 use Rattle.pass_table.specs.Holding.{IsAtRest, MayLetGo, LetGo}
 use Rattle.pass_table.specs.TakeTurns.{taking_of, HasTaken}
@@ -19,7 +19,7 @@ use Rattle.pass_table.proofs.Calling.{point-later}
 use Rattle.pass_table.proofs.Resting.{taken-may-go}
 use Rattle.pass_table.proofs.WorkLater.{worked-more}
 use Rattle.pass_table.proofs.Working.{worked-begun, worked-taken, worked-released, worked-done, point-from}
-use Rattle.tree_query.specs.Checking.{IsHitAfter, HasNoHit, IsCheckedSo, IsUnderStripeOf, check_steps}
+use Rattle.tree_query.specs.Checking.{IsHitAfter, HasNoHit, IsCheckedSo, check_steps}
 
 abbrev no_mode : Option Mode
 no_mode = None

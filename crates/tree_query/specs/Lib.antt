@@ -4,3 +4,4 @@ pub mod Walking
 pub mod Answers
 pub mod Checking
 pub mod Collecting
+pub mod stages

@@ -16,7 +16,7 @@ use shape_test::touch;
 
 /// Whether six words are those of a box that the shape touches.
 #[inline(always)]
-fn is_touching(shape: &Shape, words: [u64; 6]) -> bool
+pub(crate) fn is_touching(shape: &Shape, words: [u64; 6]) -> bool
     ensures { IsTrue result ↔ ((b : FixBox) × (words_of b ≡ words) × Touch shape.now b) }
 {
     match FixBox::from_words(words) {

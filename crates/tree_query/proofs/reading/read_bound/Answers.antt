@@ -1,6 +1,4 @@
-use Rattle.std.proofs.Common.{◌≡◌, ℕ, ◌+◌, length, ap, ◌∙◌, arith}
-use Rattle.std.proofs.lemmas.List.{length_push}
-use Rattle.core_state.specs.declared.item.Load.{Load}
+use Rattle.std.proofs.Common.{◌∙◌, arith}
 use Rattle.pass_table.specs.Passes.{view_of}
 use Rattle.tree_query.proofs.Trips.{load-counted}
 use Rattle.tree_query.proofs.Sides.{bound-read}

@@ -1,0 +1,4 @@
+pub mod WalkPlaces
+pub mod WalkTurns
+pub mod WalkLater
+pub mod CollectTurns

@@ -1,0 +1,14 @@
+pub mod WidenPlaces
+pub mod WidenAsks
+pub mod WidenWays
+pub mod WidenSteps
+pub mod WidenSides
+pub mod WidenParents
+pub mod WidenSays
+pub mod WidenTurns
+pub mod WidenEnds
+pub mod BoxStores
+pub mod Locations
+pub mod MoveTurns
+pub mod MoveSteps
+pub mod GuardedMoves

@@ -1,0 +1,27 @@
+use Rattle.std.proofs.Common.{subst, Option}
+use Rattle.pass_table.specs.Passes.{view_of}
+use Rattle.widen_bounds.specs.declared.climbing.Climb.{Climb}
+use Rattle.widen_bounds.specs.stages.Climbing.{IsClimbTurn}
+use Rattle.widen_bounds.proofs.WidenTurns.{first-on, first-up, second-begins}
+use Rattle.widen_bounds.proofs.widening.Widening.on_first.Goals as goal
+
+pub from_second-requires : goal.from_second-requires
+from_second-requires g c =
+    let view = view_of c.args.pass.now in
+    let next = view_of c.go_up.new.pass in
+    let turn = subst (λ (o : Option Climb). IsClimbTurn g.index c.args.target.now c.args.climb o view next) c.in-None.is c.go_up.ensures.turn in
+    record { second_fits = second-begins g.index c.args.target.now c.args.climb c.args.second view next c.requires.1 turn }
+
+pub returns-in-Some-clause-turn : goal.returns-in-Some-clause-turn
+returns-in-Some-clause-turn g c =
+    let view = view_of c.args.pass.now in
+    let next = view_of c.go_up.new.pass in
+    first-on g.index c.args.target.now c.args.climb view next c.args.second c.in-Some.climb
+    (subst (λ (o : Option Climb). IsClimbTurn g.index c.args.target.now c.args.climb o view next) c.in-Some.is c.go_up.ensures.turn)
+
+pub returns-in-None-clause-turn : goal.returns-in-None-clause-turn
+returns-in-None-clause-turn g c =
+    let view = view_of c.args.pass.now in
+    let next = view_of c.go_up.new.pass in
+    first-up g.index c.args.target.now c.args.climb view next c.args.second c.from_second.result c.from_second.ensures.begun
+    (subst (λ (o : Option Climb). IsClimbTurn g.index c.args.target.now c.args.climb o view next) c.in-None.is c.go_up.ensures.turn)

@@ -1,0 +1,2 @@
+pub mod stages
+pub mod Answers

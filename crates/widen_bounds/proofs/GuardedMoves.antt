@@ -164,6 +164,7 @@ module _ (number : ℕ) (id : Id) (view : View) (alone : IsAlone number id Write
           done = calling.doing;
         };
         only = λ lock other. locks lock ∙ alone.only lock (λ same. other (same ∙ ap (λ (c : Config). stripe_of c id.index) (sym sizes)));
+        still = ap (λ (v : View). v.walk.is_on) calling.left ∙ alone.still;
       }
 
   pub keeps-after : (to : FixBox) (next : View) → HasGiven id to [] view next → belongings_of next ≡ belongings_of view

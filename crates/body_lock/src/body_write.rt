@@ -35,6 +35,13 @@ impl BodyWrite {
         self.number
     }
 
+    /// The id of the body.
+    pub fn id(&self) -> BodyId
+        ensures { result ≡ self.now.id }
+    {
+        self.id
+    }
+
     /// The body as it is at a point of the call. Another view shows the same but for the phase, where it was held.
     pub fn view(&self, world: &World, pass: &mut Pass) -> BodyView
         requires of { IsOf world.now pass.old }

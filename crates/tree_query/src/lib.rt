@@ -1,7 +1,7 @@
 //! Asking a shared world which bodies touch a shape, without locks on the way through the trees.
 //!
 //! `collect` walks the trees of the asked layers and puts each body that may touch the shape into a finder. `query` looks at
-//! each of these under its stripe too, and leaves in the finder those that do.
+//! each of these under its stripe too, and leaves in the finder those that do. `CollectOp` is the first of the two by turns.
 //!
 //! It stands on worlds and passes, on looking at a body, on guards of bodies, and on the tests of shapes. Nothing stands on it.
 #![tactic(auto)]
@@ -15,6 +15,8 @@ mod check_turns;
 mod checking;
 mod checks;
 mod children;
+mod collect_op;
+mod collect_turns;
 mod collecting;
 mod finder;
 mod finding;
@@ -22,8 +24,11 @@ mod found_ids;
 pub mod laws;
 mod nodes;
 mod reading;
+mod walk;
 mod walk_steps;
+mod walk_turns;
 
 pub use calls::{collect, query};
+pub use collect_op::CollectOp;
 pub use finder::Finder;
 pub use found_ids::FoundIds;

@@ -11,3 +11,4 @@ pub mod BoxStores
 pub mod Locations
 pub mod MoveTurns
 pub mod MoveSteps
+pub mod GuardedMoves

@@ -110,88 +110,88 @@ begun-climbing call box at climb bottom =
       so_far = inl (sym untouched, lowest);
     }
 
-module _ (id : Id) (to : FixBox) (steps : List LockStep) (start next : View) (now : IsCurrent next) (first second : ℕ)
+module _ (id : Id) (steps : List LockStep) (start next : View) (now : IsCurrent next) (first second : ℕ)
     (is_first : KnowsFirst id first next) (is_second : KnowsSecond id second next) where
   at-first : known_word next (LocA id.index) ≡ first
   at-first = is_first (sound-now next now)
 
-  -- location words fit
-  module _ (phase : BodyPhase) (at : IsUnheldIn id phase steps start next) where
-    nowhere : phase ≡ Out → (first ≡ 0) × (second ≡ 0)
-    nowhere out =
-        let u = subst (λ (p : BodyPhase). IsUnheldIn id p steps start next) out at in
-        let none = no-location id next now u.knows u.calling.adds.number (worked-pass start next _ u.calling) u.stripe u.calling.doing in
-        (sym at-first ∙ none.0, sym is_second ∙ none.1)
+  -- a body that is out has none
+  nowhere : IsUnheldIn id Out steps start next → (first ≡ 0) × (second ≡ 0)
+  nowhere at =
+      let none = no-location id next now at.knows at.calling.adds.number (worked-pass start next _ at.calling) at.stripe at.calling.doing in
+      (sym at-first ∙ none.0, sym is_second ∙ none.1)
 
+  -- location words fit
   fits-in : (phase : BodyPhase) → IsUnheldIn id phase steps start next → (first ≤ 2 ^ 34) × (second ≤ 2 ^ 34)
   fits-in In at = (subst (λ (n : ℕ). n ≤ 2 ^ 34) at-first (in-first id next now at.knows), subst (λ (n : ℕ). n ≤ 2 ^ 34) is_second (in-second id next now at.knows))
-  fits-in Out at = let none = nowhere Out at refl in (subst (λ (n : ℕ). n ≤ 2 ^ 34) (sym none.0) (omega arith), subst (λ (n : ℕ). n ≤ 2 ^ 34) (sym none.1) (omega arith))
+  fits-in Out at = let none = nowhere at in (subst (λ (n : ℕ). n ≤ 2 ^ 34) (sym none.0) (omega arith), subst (λ (n : ℕ). n ≤ 2 ^ 34) (sym none.1) (omega arith))
   fits-in Held at = absurd (at.free refl)
 
   pub located-fits : IsUnheld id steps start next → (first ≤ 2 ^ 34) × (second ≤ 2 ^ 34)
   located-fits at = fits-in at.0 at.1
 
-  -- a body that is in the broad phase is to be widened for
-  mid-move : HoldsStripe id steps start → IsUnheldIn id In steps start next → IsMidMove id to steps start next 0 first second
-  mid-move holds at = record { stripe = holds; calling = at.calling; phase = at.knows; at_first = is_first; at_second = is_second; few = omega arith; no_box_word = λ some. absurd (omega arith) }
+  module _ (to : FixBox) where
+    -- a body that is in the broad phase is to be widened for
+    mid-move : HoldsStripe id steps start → IsUnheldIn id In steps start next → IsMidMove id to steps start next 0 first second
+    mid-move holds at = record { stripe = holds; calling = at.calling; phase = at.knows; at_first = is_first; at_second = is_second; few = omega arith; no_box_word = λ some. absurd (omega arith) }
 
-  begun-in : HoldsStripe id steps start → (w : Widening) → IsBegun first second w → IsUnheldIn id In steps start next → GoesOnBy id to steps start next w
-  begun-in holds (First climb later) begun at = (
-    record { known = 0; first = first; second = second; move = mid-move holds at; at = (begun.1, begun-climbing next.call (sides_of (words_of to)) first climb begun.0) },
-    λ same. absurd cc,
-  )
-  begun-in holds (Second climb) begun at = (
-    record {
-      known = 0;
-      first = first;
-      second = second;
-      move = mid-move holds at;
-      at = (none-closed next.call (sides_of (words_of to)) first begun.0, inl begun.0, begun-climbing next.call (sides_of (words_of to)) second climb begun.1);
-    },
-    λ same. absurd cc,
-  )
-  begun-in holds Ended begun at = absurd (has-place id next now at.knows (at-first ∙ begun.0) (is_second ∙ begun.1))
+    begun-in : HoldsStripe id steps start → (w : Widening) → IsBegun first second w → IsUnheldIn id In steps start next → GoesOnBy id to steps start next w
+    begun-in holds (First climb later) begun at = (
+      record { known = 0; first = first; second = second; move = mid-move holds at; at = (begun.1, begun-climbing next.call (sides_of (words_of to)) first climb begun.0) },
+      λ same. absurd cc,
+    )
+    begun-in holds (Second climb) begun at = (
+      record {
+        known = 0;
+        first = first;
+        second = second;
+        move = mid-move holds at;
+        at = (none-closed next.call (sides_of (words_of to)) first begun.0, inl begun.0, begun-climbing next.call (sides_of (words_of to)) second climb begun.1);
+      },
+      λ same. absurd cc,
+    )
+    begun-in holds Ended begun at = absurd (has-place id next now at.knows (at-first ∙ begun.0) (is_second ∙ begun.1))
 
-  not-bottom : (word : ℕ) (climb : Climb) → IsBottom word climb → word ≢ 0
-  not-bottom word climb bottom none = let names = bottom.names in absurd (omega arith)
+    not-bottom : (word : ℕ) (climb : Climb) → IsBottom word climb → word ≢ 0
+    not-bottom word climb bottom none = let names = bottom.names in absurd (omega arith)
 
-  -- for one that is out nothing is widened
-  begun-out : (w : Widening) → IsBegun first second w → IsUnheldIn id Out steps start next → GoesOnBy id to steps start next w
-  begun-out (First climb later) begun at = absurd (not-bottom first climb begun.0 (nowhere Out at refl).0)
-  begun-out (Second climb) begun at = absurd (not-bottom second climb begun.1 (nowhere Out at refl).1)
-  begun-out Ended begun at = record {
-    calling = subst (λ (t : Task). IsCalling start next steps t []) (sym at.calling.doing) at.calling;
-    boxing = record { stripe = at.stripe; below = at.below; gets = as_it_is_out at.knows (inl at.calling.doing); stored = λ q less. absurd (omega arith) };
-    few = omega arith;
-  }
+    -- for one that is out nothing is widened
+    begun-out : (w : Widening) → IsBegun first second w → IsUnheldIn id Out steps start next → GoesOnBy id to steps start next w
+    begun-out (First climb later) begun at = absurd (not-bottom first climb begun.0 (nowhere at).0)
+    begun-out (Second climb) begun at = absurd (not-bottom second climb begun.1 (nowhere at).1)
+    begun-out Ended begun at = record {
+      calling = subst (λ (t : Task). IsCalling start next steps t []) (sym at.calling.doing) at.calling;
+      boxing = record { stripe = at.stripe; below = at.below; gets = as_it_is_out at.knows (inl at.calling.doing); stored = λ q less. absurd (omega arith) };
+      few = omega arith;
+    }
 
-  begun-by : (phase : BodyPhase) → HoldsStripe id steps start → (w : Widening) → IsBegun first second w → IsUnheldIn id phase steps start next → GoesOnBy id to steps start next w
-  begun-by In holds w begun at = begun-in holds w begun at
-  begun-by Out holds w begun at = begun-out w begun at
-  begun-by Held holds w begun at = absurd (at.free refl)
+    begun-by : (phase : BodyPhase) → HoldsStripe id steps start → (w : Widening) → IsBegun first second w → IsUnheldIn id phase steps start next → GoesOnBy id to steps start next w
+    begun-by In holds w begun at = begun-in holds w begun at
+    begun-by Out holds w begun at = begun-out w begun at
+    begun-by Held holds w begun at = absurd (at.free refl)
 
-  pub goes-on-by : HoldsStripe id steps start → (w : Widening) → IsBegun first second w → IsUnheld id steps start next → GoesOnBy id to steps start next w
-  goes-on-by holds w begun at = begun-by at.0 holds w begun at.1
+    pub goes-on-by : HoldsStripe id steps start → (w : Widening) → IsBegun first second w → IsUnheld id steps start next → GoesOnBy id to steps start next w
+    goes-on-by holds w begun at = begun-by at.0 holds w begun at.1
 
-  -- ---- the labels that are reached with that
+    -- ---- the labels that are reached with that
 
-  unmoved : IsUnheld id steps start next → HasNotMoved id start next
-  unmoved at = record { adds = at.1.calling.adds; whole = λ between. subst (λ (t : Task). MovesBody t id.index) at.1.calling.doing between.0 }
+    unmoved : IsUnheld id steps start next → HasNotMoved id start next
+    unmoved at = record { adds = at.1.calling.adds; whole = λ between. subst (λ (t : Task). MovesBody t id.index) at.1.calling.doing between.0 }
 
-  none-says : IsUnheld id steps start next → first ≡ 0 → (label : ℕ) → (label ≡ 0) ⊎ (second ≡ 0) → LabelSays id to start next label
-  none-says at none zero which = record { unmoved = unmoved at; wide = λ n k below is. absurd (let same = at-first in omega arith) }
-  none-says at none (suc more) which = record {
-    unmoved = unmoved at;
-    wide = λ n k a b known above. absurd (elim (which) [
-      | inl low ↦ omega arith
-      | inr none_second ↦ elim (known.1) [ inl e ↦ (let same = at-first in omega arith) | inr e ↦ (let same : known_word next (LocB id.index) ≡ second = is_second in omega arith) ]
-    ]);
-  }
+    none-says : IsUnheld id steps start next → first ≡ 0 → (label : ℕ) → (label ≡ 0) ⊎ (second ≡ 0) → LabelSays id to start next label
+    none-says at none zero which = record { unmoved = unmoved at; wide = λ n k below is. absurd (let same = at-first in omega arith) }
+    none-says at none (suc more) which = record {
+      unmoved = unmoved at;
+      wide = λ n k a b known above. absurd (elim (which) [
+        | inl low ↦ omega arith
+        | inr none_second ↦ elim (known.1) [ inl e ↦ (let same = at-first in omega arith) | inr e ↦ (let same : known_word next (LocB id.index) ≡ second = is_second in omega arith) ]
+      ]);
+    }
 
-  pub located-says : IsUnheld id steps start next → (w : Widening) → IsBegun first second w → SaysNew None (widening_label w) (LabelSays id to start next)
-  located-says at (First climb later) begun = subst (λ (l : ℕ). SaysNew None (climb_label l climb.side) (LabelSays id to start next)) (sym begun.0.lowest) tt
-  located-says at (Second climb) begun = λ label fresh below. none-says at begun.0 label (inl (omega arith))
-  located-says at Ended begun = λ label fresh below. none-says at begun.0 label (inr begun.1)
+    pub located-says : IsUnheld id steps start next → (w : Widening) → IsBegun first second w → SaysNew None (widening_label w) (LabelSays id to start next)
+    located-says at (First climb later) begun = subst (λ (l : ℕ). SaysNew None (climb_label l climb.side) (LabelSays id to start next)) (sym begun.0.lowest) tt
+    located-says at (Second climb) begun = λ label fresh below. none-says at begun.0 label (inl (omega arith))
+    located-says at Ended begun = λ label fresh below. none-says at begun.0 label (inr begun.1)
 
 -- ---- bounds are widened
 
@@ -353,7 +353,7 @@ module _ (before : MoveOp) (view next : View) (first second : ℕ) (at : before.
   second-fits way =
       let op = way.first in
       let there = located op way.start way.goes in
-      located-fits op.id op.to (stripe_taken way.start.config op.id) way.start next loaded.now first second there.0.1 there.1 there.0.0
+      located-fits op.id (stripe_taken way.start.config op.id) way.start next loaded.now first second there.0.1 there.1 there.0.0
 
   -- what a turn that does so leaves
   pub second-turn : (turn : Turn (Result (Unit {0}) MoveRefused)) (new : MoveOp) (w : Widening) → turn ≡ More → new ≡ record before { widening = w; stage = stage_after w; made = None } → IsBegun first second w
@@ -365,11 +365,11 @@ module _ (before : MoveOp) (view next : View) (first second : ℕ) (at : before.
       (λ op start moving here.
       let there = located op start moving in
       subst (λ (o : Option ℕ). SaysNew None o (LabelSays op.id op.to start next)) (sym (label-after w))
-      (located-says op.id op.to (stripe_taken start.config op.id) start next loaded.now first second there.0.1 there.1 there.0.0 w begun))
+      (located-says op.id (stripe_taken start.config op.id) start next loaded.now first second there.0.1 there.1 op.to there.0.0 w begun))
       (λ op start moving here.
       let there = located op start moving in
       by-stage op.id op.to start next before.look w
-      (goes-on-by op.id op.to (stripe_taken start.config op.id) start next loaded.now first second there.0.1 there.1
+      (goes-on-by op.id (stripe_taken start.config op.id) start next loaded.now first second there.0.1 there.1 op.to
       (stripe-holds op.id start moving.begun.rest) w begun there.0.0))
     where
       begun-left : (w : Widening) → IsBegun first second w → 7 + widening_left w < 149

@@ -4,3 +4,4 @@ pub mod WidenLater
 pub mod Storing
 pub mod Moving
 pub mod MoveLater
+pub mod Guarded

@@ -12,9 +12,11 @@ mod calls;
 mod climbing;
 mod move_op;
 mod moving;
+mod moving_guarded;
 mod storing;
 mod widening;
 
 pub use answers::{HeldAt, MoveRefused};
 pub use calls::move_body;
 pub use move_op::MoveOp;
+pub use moving_guarded::move_to;

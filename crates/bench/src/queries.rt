@@ -1,18 +1,18 @@
 //! Queries of bodies that came in batches: of each body's own box, and of all space.
-ghost use Rattle.std.specs.Prelude.{◌≡◌, ◌≤◌};
+ghost use Rattle.std.specs.Prelude.{◌≡◌, ◌≤◌, IfOk};
 ghost use Rattle.pass_table.specs.Passes.{IsIdle};
 ghost use Rattle.tree_query.specs.Finding.{room_of};
 
 use crate::table::Table;
 use crate::town::{add_all, create_all, open, some_boxes};
 use fixed_box::{FixBox, Shape};
-use pass_table::{Pass, World};
+use pass_table::{Pass, World, drive};
 use std::alloc::{AllocError, Global};
 use std::io;
 use std::io::Print;
 use std::sync::Wait;
 use std::time::Clock;
-use tree_query::{Finder, collect, query};
+use tree_query::{CollectOp, Finder, collect, query};
 
 /// What queries of a run found.
 #[derive(Clone, Copy)]
@@ -75,6 +75,46 @@ fn collect_all(world: &World, pass: &mut Pass, finder: &mut Finder, boxes: &[Fix
     asked
 }
 
+/// Collects the candidates of a box turn by turn.
+#[inline(always)]
+fn collect_by_turns<R: Wait>(
+    rt: &R,
+    world: &World,
+    pass: &mut Pass,
+    finder: Finder,
+    bounds: &FixBox,
+) -> Finder
+    requires idle { IsIdle world.now pass.old }
+    requires room { world.now.map.bodies ≤ room_of finder }
+    ensures idle { IsIdle world.now pass.new }
+    ensures room { world.now.map.bodies ≤ room_of result }
+{
+    let mut collecting = CollectOp::new(world, pass, &Shape::Box(*bounds), 1, finder);
+    drive(rt, world, pass, &mut collecting)
+}
+
+/// Collects the candidates of each box turn by turn, one after the other.
+fn turn_all<R: Wait>(
+    rt: &R,
+    world: &World,
+    pass: &mut Pass,
+    finder: Finder,
+    boxes: &[FixBox],
+) -> (Asked, Finder)
+    requires idle { IsIdle world.now pass.old }
+    requires room { world.now.map.bodies ≤ room_of finder }
+    ensures idle { IsIdle world.now pass.new }
+    ensures room { world.now.map.bodies ≤ room_of result.1 }
+{
+    let mut finder = finder;
+    let mut asked = Asked::NOTHING;
+    for bounds in boxes {
+        finder = collect_by_turns(rt, world, pass, finder, bounds);
+        asked = asked.with(&finder);
+    }
+    (asked, finder)
+}
+
 /// A shape of queries, and how their rows are called.
 #[derive(Clone, Copy)]
 enum Of {
@@ -118,70 +158,101 @@ const ALL: u64 = 16_777_216;
 #[derive(Clone, Copy)]
 struct Figures {
     collected: Asked,
+    by_turns: Asked,
     answered: Asked,
     collect: u128,
+    turn: u128,
     query: u128,
 }
 
-/// One run: the candidates of all boxes are collected, and then all are asked for.
+impl Figures {
+    /// The quicker one of two runs, part by part.
+    fn least(self, other: Figures) -> Figures {
+        Figures {
+            collect: self.collect.min(other.collect),
+            turn: self.turn.min(other.turn),
+            query: self.query.min(other.query),
+            ..other
+        }
+    }
+}
+
+/// One run: the candidates of all boxes are collected, in one call and by turns, and then all boxes are asked for.
 fn measure<R: Clock + Print + Wait>(
     table: &Table<R>,
     world: &World,
     pass: &mut Pass,
-    finder: &mut Finder,
+    finder: Finder,
     boxes: &[FixBox],
-) -> io::Result<Figures>
+) -> io::Result<(Figures, Finder)>
     requires idle { IsIdle world.now pass.old }
-    requires room { world.now.map.bodies ≤ room_of finder.old }
+    requires room { world.now.map.bodies ≤ room_of finder }
     ensures idle { IsIdle world.now pass.new }
-    ensures room { world.now.map.bodies ≤ room_of finder.new }
+    ensures room { IfOk result (λ done. world.now.map.bodies ≤ room_of done.1) }
 {
+    let mut finder = finder;
     let start = table.start()?;
-    let collected = collect_all(world, pass, finder, boxes);
+    let collected = collect_all(world, pass, &mut finder, boxes);
     let collect = table.since(start)?;
     let start = table.start()?;
-    let answered = ask_all(table.runtime(), world, pass, finder, boxes);
+    let (by_turns, mut finder) = turn_all(table.runtime(), world, pass, finder, boxes);
+    let turn = table.since(start)?;
+    let start = table.start()?;
+    let answered = ask_all(table.runtime(), world, pass, &mut finder, boxes);
     let query = table.since(start)?;
-    Ok(Figures {
+    let figures = Figures {
         collected,
+        by_turns,
         answered,
         collect,
+        turn,
         query,
-    })
+    };
+    Ok((figures, finder))
 }
 
-/// Writes two rows: what a load of a walk took, and what a query took.
-fn rows<R: Clock + Print + Wait>(
+/// Makes all runs of a table.
+fn figures<R: Clock + Print + Wait>(
     table: &Table<R>,
     world: &World,
     pass: &mut Pass,
-    finder: &mut Finder,
+    finder: Finder,
     boxes: &[FixBox],
-    what: &str,
-) -> io::Result<()>
+) -> io::Result<(Figures, Finder)>
     requires idle { IsIdle world.now pass.old }
-    requires room { world.now.map.bodies ≤ room_of finder.old }
+    requires room { world.now.map.bodies ≤ room_of finder }
     ensures idle { IsIdle world.now pass.new }
-    ensures room { world.now.map.bodies ≤ room_of finder.new }
+    ensures room { IfOk result (λ done. world.now.map.bodies ≤ room_of done.1) }
 {
-    let mut least = measure(table, world, pass, finder, boxes)?;
+    let (mut least, mut finder) = measure(table, world, pass, finder, boxes)?;
     for _ in 1..table.runs() {
-        let next = measure(table, world, pass, finder, boxes)?;
-        least.collect = least.collect.min(next.collect);
-        least.query = least.query.min(next.query);
+        let (next, back) = measure(table, world, pass, finder, boxes)?;
+        least = least.least(next);
+        finder = back;
     }
-    let (candidates, loads) = (least.collected.hits, least.collected.loads);
-    let found = format!(in table.alloc(); "{candidates} candidates, {loads} loads")?;
-    let name = format!(in table.alloc(); "load, {what}")?;
-    table.write(name.as_str(), found.as_str(), least.collect, loads)?;
-    let found = format!(in table.alloc(); "{} answered", least.answered.hits)?;
+    Ok((least, finder))
+}
+
+/// Writes the rows: what a load of a walk took, in one call and by turns, and what a query took.
+fn rows<R: Clock + Print>(
+    table: &Table<R>,
+    figures: Figures,
+    queries: u64,
+    what: &str,
+) -> io::Result<()> {
+    let walks = [
+        ("load", figures.collected, figures.collect),
+        ("load by turns", figures.by_turns, figures.turn),
+    ];
+    for (kind, asked, nanos) in walks {
+        let Asked { hits, loads } = asked;
+        let found = format!(in table.alloc(); "{hits} candidates, {loads} loads")?;
+        let name = format!(in table.alloc(); "{kind}, {what}")?;
+        table.write(name.as_str(), found.as_str(), nanos, loads)?;
+    }
+    let found = format!(in table.alloc(); "{} answered", figures.answered.hits)?;
     let name = format!(in table.alloc(); "query, {what}")?;
-    table.write(
-        name.as_str(),
-        found.as_str(),
-        least.query,
-        boxes.len() as u64,
-    )
+    table.write(name.as_str(), found.as_str(), figures.query, queries)
 }
 
 /// Writes the rows of so many bodies that came in batches of so many.
@@ -197,7 +268,9 @@ fn town<R: Clock + Print + Wait>(table: &Table<R>, bodies: u32, batch: u32) -> i
     for of in [Of::OwnBoxes, Of::AllSpace] {
         let asked = of.boxes(alloc, &boxes)?;
         let what = format!(in alloc; "{} of {bodies} in {batches}", of.name())?;
-        rows(table, &world, &mut pass, &mut finder, &asked, what.as_str())?;
+        let (least, back) = figures(table, &world, &mut pass, finder, &asked)?;
+        finder = back;
+        rows(table, least, asked.len() as u64, what.as_str())?;
     }
     Ok(())
 }

@@ -5,8 +5,9 @@ ghost use Rattle.pass_table.specs.Passes.{IsIdle};
 use crate::places::{add, ask, between, go_to, holds, open_two, point, put, sizes};
 use batch_add::{finalize, prepare};
 use body_ident::BodyId;
-use body_lock::lock_read;
+use body_lock::{lock_read, lock_write};
 use body_slots::{DestroyRefused, destroy};
+use fixed_box::Shape;
 use pass_table::{Pass, World, drive};
 use remove_body::{RemoveRefused, remove};
 use scene_model::{BodyView, Phase};
@@ -14,7 +15,7 @@ use std::alloc::Global;
 use std::sync::Wait;
 use std::test::Fail;
 use tree_query::Finder;
-use widen_bounds::{MoveOp, MoveRefused, move_body};
+use widen_bounds::{MoveOp, MoveRefused, move_body, move_to};
 use word_map::Config;
 
 /// Moves a body to the box between two corners. `None` where the corners make no box.
@@ -153,5 +154,32 @@ fn a_held_body_does_not_move_and_a_body_in_the_broad_phase_does(
     assert!(rt; destroy(&rt, &world, &mut other, id).is_ok());
     let late = shift(&rt, &world, &mut other, id, [0, 0, 0], [1, 1, 1]);
     assert!(rt; late == Some(Err(MoveRefused::Gone { state: 1 })));
+    Ok(())
+}
+
+#[test]
+fn a_body_moves_under_its_guard(rt: HostRuntime) -> Result<(), Fail> {
+    let alloc = rt.alloc();
+    let Some((world, mut pass, _other)) = open_two(alloc, sizes(4, 1, 4)) else {
+        panic!(rt; "no world")
+    };
+    let (Some(id), Some(to)) = (
+        put(&rt, &world, &mut pass, [0, 0, 0], [1, 1, 1]),
+        between([5, 5, 5], [6, 6, 6]),
+    ) else {
+        panic!(rt; "no body")
+    };
+    assert!(rt; add(&rt, alloc, &world, &mut pass, &[id]));
+    let Ok(mut guard) = lock_write(&rt, &world, &mut pass, id) else {
+        panic!(rt; "not locked")
+    };
+    let answer = move_to(&world, &mut pass, &mut guard, to);
+    let bounds = guard.view(&world, &mut pass).bounds;
+    guard.unlock(&world, &mut pass);
+    assert!(rt; answer.is_ok());
+    assert!(rt; bounds == to);
+    let mut finder = Finder::new(alloc, 4)?;
+    ask(&rt, &world, &mut pass, &Shape::Box(to), &mut finder);
+    assert!(rt; holds(&finder, &[id]));
     Ok(())
 }

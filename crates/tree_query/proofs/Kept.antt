@@ -1,6 +1,6 @@
 -- What a finder keeps of a walk, load by load.
-use Rattle.std.proofs.Common.{◌≡◌, ◌≢◌, ◌⊎◌, ◌↔◌, ℕ, suc, ◌+◌, ◌*◌, ◌-◌, ◌<◌, ◌≤◌, ◌^◌, List, [], ◌∷◌, ◌++◌, Bool, true, false, length, refl, ap, sym, ◌∙◌, subst, inl, inr, arith}
-use Rattle.std.specs.Prelude.{Contains, Some, nat_lt, ◌==◌, ◌%◌, ◌/◌, if◌then◌else◌, filter, not}
+use Rattle.std.proofs.Common.{◌≡◌, ◌≢◌, ℕ, suc, ◌+◌, ◌*◌, ◌-◌, ◌<◌, ◌≤◌, ◌^◌, List, [], ◌∷◌, ◌++◌, Bool, true, false, length, refl, ap, sym, ◌∙◌, subst, inl, inr, arith}
+use Rattle.std.specs.Prelude.{Contains, ◌==◌, ◌%◌, ◌/◌, if◌then◌else◌, filter, not}
 use Rattle.std.specs.Int.{bit_at}
 use Rattle.std.specs.List.{range_with_len}
 use Rattle.std.proofs.lemmas.Bool.{cases_lt, lt-ltb, le-ltb, eq-eqb, ne_eqb}
@@ -16,7 +16,7 @@ use Rattle.word_map.specs.declared.name.Name.{Name}
 use Rattle.word_map.specs.declared.name.Name.TheVariants.{Child}
 use Rattle.core_state.specs.declared.view.Waiting.{Waiting}
 use Rattle.core_state.specs.declared.view.View.{View}
-use Rattle.core_state.specs.Walking.{Query, Position, at_child, at_bound, waiting, next_node, next_child, pushed, advance}
+use Rattle.core_state.specs.Walking.{Position, at_child, at_bound, waiting, next_node, next_child, pushed}
 use Rattle.core_state.specs.declared.item.Load.{Load}
 use Rattle.core_state.specs.Encoding.{body_child, node_child}
 use Rattle.core_state.proofs.Opening.{none_in}
@@ -27,8 +27,8 @@ use Rattle.pass_table.specs.Bodies.{IsCurrent}
 use Rattle.tree_query.specs.Walking.{WalksOn}
 use Rattle.tree_query.proofs.Trips.{trip-on, reaches-trans, room-at, node-at, body-at, few-at, child-at}
 use Rattle.tree_query.specs.declared.finder.Finder.{Finder}
-use Rattle.tree_query.specs.Finding.{has_index, seq_of, room_of}
-use Rattle.tree_query.specs.Collecting.{body_named, node_named, Trip, IsOnTrip, found_so_far, Reaches, IsKept, IsCollecting, nodes_in, child_place, bound_place, past_bound, IsAtChild, HasReadBound, Puts, KeepsChild}
+use Rattle.tree_query.specs.Finding.{has_index, seq_of}
+use Rattle.tree_query.specs.Collecting.{body_named, Trip, IsOnTrip, found_so_far, Reaches, IsKept, IsCollecting, nodes_in, child_place, bound_place, past_bound, IsAtChild, HasReadBound, Puts, KeepsChild}
 
 -- nothing is put into a finder that has the same words
 pub puts-none : (before after : Finder) → ((index : ℕ) → has_index after index ≡ has_index before index) → ((index : ℕ) → seq_of after index ≡ seq_of before index) → Puts before after []
@@ -103,7 +103,7 @@ loads-fit trip view at on current limits =
     omega arith
 
 -- the node that is walked next, or is the first to wait, is one of the world
-first-node : (trip : Trip) (view : View) (rest : List Name) (w : Waiting) (stack : List Waiting) (n level k : ℕ) → IsOnTrip trip view (child_place rest (w ∷ stack) n level k) → ∥ IsCurrent view ∥₁
+pub first-node : (trip : Trip) (view : View) (rest : List Name) (w : Waiting) (stack : List Waiting) (n level k : ℕ) → IsOnTrip trip view (child_place rest (w ∷ stack) n level k) → ∥ IsCurrent view ∥₁
     → w.node < node_count view.config
 first-node trip view rest w stack n level k on current =
     elim (cases_lt k 4) [
@@ -118,7 +118,7 @@ first-node trip view rest w stack n level k on current =
 -- ---- a child that was read
 
 -- the nodes on the stack when a child is kept
-nodes-kept : (touches even : Bool) (nodes : List ℕ) (stack : List Waiting) (m level : ℕ) → nodes ≡ nodes_in stack
+pub nodes-kept : (touches even : Bool) (nodes : List ℕ) (stack : List Waiting) (m level : ℕ) → nodes ≡ nodes_in stack
     → nodes ++ (if touches then (if even then m ∷ [] else []) else []) ≡ nodes_in (if touches then (if even then waiting m level ∷ stack else stack) else stack)
 nodes-kept true true nodes stack m level same = ap (λ (l : List ℕ). l ++ m ∷ []) same
 nodes-kept true false nodes stack m level same = append-nil nodes ∙ same

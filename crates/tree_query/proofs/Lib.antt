@@ -27,3 +27,10 @@ pub mod ChildReads
 pub mod WordWalks
 pub mod Queries
 pub mod WholeWalks
+pub mod Places
+pub mod WalkTurns
+pub mod WalkLeads
+pub mod LastSides
+pub mod WalkTurnEnds
+pub mod WalkLater
+pub mod CollectTurns

@@ -1,5 +1,5 @@
 -- The six sides of a bound, read one after the other.
-use Rattle.std.proofs.Common.{◌≡◌, ℕ, ◌+◌, ◌<◌, List, [], ◌∷◌, ◌++◌, Bool, true, false, length, refl, ap, sym, ◌∙◌, subst, arith}
+use Rattle.std.proofs.Common.{◌≡◌, ℕ, List, [], ◌∷◌, Bool, true, false, refl, sym, subst}
 use Rattle.std.specs.Prelude.{IsTrue, ◌↔◌, if◌then◌else◌}
 use Rattle.fixed_box.specs.declared.fix_box.FixBox.{FixBox}
 use Rattle.fixed_box.specs.FixBox.{words_of}
@@ -9,7 +9,7 @@ use Rattle.word_map.specs.declared.name.Name.{Name}
 use Rattle.word_map.specs.declared.name.Name.TheVariants.{Bound}
 use Rattle.core_state.specs.declared.view.Waiting.{Waiting}
 use Rattle.core_state.specs.declared.view.View.{View}
-use Rattle.core_state.specs.Walking.{Query, at_bound, Position, after_side}
+use Rattle.core_state.specs.Walking.{Query, at_bound, Position}
 use Rattle.tree_query.specs.Walking.{WalksOn}
 use Rattle.tree_query.specs.Collecting.{body_named, Trip, IsOnTrip, Reaches, bound_place, past_bound, HasReadBound}
 use Rattle.tree_query.proofs.Trips.{trip-on, reaches-trans}
@@ -21,7 +21,7 @@ same_bool false true f g = g refl
 same_bool false false f g = refl
 
 -- a box that touches by a call is one that touches by the test of the query
-tests-so : (query : Query) (shape : Shape) (touches : Bool) (words : List ℕ) → query.shape ≡ shape → IsTrue touches ↔ ((b : FixBox) × (words_of b ≡ words) × Touch shape b) → query.test words ≡ touches
+pub tests-so : (query : Query) (shape : Shape) (touches : Bool) (words : List ℕ) → query.shape ≡ shape → IsTrue touches ↔ ((b : FixBox) × (words_of b ≡ words) × Touch shape b) → query.test words ≡ touches
 tests-so query shape touches words asks h =
     let tests = subst (λ (s : Shape). IsTrue (query.test words) ↔ ((b : FixBox) × (words_of b ≡ words) × Touch s b)) asks (query.tests words) in
     same_bool (query.test words) touches (λ t. h.1 (tests.0 t)) (λ t. tests.1 (h.0 t))

@@ -1,19 +1,17 @@
 -- What a load leaves of a walk that collects, and what holds at each of its places.
 use mathlib.Core.Logic.{∥∥₁_elim}
 use Rattle.std.proofs.Props.{props}
-use Rattle.std.proofs.Common.{◌≡◌, ◌⊎◌, ℕ, suc, ◌+◌, ◌*◌, ◌<◌, ◌≤◌, ◌^◌, List, [], ◌∷◌, ◌++◌, length, refl, ap, sym, ◌∙◌, subst, inl, inr, arith, append_assoc}
-use Rattle.std.specs.Prelude.{Some, Contains, true}
+use Rattle.std.proofs.Common.{◌≡◌, ℕ, ◌+◌, ◌*◌, ◌<◌, ◌≤◌, List, [], ◌∷◌, ◌++◌, length, ap, sym, ◌∙◌, subst, arith, append_assoc}
+use Rattle.std.specs.Prelude.{Some, Contains}
 use Rattle.std.proofs.lemmas.List.{append-nil, length_push}
-use Rattle.std.proofs.lemmas.List.Elements.{Contains-push}
 use Rattle.word_map.specs.declared.config.Config.{Config}
 use Rattle.word_map.specs.declared.name.Name.{Name}
-use Rattle.word_map.specs.declared.name.Name.TheVariants.{Child}
+use Rattle.word_map.specs.declared.name.Name.TheVariants.{Child, Bound, Slot, Main}
 use Rattle.word_map.specs.Names.{IsName, node_count}
 use Rattle.core_state.specs.declared.item.Load.{Load}
 use Rattle.core_state.specs.declared.view.Waiting.{Waiting}
 use Rattle.core_state.specs.declared.view.View.{View}
 use Rattle.core_state.specs.View.{IsPass}
-use Rattle.core_state.specs.Core.{Core, IsViewAt}
 use Rattle.core_state.specs.Encoding.{body_child}
 use Rattle.core_state.specs.Nodes.{itself}
 use Rattle.core_state.specs.ReadersCounted.{by_stack}
@@ -24,7 +22,7 @@ use Rattle.core_query.proofs.Ended.{leads, stays}
 use Rattle.core_query.proofs.Stacks.{live-below, stack-room, next-of_world}
 use Rattle.core_query.proofs.Counted.{loads-few}
 use Rattle.pass_table.specs.Bodies.{IsCurrent}
-use Rattle.tree_query.specs.Walking.{HasWalked, IsWalkingAt, WalksOn}
+use Rattle.tree_query.specs.Walking.{WalksOn}
 use Rattle.tree_query.specs.Collecting.{found_with, found_from, found_by, Trip, IsOnTrip, found_so_far, Reaches}
 
 -- ---- one load
@@ -130,3 +128,15 @@ module _ (trip : Trip) (view : View) (at : Position) (h : IsOnTrip trip view at)
   -- a child that is read next is one of a node of the world
   pub child-at : (n k : ℕ) → next_word at.rest at.spot ≡ Some (Child n k) → (n < node_count view.config) × (k < 4)
   child-at n k is = (∥∥₁_elim current (hlevel props) (λ now. (named-now trip view at h now (Child n k) is).0), ∥∥₁_elim current (hlevel props) (λ now. (named-now trip view at h now (Child n k) is).1))
+
+  -- and so of a side of a bound
+  pub bound-at : (n k q : ℕ) → next_word at.rest at.spot ≡ Some (Bound n k q) → (n < node_count view.config) × (k < 4) × (q < 6)
+  bound-at n k q is = ∥∥₁_elim current (hlevel props) (λ now. named-now trip view at h now (Bound n k q) is)
+
+  -- of a slot
+  pub slot-at : (layer slot : ℕ) → next_word at.rest at.spot ≡ Some (Slot layer slot) → (layer < view.config.layers) × (slot < view.config.slots)
+  slot-at layer slot is = ∥∥₁_elim current (hlevel props) (λ now. named-now trip view at h now (Slot layer slot) is)
+
+  -- and of a main word
+  pub main-at : (layer : ℕ) → next_word at.rest at.spot ≡ Some (Main layer) → layer < view.config.layers
+  main-at layer is = ∥∥₁_elim current (hlevel props) (λ now. named-now trip view at h now (Main layer) is)

@@ -17,6 +17,7 @@ use Rattle.core_state.specs.Formed.{HasNumbers}
 use Rattle.core_state.specs.Guards.{Owns, IsBodyWord, IsQuiet}
 use Rattle.core_state.specs.Quietly.{KnowsQuietly}
 use Rattle.core_state.specs.Operation.{Operation, fetch_add, stored_by}
+use Rattle.core_state.specs.Event.{of_walks, begins_walk, ends_walk}
 use Rattle.core_state.specs.Kind.{Kind, Asking, Step, learned, found_by, item_of, gained_by, log_after}
 use Rattle.core_state.specs.ReadersCounted.{reader_scope}
 use Rattle.core_state.specs.Walking.{Query, Follows, position_of, start as first_place}
@@ -29,9 +30,10 @@ use Rattle.core_guard.proofs.Seats.{seat-has}
 use Rattle.pass_table.specs.Bodies.{IsCurrent}
 use Rattle.pass_table.specs.Stepping.{step_by, Stepped}
 use Rattle.pass_table.specs.Calls.{Advances, StoresWord}
+use Rattle.pass_table.specs.Turning.{AtMostOneStep, MadeBy}
 use Rattle.pass_table.proofs.Calling.{adds-none, stepped-stores}
 use Rattle.pass_table.proofs.Bodies.{stepped-current}
-use Rattle.pass_table.proofs.Turning.{made-none}
+use Rattle.pass_table.proofs.Turning.{one-step, made-none}
 use Rattle.pass_table.proofs.Working.{tells-stored}
 use Rattle.tree_query.specs.Walking.{HasWalked, IsWalkingAt, reader_store, BeginsWalk, EndsWalk}
 use Rattle.tree_query.proofs.WalkOn.{IsOfWalk, walk-quiet, walk-quietly}
@@ -136,6 +138,12 @@ module _ (view next : View) (number found : ℕ) (stepped : Stepped MayBegin beg
         place = ap (position_of start.config query) loads;
       }
 
+  pub begun-step : AtMostOneStep view next
+  begun-step = one-step MayBegin begin_walk view next (Reader number) 1 0 found stepped (λ before after steps. of_walks (begins_walk steps))
+
+  pub begun-made : MadeBy view next None
+  begun-made = made-none MayBegin begin_walk view next (Reader number) 1 0 found stepped (λ value. refl)
+
   pub walk-begun : BeginsWalk view next number found
   walk-begun = record {
     now = stepped-current MayBegin begin_walk view next (Reader number) 1 0 found stepped;
@@ -164,6 +172,12 @@ module _ (view next : View) (number found : ℕ) (stepped : Stepped MayEnd end_w
       subst (λ (word : ℕ). word % 2 ≡ 1) (sym stepped.finds)
       ((stepped.stands.laws.readers.odd number).1
       (seat-has reader_scope (λ p v. refl) stepped.before number (λ v. v.walk.is_on ≡ true) (record { seat = stepped.seat; view = view; at = stepped.allowed.at; pass = own; holds = asked.walks })))
+
+  pub ended-step : AtMostOneStep view next
+  ended-step = one-step MayEnd end_walk view next (Reader number) 1 0 found stepped (λ before after steps. of_walks (ends_walk steps))
+
+  pub ended-made : MadeBy view next None
+  ended-made = made-none MayEnd end_walk view next (Reader number) 1 0 found stepped (λ value. refl)
 
   pub walk-ended : EndsWalk view next number found
   walk-ended = record { now = stepped-current MayEnd end_walk view next (Reader number) 1 0 found stepped; odd = ended-odd; walked = ended-walked; walk = ended-walk }

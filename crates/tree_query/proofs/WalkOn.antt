@@ -12,15 +12,18 @@ use Rattle.core_state.specs.Guards.{Owns, by_lock, by_creation, by_batch, by_mar
 use Rattle.core_state.specs.Quietly.{KnowsQuietly}
 use Rattle.core_state.specs.Operation.{stores}
 use Rattle.core_state.specs.Kind.{Kind, Asking, learned, found_by, log_after}
+use Rattle.core_state.specs.Event.{of_walks, walks_slot, walks_main, walks_child, walks_bound}
 use Rattle.core_state.specs.Walking.{Query, Position, next_word, advance, Follows, position_of}
 use Rattle.core_state.specs.Walks.{MayWalkSlot, walk_slot, MayWalkMain, walk_main, MayWalkChild, walk_child, MayWalkBound, walk_bound}
 use Rattle.core_state.proofs.Quiet.{KnowsQuietly-trans}
 use Rattle.pass_table.specs.Stepping.{step_by, Stepped}
 use Rattle.pass_table.specs.Knowing.{KnowsMore}
+use Rattle.pass_table.specs.Turning.{AtMostOneStep, MadeBy}
 use Rattle.pass_table.proofs.Knowing.{came-others}
 use Rattle.pass_table.proofs.Calling.{loaded-all, adds-more}
 use Rattle.pass_table.proofs.WorkLater.{tells-more}
 use Rattle.pass_table.proofs.Bodies.{stepped-current}
+use Rattle.pass_table.proofs.Turning.{one-step, made-by-step}
 use Rattle.core_query.proofs.Replay.{position-more, follows-on}
 use Rattle.tree_query.specs.Walking.{HasWalked, IsWalkingAt, WalksOn}
 
@@ -144,3 +147,28 @@ child-on view next name found stepped = load-on MayWalkChild walk_child view nex
 
 pub side-on : (view next : View) (name : Name) (found : ℕ) → Stepped MayWalkBound walk_bound view name 0 0 found next → WalksOn view next name found
 side-on view next name found stepped = load-on MayWalkBound walk_bound view next name found stepped (λ v n f a b. refl) (λ word operand. refl) refl refl refl
+
+-- each is one step, and makes no entry
+pub slot-step : (view next : View) (name : Name) (found : ℕ) → Stepped MayWalkSlot walk_slot view name 0 0 found next → AtMostOneStep view next
+slot-step view next name found stepped = one-step MayWalkSlot walk_slot view next name 0 0 found stepped (λ before after steps. of_walks (walks_slot steps))
+
+pub slot-made : (view next : View) (name : Name) (found : ℕ) → Stepped MayWalkSlot walk_slot view name 0 0 found next → MadeBy view next None
+slot-made view next name found stepped = made-by-step MayWalkSlot walk_slot view next name 0 0 found stepped
+
+pub main-step : (view next : View) (name : Name) (found : ℕ) → Stepped MayWalkMain walk_main view name 0 0 found next → AtMostOneStep view next
+main-step view next name found stepped = one-step MayWalkMain walk_main view next name 0 0 found stepped (λ before after steps. of_walks (walks_main steps))
+
+pub main-made : (view next : View) (name : Name) (found : ℕ) → Stepped MayWalkMain walk_main view name 0 0 found next → MadeBy view next None
+main-made view next name found stepped = made-by-step MayWalkMain walk_main view next name 0 0 found stepped
+
+pub child-step : (view next : View) (name : Name) (found : ℕ) → Stepped MayWalkChild walk_child view name 0 0 found next → AtMostOneStep view next
+child-step view next name found stepped = one-step MayWalkChild walk_child view next name 0 0 found stepped (λ before after steps. of_walks (walks_child steps))
+
+pub child-made : (view next : View) (name : Name) (found : ℕ) → Stepped MayWalkChild walk_child view name 0 0 found next → MadeBy view next None
+child-made view next name found stepped = made-by-step MayWalkChild walk_child view next name 0 0 found stepped
+
+pub side-step : (view next : View) (name : Name) (found : ℕ) → Stepped MayWalkBound walk_bound view name 0 0 found next → AtMostOneStep view next
+side-step view next name found stepped = one-step MayWalkBound walk_bound view next name 0 0 found stepped (λ before after steps. of_walks (walks_bound steps))
+
+pub side-made : (view next : View) (name : Name) (found : ℕ) → Stepped MayWalkBound walk_bound view name 0 0 found next → MadeBy view next None
+side-made view next name found stepped = made-by-step MayWalkBound walk_bound view next name 0 0 found stepped

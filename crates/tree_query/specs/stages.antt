@@ -3,3 +3,7 @@ pub mod CandidateCheck
 pub mod CheckLater
 pub mod AllChecks
 pub mod AllChecksLater
+pub mod WalkPlaces
+pub mod WalkTurns
+pub mod WalkLater
+pub mod CollectTurns

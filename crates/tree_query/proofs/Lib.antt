@@ -34,3 +34,4 @@ pub mod LastSides
 pub mod WalkTurnEnds
 pub mod WalkLater
 pub mod CollectTurns
+pub mod QueryTurns

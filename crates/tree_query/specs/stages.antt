@@ -7,3 +7,5 @@ pub mod WalkPlaces
 pub mod WalkTurns
 pub mod WalkLater
 pub mod CollectTurns
+pub mod QueryStages
+pub mod QueryLater

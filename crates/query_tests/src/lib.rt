@@ -13,4 +13,6 @@ mod moves;
 #[cfg(test)]
 mod places;
 #[cfg(test)]
+mod turns;
+#[cfg(test)]
 mod walks;

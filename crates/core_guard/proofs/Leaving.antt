@@ -363,20 +363,6 @@ as_before-same o p e = subst (IsAsBefore o) (sym e) (go o)
     go None = not_live
     go (Some r) = is_live r r.user
 
-module _ (P : Record → Type 0) (steady : (r : Record) (user : ℕ) → P r ↔ P (record r { user = user })) where
-  -- what does not speak of the user number holds as before
-  pub body-forth : (o p : Option Record) → IsAsBefore o p → IsSomeAnd o P → IsSomeAnd p P
-  body-forth o p not_live h = h
-  body-forth o p (is_live r user) h = (steady r user).0 h
-
-  pub body-back : (o p : Option Record) → IsAsBefore o p → IsSomeAnd p P → IsSomeAnd o P
-  body-back o p not_live h = h
-  body-back o p (is_live r user) h = (steady r user).1 h
-
-pub none-back : (o p : Option Record) → IsAsBefore o p → IsNone p → IsNone o
-none-back o p not_live h = h
-none-back o p (is_live r user) h = absurd cc
-
 -- the record of a body that is there was there before, with another user number
 pub record-back : (o p : Option Record) (r : Record) → IsAsBefore o p → p ≡ Some r → (user : ℕ) × (o ≡ Some (record r { user = user }))
 record-back o p r not_live e = absurd (none-some r e)

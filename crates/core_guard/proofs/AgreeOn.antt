@@ -22,8 +22,7 @@ use Rattle.core_state.specs.Bodies.{state_word, IsBetweenBoxes}
 use Rattle.core_state.specs.BodiesAgree.{BodiesAgree, body_scope, HasWordsOf, IsHeldFor}
 use Rattle.core_state.proofs.Beginning.{record_body}
 use Rattle.core_guard.proofs.BodiesStep.{new_sight, unstored, bodies-agree, together, words-kept, list-left, unlisted, stripe-part, batch-left}
-use Rattle.core_guard.proofs.BodyTouch.{body_of}
-use Rattle.core_guard.proofs.Leaving.{Acts, Last, some_and_map, held-once}
+use Rattle.core_guard.proofs.Leaving.{Acts, Last, some_and_map, held-once, body_of}
 use Rattle.core_guard.proofs.OnBody.{OnBody, on-moves, on-lists, on-stripe, on-after, stripe-after}
 use Rattle.core_guard.proofs.Recalled.{recalled}
 use Rattle.core_guard.proofs.Scenes.{none_here}

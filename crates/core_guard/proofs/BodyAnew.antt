@@ -7,7 +7,7 @@ use Rattle.std.proofs.lemmas.Option.{none-some, same_Some}
 use Rattle.scene_model.specs.Scene.{Record, record_at}
 use Rattle.scene_model.specs.Step.{HasBody}
 use Rattle.word_map.specs.declared.name.Name.{Name}
-use Rattle.word_map.specs.declared.name.Name.TheVariants.{State, Phase, Layer, BoxWord, LocA, LocB, Bound, Reader}
+use Rattle.word_map.specs.declared.name.Name.TheVariants.{LocB, Bound, Reader}
 use Rattle.core_state.specs.declared.view.Marked.{Marked}
 use Rattle.core_state.specs.declared.view.Batch.{Batch}
 use Rattle.core_state.specs.declared.view.View.{View}
@@ -22,9 +22,9 @@ use Rattle.core_state.specs.Bodies.{all_batches}
 use Rattle.core_state.specs.LocationsHold.{LocationsHold, location_scope, IsPlannedIn, IsLocation}
 use Rattle.core_state.specs.BodiesCovered.{BodiesCovered}
 use Rattle.core_state.specs.ReadersCounted.{reader_scope, ClimbsInTrees}
-use Rattle.core_guard.proofs.BodyTouch.{body_of, body-no_node, other-word}
+use Rattle.core_guard.proofs.BodyTouch.{other-word}
 use Rattle.core_guard.proofs.CoverLeft.{IsFresh, BodyAfter, as_it_was, BodiesCovered-leaves}
-use Rattle.core_guard.proofs.Leaving.{Acts, IsHandled, After, Last, Stays, Leaves, leaves-same, as_before-same, LeadsWithin, sound-leads, above-stands, above-back, some_and_map, held-once}
+use Rattle.core_guard.proofs.Leaving.{Acts, IsHandled, After, Last, Stays, Leaves, leaves-same, LeadsWithin, sound-leads, above-stands, above-back, some_and_map, held-once, body_of, body-no_node, stays-by}
 use Rattle.core_guard.proofs.PlacesLeft.{SeenUpdate, BodyLeft, body_stays, pass_anew, LocationsHold-leaves}
 use Rattle.core_guard.proofs.PlacesStay.{PassIsPlaced}
 use Rattle.core_guard.proofs.ReadersLeft.{some-all, Counts, KeepsTargets, KeepsLayer, layers-kept, gives-kept, ReadersCounted-leaves}
@@ -88,18 +88,7 @@ module _ (kind : Kind) (core : Core) (step : Step) where
 
     stays : (i : ℕ) → i ≢ index → Stays kind core step i
     stays i apart =
-        let other : (name : Name) → body_of name ≡ Some i → word_of (After kind core step) name ≡ word_of core name = λ name of. off_body name (λ e. apart (same_Some i index (sym of ∙ e))) in
-        record {
-          body = as_before-same _ _ (t.others i apart);
-          loc_a = other (LocA i) refl;
-          loc_b = other (LocB i) refl;
-          phase = other (Phase i) refl;
-          box = λ q. other (BoxWord i q) refl;
-          state = other (State i) refl;
-          layer = other (Layer i) refl;
-          removes = removes-else kind core step index call a t.on i apart;
-          places = places-else kind core step index call a t.on i apart;
-        }
+        stays-by kind core step i (t.others i apart) (λ name of. off_body name (λ e. apart (same_Some i index (sym of ∙ e)))) (removes-else kind core step index call a t.on i apart) (places-else kind core step index call a t.on i apart)
 
     -- batches hold other bodies
     held : (batch : Batch) (m : Marked) → Contains (all_batches (sight location_scope (After kind core step))) batch → Contains batch.marked m

@@ -14,13 +14,17 @@ use Rattle.core_state.specs.Updates.{IsPlacing}
 use Rattle.core_state.specs.LocationsHold.{Removes, IsRemoved}
 use Rattle.core_state.proofs.Beginning.{record_body}
 use Rattle.core_state.proofs.Steps.{view-step}
-use Rattle.core_guard.proofs.Leaving.{Acts, After, Last, Stays, IsAsBefore, not_live, is_live, some_and_map}
+use Rattle.core_guard.proofs.Leaving.{Acts, After, Last, Stays, IsAsBefore, not_live, is_live, some_and_map, out_in}
 use Rattle.core_guard.proofs.Seats.{KeepsNumber, seen_of, seat-has, has-step}
 
 -- a body of the same creation, in the same layer
 pub data IsAlike : Option Record → Option Record → Type 0 where
   no_body : IsAlike None None
   a_body : (r q : Record) → q.generation ≡ r.generation → q.layer ≡ r.layer → IsAlike (Some r) (Some q)
+
+pub alike-forth : (o p : Option Record) → IsAlike o p → (P : ℕ → ℕ → Type 0) → IsSomeAnd o (λ r. P r.generation r.layer) → IsSomeAnd p (λ r. P r.generation r.layer)
+alike-forth o p no_body P h = h
+alike-forth o p (a_body r q g l) P h = subst (λ (x : ℕ). P x q.layer) (sym g) (subst (P r.generation) (sym l) h)
 
 pub alike-of : (o p : Option Record) (r q : Record) → o ≡ Some r → p ≡ Some q → q.generation ≡ r.generation → q.layer ≡ r.layer → IsAlike o p
 alike-of o p r q was is generation layer = subst (λ (x : Option Record). IsAlike x p) (sym was) (subst (IsAlike (Some r)) (sym is) (a_body r q generation layer))
@@ -75,6 +79,14 @@ module _ (kind : Kind) (core : Core) (step : Step) where
       same o p not_live r q e now = absurd (none-some r e)
       same o p (is_live x user) r q e now = ap (λ (y : Record). y.phase) (sym (same_Some (record x { user = user }) q now)) ∙ ap (λ (y : Record). y.phase) (same_Some x r e)
 
+  -- the pass takes a body out, as far as a law sees who does
+  pub removed-now : (i : ℕ) (a : Acts core step) (scope : Scope) (keeps : KeepsNumber scope) → (Removes (Last kind core step).call.task i → Removes (seen_of scope step.number (Last kind core step)).call.task i)
+      → Removes (Last kind core step).call.task i → IsRemoved (sight scope (After kind core step)) i
+  removed-now i a scope keeps seen removes = (
+    step.number,
+    seat-has scope keeps (After kind core step) step.number (λ v. Removes v.call.task i) (record { seat = step.seat; view = Last kind core step; at = view-step kind core step a.at; pass = a.pass; holds = seen removes }),
+  )
+
   module _ (i : ℕ) (b : InPlace i) where
     -- the record before is of the same creation and layer
     pub record-was : (q : Record) → Is i ≡ Some q → (r : Record) × (Was i ≡ Some r) × (q.generation ≡ r.generation) × (q.layer ≡ r.layer)
@@ -94,11 +106,7 @@ module _ (kind : Kind) (core : Core) (step : Step) where
     -- what is said of creation and layer holds as before
     module _ (P : ℕ → ℕ → Type 0) where
       pub creation-forth : IsSomeAnd (Was i) (λ r. P r.generation r.layer) → IsSomeAnd (Is i) (λ r. P r.generation r.layer)
-      creation-forth h = go (Was i) (Is i) b.body h
-        where
-          go : (o p : Option Record) → IsAlike o p → IsSomeAnd o (λ r. P r.generation r.layer) → IsSomeAnd p (λ r. P r.generation r.layer)
-          go o p no_body h = h
-          go o p (a_body r q g l) h = subst (λ (x : ℕ). P x q.layer) (sym g) (subst (P r.generation) (sym l) h)
+      creation-forth h = alike-forth (Was i) (Is i) b.body P h
 
       pub creation-back : IsSomeAnd (Is i) (λ r. P r.generation r.layer) → IsSomeAnd (Was i) (λ r. P r.generation r.layer)
       creation-back h = go (Was i) (Is i) b.body h
@@ -132,9 +140,6 @@ module _ (kind : Kind) (core : Core) (step : Step) where
           | inr gone ↦ absurd (go (Is i) gone.body (record_body (Is i) (λ r. r.phase ≡ In) q e inside))
         ]
       where
-        out_in : Out ≡ In → ⊥
-        out_in e = absurd cc
-
         go : (o : Option Record) → IsSomeAnd o (λ r. r.phase ≡ Out) → IsSomeAnd o (λ r. r.phase ≡ In) → ⊥
         go None h k = h
         go (Some r) h k = out_in (sym h ∙ k)
@@ -142,15 +147,9 @@ module _ (kind : Kind) (core : Core) (step : Step) where
     pub in-was : (q : Record) → Is i ≡ Some q → q.phase ≡ In → (r : Record) × (Was i ≡ Some r) × (r.phase ≡ In) × (q.layer ≡ r.layer)
     in-was q e inside = let t = record-was q e in (t.0, t.1, sym ((in-stays q e inside).body t.0 q t.1 e) ∙ inside, t.3)
 
-    -- who takes it out does so still, and the pass does where it has taken it out; as far as a law sees who does
+    -- who takes it out does so still, and the pass does where it has taken it out
     module _ (a : Acts core step) (scope : Scope) (keeps : KeepsNumber scope) (was : Removes (seen_of scope step.number step.view).call.task i → Removes step.view.call.task i)
         (seen : Removes (Last kind core step).call.task i → Removes (seen_of scope step.number (Last kind core step)).call.task i) where
-      pub removed-now : Removes (Last kind core step).call.task i → IsRemoved (sight scope (After kind core step)) i
-      removed-now removes = (
-        step.number,
-        seat-has scope keeps (After kind core step) step.number (λ v. Removes v.call.task i) (record { seat = step.seat; view = Last kind core step; at = view-step kind core step a.at; pass = a.pass; holds = seen removes }),
-      )
-
       pub removed-forth : IsRemoved (sight scope core) i → IsRemoved (sight scope (After kind core step)) i
       removed-forth h = (
         h.0,
@@ -160,4 +159,4 @@ module _ (kind : Kind) (core : Core) (step : Step) where
 
       -- so of a body that nobody takes out the phase stays, and nobody took it out
       pub unremoved-stays : ¬ IsRemoved (sight scope (After kind core step)) i → PhaseStays i × ¬ IsRemoved (sight scope core) i
-      unremoved-stays left = (elim (b.phase) [ inl stays ↦ stays | inr gone ↦ absurd (left (removed-now gone.removes)) ], λ removed. left (removed-forth removed))
+      unremoved-stays left = (elim (b.phase) [ inl stays ↦ stays | inr gone ↦ absurd (left (removed-now i a scope keeps seen gone.removes)) ], λ removed. left (removed-forth removed))

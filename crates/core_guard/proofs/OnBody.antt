@@ -1,6 +1,6 @@
 -- A step of a pass that holds the stripe of a body, does nothing or something with that body, and goes on so: it changes its
 -- call alone.
-use Rattle.std.proofs.Common.{◌≡◌, ◌≢◌, ◌↔◌, ℕ, false, Some, refl, sym, ◌∙◌, subst}
+use Rattle.std.proofs.Common.{◌≡◌, ◌≢◌, ◌↔◌, ℕ, false, Some, refl, sym, ◌∙◌, subst, inl, inr}
 use Rattle.std.specs.Prelude.{⊤}
 use Rattle.std.proofs.lemmas.Option.{none-some}
 use Rattle.word_map.specs.declared.config.Config.{Config}
@@ -24,11 +24,13 @@ use Rattle.core_state.specs.BodiesAgree.{ChangesList, IsUnderStripe}
 use Rattle.core_state.specs.NodesInOnePlace.{NodesInOnePlace, node_scope}
 use Rattle.core_state.specs.TreesSound.{tree_scope}
 use Rattle.core_state.specs.LocationsHold.{Removes}
-use Rattle.core_guard.proofs.BodyTouch.{body_of, stripe-others}
-use Rattle.core_guard.proofs.Leaving.{Acts, IsHandled, Last}
+use Rattle.core_guard.proofs.BodyTouch.{stripe-others}
+use Rattle.core_guard.proofs.Leaving.{Acts, IsHandled, Last, body_of}
 use Rattle.core_guard.proofs.PlacesStay.{removes-handles, places-handles}
 use Rattle.core_guard.proofs.Recalled.{Recalls, recalled, task-is, LocksAgree-recalled, NodesInOnePlace-recalled}
 use Rattle.core_guard.proofs.Settled.{sound}
+use Rattle.core_state.proofs.Lookups.{at_one}
+use Rattle.std.proofs.lemmas.Bool.{cases_eq}
 
 -- ---- tasks
 
@@ -111,6 +113,16 @@ module _ (kind : Kind) (core : Core) (step : Step) (index : ℕ) (call : Call) w
     -- no other pass does anything with the body, and this one nothing with another one
     pub others-else : (seat number : ℕ) (view : View) → seat ≢ step.seat → IsViewAt core seat view → IsPass view number → ¬ IsHandled view.call.task index
     others-else = stripe-others kind core step a index own-stripe
+
+    -- so what is done with the body alone nobody does, if this pass does not
+    pub nobody-does : (P : Task → Type 0) → ((task : Task) → P task → IsHandled task index) → ¬ P step.view.call.task → (seat number : ℕ) (view : View) → IsViewAt core seat view → IsPass view number → ¬ P view.call.task
+    nobody-does P handles own seat number view found is does =
+        elim (cases_eq seat step.seat) [
+          | inl same ↦
+              let one : step.view ≡ view = at_one core.views step.seat step.view view a.at (subst (λ (k : ℕ). IsViewAt core k view) same found) in
+              own (subst (λ (v : View). P v.call.task) (sym one) does)
+          | inr apart ↦ others-else seat number view apart found is (handles view.call.task does)
+        ]
 
     pub removes-else : (i : ℕ) → i ≢ index → Removes step.view.call.task i ↔ Removes (Last kind core step).call.task i
     removes-else i apart = (

@@ -47,9 +47,7 @@ module _ (kind : Kind) (core : Core) (step : Step) where
     pub alone : (seat number : ℕ) (view : View) → seat ≢ step.seat → IsViewAt core seat view → IsPass view number → ¬ IsHandled view.call.task i
     pub entry : (n k : ℕ) → IsPublished (nodes.home n) → k < 4 → word_of core (Child n k) ≡ body_child i → IsLocation Old i n k → IsLocation Now i n k
     pub second : (n k : ℕ) → Stands (nodes.home n) → k < 4 → word_of core (Child n k) ≡ body_child i → word_of core (LocB i) ≡ place n k → word_of (After kind core step) (LocB i) ≡ place n k
-    pub planned : (r : Rebuild) (noted : Noted) → SeenUpdate ≡ Some r → Contains r.noted noted → noted.index ≡ i
-        → IsPlannedAt nodes Old step.number (seen_of location_scope step.number step.view) r noted
-        → IsPlannedAt later Now step.number (seen_of location_scope step.number (Last kind core step)) r noted
+    pub places : IsPlacing step.view.call.task i ↔ IsPlacing (Last kind core step).call.task i
 
   -- what becomes of a body
   pub data BodyLeft (nodes later : Nodes) (i : ℕ) : Type 0 where
@@ -98,12 +96,7 @@ module _ (kind : Kind) (core : Core) (step : Step) (a : Acts core step) (later :
     alone = alone;
     entry = λ n k published below entry location. (location.0, elim (location.1) [ inl e ↦ inl (loc_a ∙ e) | inr e ↦ inr (loc_b ∙ e) ]);
     second = λ n k stands below entry e. loc_b ∙ e;
-    planned = λ r noted some among same h.
-        planned-forth kind core step a later New m step.number (seen_of location_scope step.number step.view) (seen_of location_scope step.number (Last kind core step)) r noted (
-          λ places. places-seen step.view.call (Last kind core step).call noted.index (subst (λ (j : ℕ). IsPlacing step.view.call.task j → IsPlacing (Last kind core step).call.task j) (sym same) placing.0) places,
-          λ places. places-seen (Last kind core step).call step.view.call noted.index (subst (λ (j : ℕ). IsPlacing (Last kind core step).call.task j → IsPlacing step.view.call.task j) (sym same) placing.1) places,
-        )
-        (λ n k stands below entry e. ap (λ (j : ℕ). word_of (After kind core step) (LocB j)) same ∙ (loc_b ∙ (ap (λ (j : ℕ). word_of core (LocB j)) (sym same) ∙ e))) h;
+    places = placing;
   }
 
   abbrev NotedAt : ℕ → ℕ → ℕ → ℕ → Rebuild → Type 0
@@ -196,7 +189,7 @@ module _ (kind : Kind) (core : Core) (step : Step) (a : Acts core step) (later :
               λ places. absurd (b.alone step.seat step.number step.view a.at a.pass (places-handles one.task noted.index places)),
               λ places. absurd (b.alone_after (places-handles other.task noted.index places)),
             )
-        go (body_anew b) = b.planned r noted some among refl h
+        go (body_anew b) = forth b.places
 
     pub LocationsHold-leaves : LocationsHold later (After kind core step)
     LocationsHold-leaves = record {

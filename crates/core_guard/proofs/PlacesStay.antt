@@ -25,8 +25,8 @@ use Rattle.core_state.specs.Updates.{HasUpdate, IsStillMerged, IsPlacing, IsDone
 use Rattle.core_state.specs.LocationsHold.{LocationsHold, LocationsHoldIn, location_scope, IsLocation, IsAt, Encloses, box_in, Removes, IsRemoved, IsTakenOut, has_cleared_location, IsPlacedNow, IsWhere, in_slot, in_main, in_old, in_merged, IsSecondFor, IsSecond, IsPlannedAt, IsPublishedAt, GivesBox, IsWidened, IsStillWide, ClimbsFrom, IsOnItsWay, IsWidenedOnWay, IsUnheld}
 use Rattle.core_state.proofs.Beginning.{record_body}
 use Rattle.core_guard.proofs.Seats.{each-seat, has-step}
-use Rattle.core_guard.proofs.InPlace.{InPlace, stays-in_place, none-was, creation-forth, phase-back, phase-forth, in-stays, in-was, unremoved-stays}
-use Rattle.core_guard.proofs.Leaving.{Acts, IsHandled, IsIdle, idle-unhandled, LeadsWithin, sound-leads, After, Last, Stays, IsApart, Leaves, home-forth, stands-later, wider, above-stands, above-forth, above-back, has_update, record-back, stands-in_tree, held-once, live-stands, covers-more}
+use Rattle.core_guard.proofs.InPlace.{InPlace, stays-in_place, none-was, phase-back, phase-forth, in-stays, in-was, unremoved-stays, IsAlike, alike-forth}
+use Rattle.core_guard.proofs.Leaving.{Acts, IsHandled, IsIdle, idle-unhandled, LeadsWithin, sound-leads, After, Last, Stays, IsApart, Leaves, home-forth, stands-later, wider, above-stands, above-forth, above-back, has_update, record-back, stands-in_tree, held-once, live-stands, covers-more, out_held}
 use Rattle.std.proofs.lemmas.Bool.{false≢true}
 use Rattle.core_state.proofs.Opening.{none_in}
 
@@ -161,9 +161,6 @@ held-unhandled s (Moving index target) i unheld out held e = held-once (record_a
 held-unhandled s (Placing index) i unheld out held e = held-once (record_at (scene_in s) index) unheld (subst (λ (j : ℕ). HasBody (scene_in s) j (λ r. r.phase ≡ Held)) (sym e) held)
 held-unhandled s (Removing index) i unheld out held e = go (record_at (scene_in s) i) (out e) held
   where
-    out_held : Out ≡ Held → ⊥
-    out_held e = absurd cc
-
     go : (o : Option Record) → IsSomeAnd o (λ r. r.phase ≡ Out) → IsSomeAnd o (λ r. r.phase ≡ Held) → ⊥
     go None h k = h
     go (Some r) h k = out_held (sym h ∙ k)
@@ -224,6 +221,17 @@ module _ (kind : Kind) (core : Core) (step : Step) (a : Acts core step) (later :
   abbrev pub IsEnclosed : ℕ → Type 0
   IsEnclosed i = (r : Record) (n k : ℕ) → record_at (scene_in Is) i ≡ Some r → r.phase ≡ In → IsLocation Is i n k → Encloses Is n k (sides_of (words_of r.bounds)) × Encloses Is n k (box_in Is i)
 
+  -- a second location that stays is one still
+  pub second-forth : (i : ℕ) → Is.word (LocB i) ≡ Was.word (LocB i) → IsAlike (record_at (scene_in Was) i) (record_at (scene_in Is) i) → IsSecond Was i → IsSecond Is i
+  second-forth i loc_b body h = (
+    h.0,
+    update-forth h.0 (IsSecondFor Was i) (IsSecondFor Is i)
+        (λ r t.
+        let n = t.3 in
+        let alike = subst (λ (j : ℕ). IsAlike (record_at (scene_in Was) j) (record_at (scene_in Is) j)) (sym n.2) body in
+        (t.0, t.1, t.2, (n.0, n.1, n.2, (loc_b ∙ n.3.0, alike-forth _ _ alike (λ g l. (g ≡ n.0.generation) × (l ≡ n.0.layer)) n.3.1)))) h.1,
+  )
+
   module _ (i : ℕ) (b : InPlace kind core step i) where
     pub location-back : (n k : ℕ) → IsLocation Is i n k → IsLocation Was i n k
     location-back n k h = (h.0, elim (h.1) [ inl e ↦ inl (sym b.loc_a ∙ e) | inr e ↦ inr (sym b.loc_b ∙ e) ])
@@ -256,15 +264,6 @@ module _ (kind : Kind) (core : Core) (step : Step) (a : Acts core step) (later :
         in_merged number t root (phase ∙ e) (λ none. second (sym b.loc_b ∙ none)) (home_forth n _ tt home)
         (update-forth number (λ r. IsStillMerged r layer t root) (λ r. IsStillMerged r layer t root) (λ r merged. merged) has)
 
-    second-forth : IsSecond Was i → IsSecond Is i
-    second-forth h = (
-      h.0,
-      update-forth h.0 (IsSecondFor Was i) (IsSecondFor Is i)
-          (λ r t.
-          let n = t.3 in
-          (t.0, t.1, t.2, (n.0, n.1, n.2, (b.loc_b ∙ n.3.0, creation-forth kind core step n.0.index (subst (InPlace kind core step) (sym n.2) b) (λ g l. (g ≡ n.0.generation) × (l ≡ n.0.layer)) n.3.1)))) h.1,
-    )
-
     nowhere-forth : (Was.word (LocA i) ≡ 0) × (Was.word (LocB i) ≡ 0) → (Is.word (LocA i) ≡ 0) × (Is.word (LocB i) ≡ 0)
     nowhere-forth h = (b.loc_a ∙ h.0, b.loc_b ∙ h.1)
 
@@ -278,7 +277,7 @@ module _ (kind : Kind) (core : Core) (step : Step) (a : Acts core step) (later :
       first = λ q n k e inside below location.
           let old = in-was kind core step i b q e inside in
           where-forth q.layer n (in-stays kind core step i b q e inside).word (subst (λ (l : ℕ). IsWhere nodes Was i l n) (sym old.3) (h.first old.0 n k old.1 old.2 below (sym b.loc_a ∙ location)));
-      second = λ other. second-forth (h.second (λ none. other (b.loc_b ∙ none)));
+      second = λ other. second-forth i b.loc_b b.body (h.second (λ none. other (b.loc_b ∙ none)));
       dead = λ none. nowhere-forth (h.dead (none-was kind core step i b none));
       out = λ body kept.
           let t = unremoved-stays kind core step i b a location_scope (λ k v. refl) (seen-task (λ task. Removes task i) (removes-busy i) step.view.call) (task-seen (λ task. Removes task i) (removes-busy i) (Last kind core step).call) kept in

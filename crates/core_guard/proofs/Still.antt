@@ -1,10 +1,10 @@
 -- A step that stores no word but those of readers, and makes no entry: nodes and bodies are as before. Of a load in a climb
 -- it is to be shown that the node is on the way up, of a step of a walk that the walk goes on.
-use Rattle.std.proofs.Common.{◌≡◌, ◌≢◌, ℕ, [], ◌∷◌, ◌++◌, None, refl, sym, ◌∙◌, subst, inl, inr, arith}
+use Rattle.std.proofs.Common.{◌≡◌, ◌≢◌, ℕ, [], ◌∷◌, ◌++◌, None, refl, sym, ◌∙◌, subst, inl, inr, arith, ap}
 use Rattle.std.specs.Prelude.{Option}
 use Rattle.std.proofs.lemmas.List.Elements.{Contains-append_cases}
 use Rattle.word_map.specs.declared.name.Name.{Name}
-use Rattle.word_map.specs.declared.name.Name.TheVariants.{State, Phase, Layer, BoxWord, LocA, LocB, Child, Bound, Parent, Main, Slot, Reader}
+use Rattle.word_map.specs.declared.name.Name.TheVariants.{Child, Bound, Parent, Main, Slot, Reader}
 use Rattle.core_state.specs.declared.item.Load.{Load}
 use Rattle.core_state.specs.declared.view.Task.{Task}
 use Rattle.core_state.specs.declared.view.Task.TheVariants.{Moving, Placing}
@@ -24,12 +24,13 @@ use Rattle.core_state.specs.Updates.{IsPlacing}
 use Rattle.core_state.specs.ReadersCounted.{ReadersCounted}
 use Rattle.core_state.proofs.Beginning.{above-more}
 use Rattle.core_guard.proofs.Seats.{each-seat}
-use Rattle.core_guard.proofs.Leaving.{Acts, After, Last, Stays, Leaves, step-goes_on, scene-plain, as_before-same}
+use Rattle.core_guard.proofs.Leaving.{Acts, After, Last, Stays, Leaves, step-goes_on, scene-plain, stays-by, body_of}
 use Rattle.core_guard.proofs.PlacesStay.{PassIsPlaced, acting, taken-out, pass-placed, pass-forth}
 use Rattle.core_guard.proofs.PlacesLeft.{SeenUpdate, LocationsHold-stays}
 use Rattle.core_guard.proofs.ReadersLeft.{some-all, Counts, GoesOn, climbs-own, ReadersCounted-goes_on, counts-stay}
 use Rattle.core_guard.proofs.TreesLeft.{KeepsBoxes}
 use Rattle.core_guard.proofs.InPlace.{stays-in_place}
+use Rattle.std.proofs.lemmas.Option.{none-some}
 
 pub record IsStill (kind : Kind) (core : Core) (step : Step) : Type 0 where
   pub words : (name : Name) → ((p : ℕ) → name ≢ Reader p) → word_of (After kind core step) name ≡ word_of core name
@@ -105,17 +106,9 @@ module _ (kind : Kind) (core : Core) (step : Step) (s : IsStill kind core step) 
   }
 
   pub still-stays : (i : ℕ) → Stays kind core step i
-  still-stays i = record {
-    body = as_before-same _ _ (scene-plain kind core step s.entry i);
-    loc_a = s.words (LocA i) (λ p e. absurd cc);
-    loc_b = s.words (LocB i) (λ p e. absurd cc);
-    phase = s.words (Phase i) (λ p e. absurd cc);
-    box = λ q. s.words (BoxWord i q) (λ p e. absurd cc);
-    state = s.words (State i) (λ p e. absurd cc);
-    layer = s.words (Layer i) (λ p e. absurd cc);
-    removes = (subst (λ (t : Task). Removes t i) (sym s.task), subst (λ (t : Task). Removes t i) s.task);
-    places = (subst (λ (t : Task). IsPlacing t i) (sym s.task), subst (λ (t : Task). IsPlacing t i) s.task);
-  }
+  still-stays i =
+      stays-by kind core step i (scene-plain kind core step s.entry i) (λ name of. s.words name (λ p e. none-some i (sym (ap body_of e) ∙ of)))
+      (subst (λ (t : Task). Removes t i) (sym s.task), subst (λ (t : Task). Removes t i) s.task) (subst (λ (t : Task). IsPlacing t i) (sym s.task), subst (λ (t : Task). IsPlacing t i) s.task)
 
   module _ (a : Acts core step) where
     abbrev No_new : ℕ → Type 0

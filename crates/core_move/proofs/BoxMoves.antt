@@ -17,9 +17,9 @@ use Rattle.core_state.specs.Moving.{IsSettled, IsKnownLocation, HasClimbed, IsWi
 use Rattle.core_state.specs.Nodes.{Stands, Nodes}
 use Rattle.core_state.specs.Scope.{Sight, sight, scene_in}
 use Rattle.core_state.proofs.Beginning.{body_record, record_body}
-use Rattle.core_guard.proofs.Leaving.{Acts, After, Leaves, held-once}
+use Rattle.core_guard.proofs.Leaving.{Acts, After, Leaves, held-once, body_of, in_held, out_held, out_in, idle-unhandled}
 use Rattle.core_guard.proofs.PlacesLeft.{SeenUpdate, body_in_place}
-use Rattle.core_guard.proofs.PlacesStay.{PassIsPlaced, location-back, encloses-forth}
+use Rattle.core_guard.proofs.PlacesStay.{PassIsPlaced, location-back, encloses-forth, seen-task, removes-handles}
 use Rattle.core_guard.proofs.Settled.{StandsStill, settled-still}
 use Rattle.core_move.proofs.Climbing.{climbed-encloses}
 use Rattle.core_move.proofs.MoveSteps.{IsUnderWay, has_begun, begins_now, under_way-placed, under-so}
@@ -43,11 +43,11 @@ use Rattle.core_state.proofs.Steps.{word-step, word-step-other}
 use Rattle.core_guard.proofs.AgreeOn.{New, BodiesAgree-on}
 use Rattle.core_guard.proofs.BodiesStep.{phase-kept}
 use Rattle.core_guard.proofs.BodyAnew.{No_new, turn-leaves, TurnsBody}
-use Rattle.core_guard.proofs.BodyTouch.{body_of, removes-handled}
+use Rattle.core_guard.proofs.BodyTouch.{removes-handled}
 use Rattle.core_guard.proofs.Changed.{Changes}
 use Rattle.core_guard.proofs.CoverLeft.{in_place}
 use Rattle.core_guard.proofs.InPlace.{IsAlike, a_body, InPlace, creation-forth}
-use Rattle.core_guard.proofs.OnBody.{OnBody, others-else}
+use Rattle.core_guard.proofs.OnBody.{OnBody, others-else, nobody-does}
 use Rattle.core_guard.proofs.Recalled.{recalled, task-is}
 use Rattle.core_guard.proofs.Seats.{has-seat}
 
@@ -112,13 +112,8 @@ module _ (core : Core) (step : Step) (a : Acts core step) (index : ℕ) (settled
     not-removed : ¬ IsRemoved Was index
     not-removed removed =
         let from = has-seat location_scope (λ k v. refl) core removed.0 (λ v. Removes v.call.task index) removed.1 in
-        elim (cases_eq from.seat step.seat) [
-          | inl same ↦
-              let one : step.view ≡ from.view = at_one core.views step.seat step.view from.view a.at (subst (λ (k : ℕ). IsViewAt core k from.view) same from.at) in
-              under (λ t. ¬ Removes (call_by_task t step.view.call).task index) (λ no. no) (λ t h. under (λ t. ¬ Removes t index) (λ no. no) (λ t no. no) h)
-              (subst (λ (v : View). Removes (call_on_places v.call).task index) (sym one) from.holds)
-          | inr apart ↦ others-else kind core step index call a o from.seat removed.0 from.view apart from.at from.pass (removes-handled from.view.call index from.holds)
-        ]
+        nobody-does kind core step index call a o (λ t. Removes t index) (λ t. removes-handles t index) (under (λ t. ¬ Removes t index) (λ no. no) (λ t no. no)) from.seat removed.0 from.view from.at from.pass
+        (seen-task (λ t. Removes t index) (λ t calm h. idle-unhandled t index calm (removes-handles t index h)) from.view.call from.holds)
 
     out-nowhere : y.r.phase ≡ Out → (n k : ℕ) → ¬ IsLocation Was index n k
     out-nowhere out n k location =
@@ -132,12 +127,6 @@ module _ (core : Core) (step : Step) (a : Acts core step) (index : ℕ) (settled
 
     pub ready-unheld : y.r.phase ≢ Held
     ready-unheld held = elim (y.phase) [ inl t ↦ in_held (sym t.0 ∙ held) | inr out ↦ out_held (sym out ∙ held) ]
-      where
-        in_held : In ≡ Held → ⊥
-        in_held e = absurd cc
-
-        out_held : Out ≡ Held → ⊥
-        out_held e = absurd cc
 
     -- what is said of the call before the step
     pub ready-placed : PassIsPlaced nodes Was (record { task = Moving index y.target; loads = y.loads; stores = y.stored }) (SeenUpdate kind core step)
@@ -215,9 +204,6 @@ module _ (core : Core) (step : Step) (a : Acts core step) (index : ℕ) (settled
                     elim (word-now (3 + p)) [ inl e ↦ subst (λ (v : ℕ). v ≤ Is.word (Bound b j (3 + p))) (sym e) one.1 | inr t ↦ subst (λ (v : ℕ). v ≤ Is.word (Bound b j (3 + p))) (sym (t.1 ∙ (first ∙ ap (sides_of y.target) (sym t.0)))) two.1 ],
                   ),
             )
-          where
-            out_in : Out ≡ In → ⊥
-            out_in e = absurd cc
 
         -- so of the laws of trees what they say of the own pass is left
         pub box-turns : ((i : ℕ) → i ≢ index → record_at (scene_of (After kind core step)) i ≡ record_at (scene_of core) i)

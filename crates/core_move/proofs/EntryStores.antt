@@ -32,7 +32,7 @@ use Rattle.core_state.specs.Invariants.{Invariants}
 use Rattle.core_state.proofs.Lookups.{at_one}
 use Rattle.core_state.proofs.Steps.{word-step}
 use Rattle.core_guard.proofs.Cleared.{IsGone, ClearsEntries, none-kept, children_in, child-sight, child-law, child-where, child-clears, TreesSound-cleared, WalksLead-cleared, ReadersCounted-cleared}
-use Rattle.core_guard.proofs.ClearedPlaces.{End, ClearsPlace, LocationsHold-cleared}
+use Rattle.core_guard.proofs.ClearedPlaces.{End, ClearsPlace, LocationsHold-cleared, taken-forth}
 use Rattle.core_guard.proofs.Holders.{keeps, IsGuarded, guarded}
 use Rattle.core_guard.proofs.Leaving.{Acts, After, Last, idle-unhandled}
 use Rattle.core_guard.proofs.OneUpdate.{second-placed}
@@ -44,7 +44,7 @@ use Rattle.core_guard.proofs.Touched.{IsKept, kept}
 use Rattle.core_guard.proofs.Unowned.{stands-unowned}
 use Rattle.core_move.proofs.Removers.{last-or, more-placed, taken, known-location, removes-on, not_in}
 use Rattle.core_guard.proofs.CallsAgree.{BodiesAgree-beside}
-use Rattle.core_guard.proofs.OnBody.{OnBody, IsOn, others-else, LocksAgree-on, NodesInOnePlace-on}
+use Rattle.core_guard.proofs.OnBody.{OnBody, IsOn, others-else, LocksAgree-on, NodesInOnePlace-on, nobody-does}
 use Rattle.core_state.specs.Bodies.{MovesBody}
 
 -- one store more, of no location
@@ -109,22 +109,8 @@ module _ (core : Core) (step : Step) (a : Acts core step) (asked : MayClearEntry
 
   still-taken : IsTakenOut nodes Later (acting new_call (SeenUpdate clear_entry core step)) i
   still-taken =
-      let t = taken clear_entry core step a i asked.task in
-      record {
-        out = t.out;
-        cleared = λ n k at.
-            let was = t.cleared n k at in (
-              was.0,
-              elim (was.1) [
-                | inl e ↦ inl (none-kept nodes Was c i clears n k e)
-                | inr e ↦ elim (clears n k) [
-                  | inl same ↦ inr (same ∙ e.0, cleared-more step.view.call.stores new_store (ap is_location_store asked.names) e.1, uncleared n k (same ∙ e.0) e.2)
-                  | inr gone ↦ inl gone.none
-                ]
-              ],
-            );
-        live = t.live;
-      }
+      taken-forth clear_entry core step a i c clears i (acting step.view.call (SeenUpdate clear_entry core step)) (acting new_call (SeenUpdate clear_entry core step))
+      (λ n k entry none old. (cleared-more step.view.call.stores new_store (ap is_location_store asked.names) none, uncleared n k entry old)) (taken clear_entry core step a i asked.task)
 
   own-after : PassIsPlaced nodes Later (call_on_places (Last clear_entry core step).call) (SeenUpdate clear_entry core step)
   own-after =
@@ -152,13 +138,7 @@ module _ (core : Core) (step : Step) (a : Acts core step) (asked : MayClearEntry
 
   -- nobody places it
   unplaced : (seat number : ℕ) (view : View) → IsViewAt core seat view → IsPass view number → ¬ IsPlacing view.call.task i
-  unplaced seat number view found own places =
-      elim (cases_eq seat step.seat) [
-        | inl same ↦
-            let one : step.view ≡ view = at_one core.views step.seat step.view view a.at (subst (λ (k : ℕ). IsViewAt core k view) same found) in
-            subst (λ (t : Task). IsPlacing t i) (ap (λ (v : View). v.call.task) (sym one) ∙ asked.task) places
-        | inr apart ↦ others-else clear_entry core step i new_call a o seat number view apart found own (places-handles view.call.task i places)
-      ]
+  unplaced = nobody-does clear_entry core step i new_call a o (λ t. IsPlacing t i) (λ t. places-handles t i) (λ h. subst (λ (t : Task). IsPlacing t i) asked.task h)
 
   abbrev HasDone : ℕ → View → Rebuild → Type 0
   HasDone number view r = (noted : Noted) (n k : ℕ) → Contains r.noted noted → noted.index ≡ i → IsGone nodes (λ n k. word_of core (Child n k)) c i n k → noted.place ≡ place n k → nodes.home n ≡ made number noted.layer → IsDone view r i

@@ -21,33 +21,33 @@ use Rattle.core_state.specs.Kind.{Step, learned, after_step}
 use Rattle.core_state.specs.Removing.{HasClearedEntries, MayClearLocation, the_first, the_second, clear_location, location_cleared}
 use Rattle.core_state.specs.Moving.{with_store}
 use Rattle.core_state.specs.Guards.{KeepsGuards}
-use Rattle.core_state.specs.Encoding.{body_child}
+use Rattle.core_state.specs.Encoding.{body_child, place}
 use Rattle.core_state.specs.Nodes.{Nodes}
-use Rattle.core_state.specs.Parts.{call_by_task, call_on_places}
+use Rattle.core_state.specs.Parts.{call_on_places}
 use Rattle.core_state.specs.Scope.{Sight, sight}
 use Rattle.core_state.specs.Bodies.{phase_by, phase_by_slot, MovesBody}
 use Rattle.core_state.specs.BodiesAgree.{body_scope}
 use Rattle.core_state.specs.Updates.{IsPlacing}
-use Rattle.core_state.specs.LocationsHold.{location_scope, IsLocation, IsTakenOut, Removes, IsRemoved, IsSecond, IsSecondFor, is_location_store}
+use Rattle.core_state.specs.LocationsHold.{location_scope, IsLocation, IsTakenOut, Removes, IsRemoved, IsSecond, is_location_store}
 use Rattle.core_state.specs.Invariants.{Invariants}
 use Rattle.core_state.specs.Space.{IsTarget}
 use Rattle.core_state.proofs.Beginning.{body_record, record_body}
-use Rattle.core_state.proofs.Steps.{view-step, word-step, word-step-other}
+use Rattle.core_state.proofs.Steps.{word-step, word-step-other}
 use Rattle.core_guard.proofs.BodyAnew.{turn-leaves, No_new, Invariants-turned}
-use Rattle.core_guard.proofs.BodyTouch.{body_of, no_place}
+use Rattle.core_guard.proofs.BodyTouch.{no_place}
 use Rattle.core_guard.proofs.CoverLeft.{IsOff, off_trees}
 use Rattle.core_guard.proofs.Holders.{IsGuarded, guarded}
-use Rattle.core_guard.proofs.Leaving.{Acts, After, Last, Leaves, idle-unhandled, scene-plain}
+use Rattle.core_guard.proofs.Leaving.{Acts, After, Last, Leaves, idle-unhandled, scene-plain, body_of, out_in}
 use Rattle.core_guard.proofs.PlacesLeft.{SeenUpdate, IsAnew, body_anew}
-use Rattle.core_guard.proofs.PlacesStay.{BodyIsPlaced, PassIsPlaced, acting, seen-task, places-handles, update-forth, planned-forth, begun-placed}
+use Rattle.core_guard.proofs.PlacesStay.{BodyIsPlaced, PassIsPlaced, acting, begun-placed, task-seen, removes-handles, second-forth}
 use Rattle.core_guard.proofs.Recalled.{Recalls, recalled, task-is}
 use Rattle.core_guard.proofs.Scenes.{none_here}
-use Rattle.core_guard.proofs.Seats.{seen_of, seat-has}
 use Rattle.core_guard.proofs.Touched.{IsKept, kept}
 use Rattle.core_move.proofs.Removers.{with_more, more-placed, taken, body_out, first-known, location-known, removes-on, not-held, not_in, known-stripe}
 use Rattle.core_guard.proofs.CallsAgree.{BodiesAgree-beside}
 use Rattle.core_guard.proofs.OnBody.{OnBody, IsOn, others-else}
 use Rattle.core_guard.proofs.LivesGuarded.{IsStripeWord, stripe-guarded}
+use Rattle.core_guard.proofs.InPlace.{removed-now, alike-of}
 
 -- which location it is: the first one, after which the pass goes on, or the second one, once the first is 0
 data Which (core : Core) (step : Step) (i : ℕ) (call : Call) : Type 0 where
@@ -57,10 +57,7 @@ data Which (core : Core) (step : Step) (i : ℕ) (call : Call) : Type 0 where
 -- a phase word that says that a body is out is 0
 out-zero : (word slot : ℕ) → phase_by word slot ≡ Some Out → word ≡ 0
 out-zero zero slot e = refl
-out-zero (suc zero) slot e = absurd (in_out (same_Some In Out e))
-  where
-    in_out : In ≡ Out → ⊥
-    in_out e = absurd cc
+out-zero (suc zero) slot e = absurd (out_in (sym (same_Some In Out e)))
 out-zero (suc (suc t)) slot e = absurd (go slot e)
   where
     some_out : (p : BodyPhase) → p ≢ Out → Some p ≢ Some Out
@@ -111,14 +108,14 @@ module _ (core : Core) (step : Step) (a : Acts core step) (i : ℕ) (asked : Has
   word-same : (name : Name) → is_location_store name ≡ false → word_of (After clear_location core step) name ≡ word_of core name
   word-same name other = word-step-other clear_location core step name (λ same. false≢true (sym other ∙ (ap is_location_store same ∙ is_location)))
 
-  stored : word_of (After clear_location core step) step.name ≡ 0
-  stored = word-step clear_location core step ∙ none
+  stored : (name : Name) → step.name ≡ name → word_of (After clear_location core step) name ≡ 0
+  stored name names = ap (word_of (After clear_location core step)) (sym names) ∙ (word-step clear_location core step ∙ none)
 
   -- the first location is 0 then, and the second one is, or is as before
   first-none : word_of (After clear_location core step) (LocA i) ≡ 0
   first-none =
       elim which [
-        | which_first names same ↦ ap (λ (n : Name). word_of (After clear_location core step) n) (sym names) ∙ stored
+        | which_first names same ↦ stored (LocA i) names
         | which_second names first same ↦ word-step-other clear_location core step (LocA i) (λ e. first_second (e ∙ names)) ∙ first
       ]
     where
@@ -129,18 +126,22 @@ module _ (core : Core) (step : Step) (a : Acts core step) (i : ℕ) (asked : Has
   second-or =
       elim which [
         | which_first names same ↦ inl (word-step-other clear_location core step (LocB i) (λ e. second_first (e ∙ names)))
-        | which_second names first same ↦ inr (ap (λ (n : Name). word_of (After clear_location core step) n) (sym names) ∙ stored)
+        | which_second names first same ↦ inr (stored (LocB i) names)
       ]
     where
       second_first : LocB i ≡ LocA i → ⊥
       second_first e = absurd cc
+
+  -- so it leads nowhere
+  first-off : (n k : ℕ) → word_of (After clear_location core step) (LocA i) ≢ place n k
+  first-off n k = no_place clear_location core step (word_of (After clear_location core step) (LocA i)) n k first-none
 
   -- a location then was one
   location-back : (n k : ℕ) → IsLocation Is i n k → IsLocation Was i n k
   location-back n k h = (
     h.0,
     elim (h.1) [
-      | inl e ↦ absurd (no_place clear_location core step (word_of (After clear_location core step) (LocA i)) n k first-none e)
+      | inl e ↦ absurd (first-off n k e)
       | inr e ↦ elim second-or [ inl same ↦ inr (sym same ∙ e) | inr zero_now ↦ absurd (no_place clear_location core step (word_of (After clear_location core step) (LocB i)) n k zero_now e) ]
     ],
   )
@@ -149,6 +150,9 @@ module _ (core : Core) (step : Step) (a : Acts core step) (i : ℕ) (asked : Has
 
   record-same : (j : ℕ) → record_at (scene_of (After clear_location core step)) j ≡ record_at (scene_of core) j
   record-same j = scene-plain clear_location core step (λ value. refl) j
+
+  live : (r : Record) × (record_at (scene_of core) i ≡ Some r) × (r.phase ≡ Out)
+  live = body_record (record_at (scene_of core) i) (λ r. r.phase ≡ Out) (body_out clear_location core step a i asked.task)
 
   out-after : HasBody (scene_of (After clear_location core step)) i (λ r. r.phase ≡ Out)
   out-after = subst (λ (o : Option Record). IsSomeAnd o (λ r. r.phase ≡ Out)) (sym (record-same i)) (body_out clear_location core step a i asked.task)
@@ -173,7 +177,7 @@ module _ (core : Core) (step : Step) (a : Acts core step) (i : ℕ) (asked : Has
     cleared = λ n k at.
         let old = location-back n k at in
         (((taken clear_location core step a i asked.task).cleared n k old).0, inl (word-same (Child n k) refl ∙ empty n k old));
-    live = λ n k below e. absurd (no_place clear_location core step (word_of (After clear_location core step) (LocA i)) n k first-none e);
+    live = λ n k below e. absurd (first-off n k e);
   }
 
   own-after : PassIsPlaced nodes Is (call_on_places call) (SeenUpdate clear_location core step)
@@ -191,13 +195,9 @@ module _ (core : Core) (step : Step) (a : Acts core step) (i : ℕ) (asked : Has
   second-after other =
       elim second-or [
         | inl same ↦
-            let h = a.laws.locations.second i (λ none_now. other (same ∙ none_now)) in (
-              h.0,
-              update-forth clear_location core step a nodes (λ n. ⊥) leaves h.0 (IsSecondFor Was i) (IsSecondFor Is i)
-                  (λ r t.
-                  let noted = t.3 in
-                  (t.0, t.1, t.2, (noted.0, noted.1, noted.2, (same ∙ noted.3.0, subst (λ (o : Option Record). IsSomeAnd o (λ q. (q.generation ≡ noted.0.generation) × (q.layer ≡ noted.0.layer))) (sym (record-same noted.0.index)) noted.3.1)))) h.1,
-            )
+            second-forth clear_location core step a nodes (λ n. ⊥) leaves i same
+            (alike-of (record_at (scene_of core) i) (record_at (scene_of (After clear_location core step)) i) live.0 live.0 live.1 (record-same i ∙ live.1) refl refl)
+            (a.laws.locations.second i (λ none_now. other (same ∙ none_now)))
         | inr zero_now ↦ absurd (other zero_now)
       ]
 
@@ -206,19 +206,10 @@ module _ (core : Core) (step : Step) (a : Acts core step) (i : ℕ) (asked : Has
   nowhere left =
       elim which [
         | which_first names same ↦
-            let now : (Last clear_location core step).call.task ≡ Removing i = task-is clear_location core step call recalls ∙ (ap (λ (d : Call). d.task) same ∙ asked.task) in
-            absurd (left (
-              step.number,
-              seat-has location_scope (λ k v. refl) (After clear_location core step) step.number (λ view. Removes view.call.task i)
-                  (record {
-                    seat = step.seat;
-                    view = Last clear_location core step;
-                    at = view-step clear_location core step a.at;
-                    pass = a.pass;
-                    holds = subst (λ (t : Task). Removes (call_by_task t (Last clear_location core step).call).task i) (sym now) (subst (λ (t : Task). Removes t i) (sym now) refl);
-                  }),
-            ))
-        | which_second names first same ↦ (first-none, ap (λ (n : Name). word_of (After clear_location core step) n) (sym names) ∙ stored)
+            let now = task-is clear_location core step call recalls ∙ (ap (λ (d : Call). d.task) same ∙ asked.task) in
+            absurd (left (removed-now clear_location core step i a location_scope (λ k v. refl) (task-seen (λ t. Removes t i) (λ t calm h. idle-unhandled t i calm (removes-handles t i h)) (Last clear_location core step).call)
+            (subst (λ (t : Task). Removes t i) (sym now) refl)))
+        | which_second names first same ↦ (first-none, stored (LocB i) names)
       ]
 
   placed : BodyIsPlaced nodes Is i
@@ -239,32 +230,25 @@ module _ (core : Core) (step : Step) (a : Acts core step) (i : ℕ) (asked : Has
     alone = others-else clear_location core step i call a o;
     entry = λ n k published below entry location. absurd (unentered n k location entry);
     second = λ n k stands below entry e. absurd (unentered n k (below, inr e) entry);
-    planned = λ r noted some among same h.
-        planned-forth clear_location core step a nodes (λ n. ⊥) leaves step.number (seen_of location_scope step.number step.view) (seen_of location_scope step.number (Last clear_location core step)) r noted (
-          λ p. absurd (subst (λ (t : Task). IsPlacing t noted.index) asked.task (unseen-task step.view.call noted.index p)),
-          λ p. absurd (subst (λ (t : Task). ¬ IsPlacing t noted.index) (sym (task-is clear_location core step call recalls)) (by-task (λ t. ¬ IsPlacing t noted.index) (λ no. no) (λ no. no)) (unseen-task (Last clear_location core step).call noted.index p)),
-        )
-        (λ n k stands below entry e.
-        absurd (unentered n k (below, inr (ap (λ (j : ℕ). word_of core (LocB j)) (sym same) ∙ e)) (entry ∙ ap body_child same))) h;
+    places = (
+      λ h. absurd (subst (λ (t : Task). IsPlacing t i) asked.task h),
+      λ h. absurd (subst (λ (t : Task). ¬ IsPlacing t i) (sym (task-is clear_location core step call recalls)) (by-task (λ t. ¬ IsPlacing t i) (λ no. no) (λ no. no)) h),
+    );
   }
-    where
-      unseen-task : (c : Call) (j : ℕ) → IsPlacing (call_on_places c).task j → IsPlacing c.task j
-      unseen-task c j = seen-task (λ t. IsPlacing t j) (λ t calm p. idle-unhandled t j calm (places-handles t j p)) c
 
   -- its first location leads nowhere
   body-off : IsOff clear_location core step nodes nodes i
   body-off =
-      let live = body_record (record_at (scene_of core) i) (λ r. r.phase ≡ Out) (body_out clear_location core step a i asked.task) in
       let words = a.laws.bodies.live i live.0 live.1 in
       let phase : word_of core (Phase i) ≡ 0 = out-zero (word_of core (Phase i)) _ (words.phase ∙ ap Some live.2) in
       record {
         covered = record {
           covered = λ r e inside. absurd (unseen r e inside);
-          replaced = λ n k number name below location. absurd (no_place clear_location core step (word_of (After clear_location core step) (LocA i)) n k first-none location);
+          replaced = λ n k number name below location. absurd (first-off n k location);
         };
-        off = λ n k below location. absurd (no_place clear_location core step (word_of (After clear_location core step) (LocA i)) n k first-none location);
+        off = λ n k below location. absurd (first-off n k location);
         unjoined = λ l t root has joins. let same = word-same (Phase i) refl in absurd (omega arith);
-        calm = λ p. absurd (subst (λ (t : Task). ¬ IsPlacing t i) (sym (task-is clear_location core step call recalls)) (by-task (λ t. ¬ IsPlacing t i) (λ no. no) (λ no. no)) p);
+        calm = body-new.places.1;
       }
 
   -- ---- all laws
@@ -309,7 +293,7 @@ module _ (core : Core) (step : Step) (a : Acts core step) where
       let recalls = second-recalls i names in
       let which = second-which i names entries first in (
         first-none core step a i entries none no_call recalls which,
-        ap (λ (n : Name). word_of (After clear_location core step) n) (sym names) ∙ stored core step a i entries none no_call recalls which,
+        stored core step a i entries none no_call recalls which (LocB i) names,
         out-after core step a i entries none no_call recalls which,
       )
 
@@ -317,13 +301,14 @@ module _ (core : Core) (step : Step) (a : Acts core step) where
   Invariants-nowhere (the_first i names entries none) = Invariants-cleared core step a i entries none first_call (first-recalls i names) (which_first names refl)
   Invariants-nowhere (the_second i names entries first none) = Invariants-cleared core step a i entries none no_call (second-recalls i names) (second-which i names entries first)
 
-  guarded-nowhere : (i : ℕ) → HasClearedEntries step.view i → IsStripeWord i step.name → KeepsGuards clear_location core step
-  guarded-nowhere i entries of =
-      stripe-guarded clear_location core step a i (known-stripe clear_location core step a i entries.task) (not-held clear_location core step a i entries.task) of
-
   KeepsGuards-nowhere : MayClearLocation step.view step.name step.first step.second → KeepsGuards clear_location core step
-  KeepsGuards-nowhere (the_first i names entries none) = guarded-nowhere i entries (subst (IsStripeWord i) (sym names) refl)
-  KeepsGuards-nowhere (the_second i names entries first none) = guarded-nowhere i entries (subst (IsStripeWord i) (sym names) refl)
+  KeepsGuards-nowhere asked = elim asked [
+    | the_first i names entries none ↦ free i entries (subst (IsStripeWord i) (sym names) refl)
+    | the_second i names entries first none ↦ free i entries (subst (IsStripeWord i) (sym names) refl)
+  ]
+    where
+      free : (i : ℕ) → HasClearedEntries step.view i → IsStripeWord i step.name → KeepsGuards clear_location core step
+      free i entries of = stripe-guarded clear_location core step a i (known-stripe clear_location core step a i entries.task) (not-held clear_location core step a i entries.task) of
 
 pub Invariants-clear_location : IsKept MayClearLocation clear_location
 Invariants-clear_location = kept MayClearLocation clear_location (λ core step a asked. Invariants-nowhere core step a asked)

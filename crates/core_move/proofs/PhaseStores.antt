@@ -26,10 +26,9 @@ use Rattle.core_state.proofs.Opening.{none_in}
 use Rattle.core_state.proofs.Steps.{word-step-other, word-step}
 use Rattle.core_guard.proofs.BodyAnew.{TurnsBody, Invariants-turned}
 use Rattle.core_guard.proofs.BodiesStep.{whole-back}
-use Rattle.core_guard.proofs.BodyTouch.{body_of}
 use Rattle.core_guard.proofs.CoverLeft.{in_place}
 use Rattle.core_guard.proofs.Holders.{IsGuarded, guarded}
-use Rattle.core_guard.proofs.Leaving.{Acts, After, Last, held-once}
+use Rattle.core_guard.proofs.Leaving.{Acts, After, Last, held-once, body_of, in_held, out_in}
 use Rattle.core_guard.proofs.PhaseAgree.{is_phase}
 use Rattle.core_guard.proofs.PlacesLeft.{SeenUpdate, body_in_place}
 use Rattle.core_guard.proofs.PlacesStay.{acting, begun-placed}
@@ -81,9 +80,6 @@ module _ (core : Core) (step : Step) (a : Acts core step) (asked : MayRemove ste
 
   unheld : HasBody (scene_of core) i (λ r. r.phase ≢ Held)
   unheld = record_body (record_at (scene_of core) i) (λ r. r.phase ≢ Held) body.0 body.1 (λ held. in_held (sym body.2 ∙ held))
-    where
-      in_held : In ≡ Held → ⊥
-      in_held e = absurd cc
 
   abbrev past : List Made
   past = history core.log ++ record { pass = step.number; entry = Remove i } ∷ []
@@ -96,9 +92,6 @@ module _ (core : Core) (step : Step) (a : Acts core step) (asked : MayRemove ste
 
   here-after : record_at (scene_of (After remove core step)) i ≡ Some (in_phase Out body.0)
   here-after = record-after remove core step i past (in_phase Out body.0) changes goes_on
-
-  out_in : Out ≡ In → ⊥
-  out_in e = absurd cc
 
   -- ---- words
 

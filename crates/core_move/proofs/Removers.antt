@@ -23,7 +23,7 @@ use Rattle.core_state.specs.BodiesAgree.{body_scope, IsUnderStripe}
 use Rattle.core_state.specs.LocationsHold.{location_scope, IsLocation, GivesBox, ClimbsFrom, IsUnheld, Removes, IsTakenOut}
 use Rattle.core_state.proofs.Opening.{only}
 use Rattle.core_guard.proofs.BodiesStep.{known-now}
-use Rattle.core_guard.proofs.Leaving.{Acts, some_and_map}
+use Rattle.core_guard.proofs.Leaving.{Acts, some_and_map, out_held, out_in}
 use Rattle.core_guard.proofs.OutStill.{out-still}
 use Rattle.core_guard.proofs.PlacesLeft.{SeenUpdate}
 use Rattle.core_guard.proofs.PlacesStay.{PassIsPlaced, acting, pass-placed}
@@ -67,16 +67,10 @@ module _ (kind : Kind) (core : Core) (step : Step) (a : Acts core step) (i : ℕ
 
   pub not-held : HasBody (scene_of core) i (λ r. r.phase ≢ Held)
   not-held = some_and_map (record_at (scene_of core) i) _ _ (λ r out held. absurd (out_held (sym out ∙ held))) body_out
-    where
-      out_held : Out ≡ Held → ⊥
-      out_held e = absurd cc
 
   pub not_in : ¬ HasBody (scene_of core) i (λ r. r.phase ≡ In)
   not_in inside = go (record_at (scene_of core) i) body_out inside
     where
-      out_in : Out ≡ In → ⊥
-      out_in e = absurd cc
-
       go : (o : Option Record) → IsSomeAnd o (λ x. x.phase ≡ Out) → ¬ IsSomeAnd o (λ x. x.phase ≡ In)
       go None h k = h
       go (Some x) h k = out_in (sym h ∙ k)

@@ -2,12 +2,12 @@
 -- layer, or for the new tree, since the move has come to it.
 use Rattle.std.proofs.Common.{◌≡◌, ◌≢◌, ◌⊎◌, ℕ, ◌<◌, List, [], ◌∷◌, ◌++◌, true, length, Option, Some, None, refl, ap, sym, ◌∙◌, subst, inl, inr, arith, ◌↔◌}
 use Rattle.std.specs.Prelude.{IsSomeAnd, IfSome, option_map}
-use Rattle.std.proofs.lemmas.Option.{same_Some}
+use Rattle.std.proofs.lemmas.Option.{same_Some, none-some}
 use Rattle.scene_model.specs.declared.body_view.Phase.TheVariants.{Held, In}
 use Rattle.scene_model.specs.Scene.{Record, record_at}
 use Rattle.scene_model.specs.Step.{HasBody}
 use Rattle.word_map.specs.declared.name.Name.{Name}
-use Rattle.word_map.specs.declared.name.Name.TheVariants.{State, BoxWord, Bound, Layer, Phase, Reader, LocA, LocB}
+use Rattle.word_map.specs.declared.name.Name.TheVariants.{Bound, Reader}
 use Rattle.word_map.specs.Names.{IsName}
 use Rattle.core_state.specs.declared.item.Load.{Load}
 use Rattle.core_state.specs.declared.item.Store.{Store}
@@ -39,7 +39,7 @@ use Rattle.core_state.proofs.Beginning.{body_record, record_body}
 use Rattle.core_state.proofs.Steps.{word-step, word-step-other, view-step}
 use Rattle.core_guard.proofs.Holders.{keeps, IsGuarded, guarded}
 use Rattle.core_guard.proofs.Touched.{IsKept, kept}
-use Rattle.core_guard.proofs.Leaving.{Acts, After, Last, Stays, as_before-same, Leaves, LeadsWithin, sound-leads, scene-plain, above-forth, above-stands}
+use Rattle.core_guard.proofs.Leaving.{Acts, After, Last, Stays, Leaves, LeadsWithin, sound-leads, scene-plain, above-forth, above-stands, stays-by, body_of, in_held}
 use Rattle.core_guard.proofs.PlacesLeft.{SeenUpdate, LocationsHold-stays}
 use Rattle.core_guard.proofs.PlacesStay.{PassIsPlaced, encloses-forth, location-back}
 use Rattle.core_guard.proofs.ReadersLeft.{TightSide, climb-forth, ReadersCounted-leaves, counts-stay}
@@ -47,7 +47,7 @@ use Rattle.core_guard.proofs.Seats.{each-seats, seat-has}
 use Rattle.core_guard.proofs.Settled.{StandsStill, settled-still}
 use Rattle.core_guard.proofs.Owners.{same-view}
 use Rattle.core_guard.proofs.Unowned.{stands-unowned}
-use Rattle.core_guard.proofs.WidenedBound.{WidensBound, as_it_was, is_widened, side-after, side-widens, widened-leaves, TreesSound-widens, WalksLead-widens}
+use Rattle.core_guard.proofs.WidenedBound.{WidensBound, side-widens, widened-leaves, TreesSound-widens, WalksLead-widens, side-or}
 use Rattle.core_move.proofs.Standing.{IsInLayerAt, in_tree, in_new_tree, in-layer}
 use Rattle.core_move.proofs.MoveSteps.{under-target, IsUnderWay, has_begun, begins_now, above-home, under_way-placed, stores-placed, under-so}
 use Rattle.core_move.proofs.Widening.{IsWider, min-wider, max-wider, widening, new_store, Goes, goes, box-more}
@@ -108,10 +108,7 @@ module _ (operation : Operation) (index : ℕ) (core : Core) (step : Step) (a : 
   body = body_record (record_at (scene_of core) index) (λ r. r.phase ≡ In) (subst (λ (o : Option Record). IsSomeAnd o (λ r. r.phase ≡ In)) (sym known.body) may.inside)
 
   unheld : HasBody (scene_of core) index (λ r. r.phase ≢ Held)
-  unheld = record_body (record_at (scene_of core) index) (λ r. r.phase ≢ Held) body.0 body.1 (λ held. apart (sym body.2 ∙ held))
-    where
-      apart : In ≡ Held → ⊥
-      apart e = absurd cc
+  unheld = record_body (record_at (scene_of core) index) (λ r. r.phase ≢ Held) body.0 body.1 (λ held. in_held (sym body.2 ∙ held))
 
   location : (n k : ℕ) → IsKnownLocation step.view index n k → IsLocation Was index n k
   location n k h = (h.0, elim (h.1) [ inl e ↦ inl (known.loc_a ∙ e) | inr e ↦ inr (known.loc_b ∙ e) ])
@@ -172,21 +169,10 @@ module _ (operation : Operation) (index : ℕ) (core : Core) (step : Step) (a : 
 
   -- all bodies stay
   stays : (i : ℕ) → Stays widens core step i
-  stays i = record {
-    body = as_before-same _ _ (same i);
-    loc_a = plain (LocA i) (λ n k q e. absurd cc);
-    loc_b = plain (LocB i) (λ n k q e. absurd cc);
-    phase = plain (Phase i) (λ n k q e. absurd cc);
-    box = λ q. plain (BoxWord i q) (λ n k p e. absurd cc);
-    state = plain (State i) (λ n k q e. absurd cc);
-    layer = plain (Layer i) (λ n k q e. absurd cc);
-    removes = none (λ t. Removes t i) (λ no. no) (λ t no. no);
-    places = none (λ t. IsPlacing t i) (λ no. no) (λ t no. no);
-  }
+  stays i =
+      stays-by widens core step i (same i) (λ name of. word-step-other widens core step name (λ e. none-some i (sym (ap body_of (e ∙ names)) ∙ of))) (none (λ t. Removes t i) (λ no. no) (λ t no. no))
+      (none (λ t. IsPlacing t i) (λ no. no) (λ t no. no))
     where
-      plain : (name : Name) → ((n k q : ℕ) → name ≢ Bound n k q) → word_of (After widens core step) name ≡ word_of core name
-      plain name other = word-step-other widens core step name (λ e. other node child side (e ∙ names))
-
       none : (P : Task → Type 0) → ¬ P Nothing → ((t : List ℕ) → ¬ P (Moving index t)) → P step.view.call.task ↔ P (Last widens core step).call.task
       none P idle moves = (
         λ h. absurd (under-so (λ t. ¬ P t) index step.view.call g.target g.loads g.stored idle moves g.under h),
@@ -255,34 +241,30 @@ module _ (operation : Operation) (index : ℕ) (core : Core) (step : Step) (a : 
   where_up = in-layer core nodes a.laws.locations index body.0 body.1 body.2 up.0 up.1 up.2
 
   -- so it counts for the layer of a tree that others may reach
-  counts-live : (n l : ℕ) → n ≡ node → IsLive (nodes.home n) → IsOfLayer l (nodes.home n) → IsInLayer Now l side step.first
-  counts-live n l one live layer =
-      let there : nodes.home n ≡ nodes.home up.0 = ap nodes.home one ∙ home in
+  counts-live : (l : ℕ) → IsLive (nodes.home node) → IsOfLayer l (nodes.home node) → IsInLayer Now l side step.first
+  counts-live l live layer =
       let of : body.0.layer ≡ l = elim where_up [
-        | in_tree still is ↦ layer-once body.0.layer l (nodes.home up.0) still is (subst (IsOfLayer l) there layer)
-        | in_new_tree p ↦ absurd (subst IsLive (there ∙ p.home) live)
+        | in_tree still is ↦ layer-once body.0.layer l (nodes.home up.0) still is (subst (IsOfLayer l) home layer)
+        | in_new_tree p ↦ absurd (subst IsLive (home ∙ p.home) live)
       ] in
       inr (index, coming, record_body (record_at (scene_of (After widens core step)) index) (λ r. r.layer ≡ l) body.0 (same index ∙ body.1) of)
 
   -- and in a new tree for the body that is planned below
-  counts-made : (seat number : ℕ) (view : View) → IsViewAt core seat view → IsPass view number → (r : Rebuild) → view.rebuild ≡ Some r → (n k q l : ℕ) → nodes.home n ≡ made number l → n ≡ node → k ≡ child → q ≡ side
-      → TightSide Now (update_on_readers r) n k q step.first
-  counts-made seat number view at pass r is n k q l made_for one two three =
-      let there : nodes.home up.0 ≡ made number l = sym home ∙ (ap nodes.home (sym one) ∙ made_for) in
+  counts-made : (seat number : ℕ) (view : View) → IsViewAt core seat view → IsPass view number → (r : Rebuild) → view.rebuild ≡ Some r → (l : ℕ) → nodes.home node ≡ made number l → TightSide Now (update_on_readers r) node child side step.first
+  counts-made seat number view at pass r is l made_for =
       elim where_up [
-        | in_tree still layer ↦ absurd (subst IsLive there still)
+        | in_tree still layer ↦ absurd (subst IsLive (sym home ∙ made_for) still)
         | in_new_tree p ↦
-            let number_is : p.number ≡ number = (made-once p.number number body.0.layer l (sym p.home ∙ there)).0 in
+            let number_is : p.number ≡ number = (made-once p.number number body.0.layer l (sym p.home ∙ (sym home ∙ made_for))).0 in
             let view_is : p.view ≡ view = same-view core a.formed p.seat seat number p.view view p.at at (p.pass ∙ ap Some number_is) pass in
             let t = subst (λ (x : Option Rebuild). IsSomeAnd x (λ r. IsNoted r index (λ noted. (noted.place ≡ place up.0 up.1) × IsSameBody Was noted))) (ap (λ (v : View). v.rebuild) view_is ∙ is) p.noted in
-            let above = above-forth widens core step a nodes nodes none m Was.word Now.word leads m.parent up.0 up.1 node child (stands up.0 up.1 up.2) up.3 in
-            let above_n : Above Now.word up.0 up.1 n k = subst (λ (x : ℕ). Above Now.word up.0 up.1 x k) (sym one) (subst (λ (x : ℕ). Above Now.word up.0 up.1 node x) (sym two) above) in (
+            let above = above-forth widens core step a nodes nodes none m Was.word Now.word leads m.parent up.0 up.1 node child (stands up.0 up.1 up.2) up.3 in (
               t.0,
               t.1,
-              (up.0, up.1, up.2.0, t.3.0, above_n),
+              (up.0, up.1, up.2.0, t.3.0, above),
               inr (
                 subst (λ (x : Option Record). IsSomeAnd x (λ r. (r.generation ≡ t.0.generation) × (r.layer ≡ t.0.layer))) (sym (same t.0.index)) t.3.1,
-                subst (λ (x : ℕ). IsComing Now x q step.first) (sym t.2) (subst (λ (x : ℕ). IsComing Now index x step.first) (sym three) coming),
+                subst (λ (x : ℕ). IsComing Now x side step.first) (sym t.2) coming,
               ),
             )
       ]
@@ -305,13 +287,7 @@ module _ (operation : Operation) (index : ℕ) (core : Core) (step : Step) (a : 
       inl (subst (λ (c : Call). IsTarget c.task i q value) (sym same-call) (t.0, old.0, old.1 ∙ t.2)))
       (subst (λ (c : Call). ClimbsInTrees nodes Now c.task) (sym same-call) climbs)
       (λ n k q l live layer.
-      elim (side-after widens core step a node child side w n k q) [
-        | as_it_was e ↦ inl e
-        | is_widened one two three old new ↦ elim (wider.one) [
-          | inl found ↦ inl (new ∙ (found ∙ sym old))
-          | inr first ↦ inr (subst (λ (x : ℕ). IsInLayer Now l q x) (sym (new ∙ first)) (subst (λ (x : ℕ). IsInLayer Now l x step.first) (sym three) (counts-live n l one live layer)))
-        ]
-      ])
+      elim (side-or widens core step a node child side w (λ x j p v. IsLive (nodes.home x) → IsOfLayer l (nodes.home x) → IsInLayer Now l p v) (counts-live l) n k q) [ inl e ↦ inl e | inr counts ↦ inr (counts live layer) ])
       (each-seats reader_scope (λ k v. refl) core (λ number v. IfSome v.rebuild (Fresh number)) (λ seat number view at pass. fresh-at seat number view at pass view.rebuild refl)))
       (record { reader = λ p. word-step-other widens core step (Reader p) (λ e. reader p (e ∙ names)); walk = ap (λ (v : View). v.walk) last })
     where
@@ -324,12 +300,9 @@ module _ (operation : Operation) (index : ℕ) (core : Core) (step : Step) (a : 
       fresh-at : (seat number : ℕ) (view : View) → IsViewAt core seat view → IsPass view number → (x : Option Rebuild) → view.rebuild ≡ x → IfSome (option_map update_on_readers x) (Fresh number)
       fresh-at seat number view at pass None is = tt
       fresh-at seat number view at pass (Some r) is = λ n k q l made_for.
-          elim (side-after widens core step a node child side w n k q) [
-            | as_it_was e ↦ inl e
-            | is_widened one two three old new ↦ elim (wider.one) [
-              | inl found ↦ inl (new ∙ (found ∙ sym old))
-              | inr first ↦ inr (subst (λ (x : ℕ). TightSide Now (update_on_readers r) n k q x) (sym (new ∙ first)) (counts-made seat number view at pass r is n k q l made_for one two three))
-            ]
+          elim (side-or widens core step a node child side w (λ x j p v. nodes.home x ≡ made number l → TightSide Now (update_on_readers r) x j p v) (counts-made seat number view at pass r is l) n k q) [
+            | inl e ↦ inl e
+            | inr counts ↦ inr (counts made_for)
           ]
 
   -- ---- all of them

@@ -55,7 +55,7 @@ module _ (core : Core) (a : Attaching core) (acts : Acts core (step_of core a))
       (becomes core a acts.formed acts.laws acts.guards i) (λ r held e. e) (λ r e. e) body)
 
   keeps : KeepsTargets attach core (step_of core a) acts Later InBatch m
-  keeps = record { targets = λ index q side target. target; bodies = λ seat number view at pass i handled. keeps-layer i }
+  keeps = record { targets = λ index q side target. inl target; bodies = λ seat number view at pass i handled. keeps-layer i }
 
   in-layer : (l q side : ℕ) → IsInLayer Old l q side → IsInLayer Now l q side
   in-layer = layers-kept attach core (step_of core a) acts Later InBatch m keeps

@@ -1,19 +1,11 @@
 -- Steps on batches and on the pool leave the locks of their pass as they were, and its walk.
-use Rattle.std.proofs.Common.{◌≡◌, ℕ, zero, suc, ◌-◌, ◌++◌, [], ◌∷◌, Bool, true, false, cond, eqb, refl}
+use Rattle.std.proofs.Common.{zero, suc, ◌-◌, ◌++◌, [], ◌∷◌, Bool, true, false, cond, eqb, refl}
 use Rattle.std.specs.List.{list_any}
-use Rattle.word_map.specs.declared.name.Name.{Name}
 use Rattle.word_map.specs.declared.name.Name.TheVariants.{Phase, LocA, Slot}
 use Rattle.core_state.specs.declared.view.View.{View}
 use Rattle.core_state.specs.Batches.{new_batch, reserve, mark, place_body, attach, take_back, unmark, let_slot_go}
 use Rattle.core_state.specs.Pool.{node_taken, node_given, store_pool_head}
-use Rattle.core_state.specs.Kind.{Kind}
-
--- a view has the locks and the walk of another
-abbrev pub HasSameLocks : View → View → Type 0
-HasSameLocks view next = (next.locks ≡ view.locks) × (next.walk.is_on ≡ view.walk.is_on)
-
-abbrev pub LeavesLocks : Kind → Type 0
-LeavesLocks kind = (view : View) (name : Name) (found first second : ℕ) → HasSameLocks view (kind.leaves view name found first second)
+use Rattle.core_guard.proofs.LockSteps.{HasSameLocks, LeavesLocks}
 
 one-of : (test : Bool) (view a b : View) → HasSameLocks view a → HasSameLocks view b → HasSameLocks view (cond test a b)
 one-of true view a b h k = h

@@ -39,8 +39,8 @@ use Rattle.core_state.proofs.SameNames.{and_left, and_right}
 use Rattle.core_guard.proofs.Scenes.{live_or_dead, state-tells_live}
 use Rattle.core_guard.proofs.BodiesStep.{sound, known-now, out_phase, BatchPart}
 use Rattle.core_guard.proofs.LockSteps.{LocksAgree-other}
-use Rattle.core_guard.proofs.Leaving.{Acts, lawful, IsHandled, After, Touches}
-use Rattle.core_guard.proofs.BodyTouch.{body_of, touches-body, location-words, record-made, stripe-alone, IsBare, bare-apart}
+use Rattle.core_guard.proofs.Leaving.{Acts, lawful, IsHandled, After, Touches, body_of}
+use Rattle.core_guard.proofs.BodyTouch.{touches-body, location-words, record-made, stripe-alone, IsBare, bare-apart}
 use Rattle.core_guard.proofs.LivesTouch.{out_unseen, out-places}
 use Rattle.core_batch.proofs.Lists.{contains_at, pairs-cons, pairs-none, pairs-at, pairs-append, flat-own, flat-across, flat-pairs}
 use Rattle.core_batch.proofs.Mapped.{AreOtherBodies, own-marks, own-slots, StemsFrom, mapped-part, own-kept, batch-kept, own_batch, other_batch, held-by, marks-after}

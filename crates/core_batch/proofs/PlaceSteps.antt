@@ -26,8 +26,8 @@ use Rattle.core_state.specs.BodiesAgree.{BodiesAgree}
 use Rattle.core_state.specs.LocationsHold.{IsPlannedIn, location_scope}
 use Rattle.core_state.proofs.Steps.{word-step, word-step-other}
 use Rattle.core_guard.proofs.LockSteps.{LocksAgree-other}
-use Rattle.core_guard.proofs.Leaving.{Acts, lawful, IsHandled, IsApart, After, Touches, scene-plain}
-use Rattle.core_guard.proofs.BodyTouch.{body_of, touches-body}
+use Rattle.core_guard.proofs.Leaving.{Acts, lawful, IsHandled, IsApart, After, Touches, scene-plain, body_of}
+use Rattle.core_guard.proofs.BodyTouch.{touches-body}
 use Rattle.core_guard.proofs.Scenes.{none_here}
 use Rattle.core_batch.proofs.Lists.{map_from}
 use Rattle.core_batch.proofs.Mapped.{marks-apart, marked-once, marks-after}

@@ -16,9 +16,9 @@ use Rattle.core_state.specs.NodesInOnePlace.{NodesInOnePlaceIn, node_scope}
 use Rattle.core_state.proofs.Frames.{frame, step-same}
 use Rattle.core_guard.proofs.Leaving.{Acts, lawful}
 use Rattle.core_guard.proofs.ListSteps.{IsAsideWord, Invariants-aside}
-use Rattle.core_guard.proofs.LockSteps.{LocksAgree-other}
+use Rattle.core_guard.proofs.LockSteps.{LocksAgree-other, LeavesLocks}
 use Rattle.core_guard.proofs.Touched.{Invariants-touches, IsKept, kept}
-use Rattle.core_batch.proofs.LocksStay.{LeavesLocks, reserve-still, let_slot_go-still, pool_head-still}
+use Rattle.core_batch.proofs.LocksStay.{reserve-still, let_slot_go-still, pool_head-still}
 use Rattle.core_batch.proofs.FreeBodies.{BodiesAgree-let_slot_go}
 use Rattle.core_batch.proofs.Giving.{NodesInOnePlace-store_pool_head}
 use Rattle.core_batch.proofs.PoolHeads.{pool_later}

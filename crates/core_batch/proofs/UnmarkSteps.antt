@@ -28,8 +28,8 @@ use Rattle.core_state.specs.LocationsHold.{IsPlannedIn, location_scope, is_locat
 use Rattle.core_state.proofs.Beginning.{contains_filter, body_record}
 use Rattle.core_guard.proofs.BodiesStep.{BatchPart}
 use Rattle.core_guard.proofs.LockSteps.{LocksAgree-other}
-use Rattle.core_guard.proofs.Leaving.{Acts, lawful, IsHandled, After, Touches}
-use Rattle.core_guard.proofs.BodyTouch.{body_of, touches-body, record-made, IsBare, bare-apart}
+use Rattle.core_guard.proofs.Leaving.{Acts, lawful, IsHandled, After, Touches, body_of}
+use Rattle.core_guard.proofs.BodyTouch.{touches-body, record-made, IsBare, bare-apart}
 use Rattle.core_batch.proofs.Lists.{filter_from, flat-own, flat-across, flat-pairs}
 use Rattle.core_batch.proofs.Mapped.{AreOtherBodies, own-marks, marks-apart, StemsFrom, mapped-part, batch-kept, own_batch, other_batch, held-by, marks-after}
 use Rattle.core_guard.proofs.CallsAgree.{same_call}

@@ -1,5 +1,5 @@
 -- A step on one word of one body leaves all but that body: what is then left to show of it.
-use Rattle.std.proofs.Common.{◌≡◌, ◌≢◌, ◌⊎◌, ◌↔◌, ℕ, ◌<◌, ◌++◌, ◌∷◌, [], List, Option, Some, None, true, false, refl, ap, sym, ◌∙◌, subst, inl, inr, arith}
+use Rattle.std.proofs.Common.{◌≡◌, ◌≢◌, ◌⊎◌, ◌↔◌, ℕ, ◌<◌, ◌++◌, ◌∷◌, [], List, Some, None, true, false, refl, ap, sym, ◌∙◌, subst, inl, inr, arith}
 use Rattle.std.specs.Prelude.{Contains, IfSome}
 use Rattle.std.proofs.lemmas.Bool.{cases_eq, true≢false}
 use Rattle.std.proofs.lemmas.Option.{none-some, same_Some}
@@ -10,7 +10,7 @@ use Rattle.scene_model.specs.Scene.{Place, Scene, place_at, record_at}
 use Rattle.scene_model.specs.Step.{HasBody, after_entry}
 use Rattle.scene_model.specs.History.{scene_after}
 use Rattle.word_map.specs.declared.name.Name.{Name}
-use Rattle.word_map.specs.declared.name.Name.TheVariants.{State, Phase, Layer, User, BoxWord, LocA, LocB, Child, Bound, Parent, Slot, Reader}
+use Rattle.word_map.specs.declared.name.Name.TheVariants.{Phase, LocA, LocB, Child, Bound, Parent, Slot, Reader}
 use Rattle.word_map.specs.Names.{stripe_of}
 use Rattle.core_state.specs.declared.item.Store.{Store}
 use Rattle.core_state.specs.declared.view.Mode.TheVariants.{Write}
@@ -25,7 +25,7 @@ use Rattle.core_state.specs.Operation.{store}
 use Rattle.core_state.specs.View.{IsPass, Holds}
 use Rattle.core_state.specs.Core.{Core, word_of, scene_of, IsViewAt}
 use Rattle.core_state.specs.Kind.{Kind, Step}
-use Rattle.core_state.specs.Encoding.{place, phase_join, slot_tree, layer_of}
+use Rattle.core_state.specs.Encoding.{place, phase_join, slot_tree}
 use Rattle.core_state.specs.Parts.{call_by_task, call_on_places}
 use Rattle.core_state.specs.Nodes.{Nodes, node_in, IsOwnedBy}
 use Rattle.core_state.specs.Scope.{Sight, sight}
@@ -39,31 +39,8 @@ use Rattle.core_state.proofs.Steps.{word-step-other}
 use Rattle.core_guard.proofs.Alone.{lock-alone}
 use Rattle.core_guard.proofs.OneBody.{history-made, scene-made}
 use Rattle.core_guard.proofs.Seats.{each-seat, flat-step}
-use Rattle.core_guard.proofs.Leaving.{Acts, IsHandled, IsIdle, Stays, IsApart, After, Last, Touches, leaves-same, as_before-same}
+use Rattle.core_guard.proofs.Leaving.{Acts, IsHandled, IsIdle, Stays, IsApart, After, Last, Touches, leaves-same, stays-by, body_of, body-no_node}
 use Rattle.core_guard.proofs.TreesLeft.{stored-same}
-
--- ---- words of bodies
-
--- the body whose word it is
-abbrev pub body_of : Name → Option ℕ
-body_of (State i) = Some i
-body_of (Phase i) = Some i
-body_of (Layer i) = Some i
-body_of (User i) = Some i
-body_of (BoxWord i k) = Some i
-body_of (LocA i) = Some i
-body_of (LocB i) = Some i
-body_of _ = None
-
-pub body-no_node : (name : Name) (i : ℕ) → body_of name ≡ Some i → (node_in name ≡ None) × (layer_of name ≡ None)
-body-no_node (State j) i e = (refl, refl)
-body-no_node (Phase j) i e = (refl, refl)
-body-no_node (Layer j) i e = (refl, refl)
-body-no_node (User j) i e = (refl, refl)
-body-no_node (BoxWord j k) i e = (refl, refl)
-body-no_node (LocA j) i e = (refl, refl)
-body-no_node (LocB j) i e = (refl, refl)
-body-no_node _ i e = absurd (none-some i e)
 
 -- ---- tasks
 
@@ -126,17 +103,9 @@ module _ (kind : Kind) (core : Core) (step : Step) where
 
     -- all other bodies stay
     other-stays : (i : ℕ) → i ≢ index → Stays kind core step i
-    other-stays i apart = record {
-      body = as_before-same _ _ (c.others i apart);
-      loc_a = other_body i apart (LocA i) refl;
-      loc_b = other_body i apart (LocB i) refl;
-      phase = other_body i apart (Phase i) refl;
-      box = λ q. other_body i apart (BoxWord i q) refl;
-      state = other_body i apart (State i) refl;
-      layer = other_body i apart (Layer i) refl;
-      removes = same-task (λ t. Removes t i) (λ t calm. idle-removes t i calm) step.view.call (Last kind core step).call c.call;
-      places = same-task (λ t. IsPlacing t i) (λ t calm. idle-places t i calm) step.view.call (Last kind core step).call c.call;
-    }
+    other-stays i apart =
+        stays-by kind core step i (c.others i apart) (other_body i apart) (same-task (λ t. Removes t i) (λ t calm. idle-removes t i calm) step.view.call (Last kind core step).call c.call)
+        (same-task (λ t. IsPlacing t i) (λ t calm. idle-places t i calm) step.view.call (Last kind core step).call c.call)
 
     -- what was stored in own nodes
     store-stands : (number : ℕ) (item : Store) → IfSome (node_in item.name) (λ n. IsOwnedBy number (nodes.home n) × IsAsStored (sight tree_scope core).word (nodes.home n) item.name item.value)

@@ -1,49 +1,34 @@
 -- What the law of bodies says of the call of a pass that begins a call on a body in a tree, goes on with it or ends it: it
 -- changes no list and no box. And the law after a step on a word that it does not read.
 use Rattle.std.proofs.Common.{◌≡◌, ℕ, List, None, true, false, refl, ap, sym, ◌∙◌, subst}
-use Rattle.std.specs.Prelude.{⊤}
 use Rattle.std.proofs.lemmas.Bool.{false≢true}
 use Rattle.scene_model.specs.declared.body_view.Phase.TheVariants.{Held}
 use Rattle.scene_model.specs.declared.entry.Made.{Made}
 use Rattle.scene_model.specs.Scene.{record_at}
 use Rattle.word_map.specs.declared.name.Name.{Name}
 use Rattle.word_map.specs.declared.name.Name.TheVariants.{SlotHead, SlotNext, State, Phase, Layer, User, BoxWord, Slot}
-use Rattle.word_map.specs.Names.{index_lock}
-use Rattle.core_state.specs.declared.view.Task.{Task}
-use Rattle.core_state.specs.declared.view.Task.TheVariants.{Creating, Destroying, Moving}
+use Rattle.word_map.specs.Names.{index_lock, stripe_of}
+use Rattle.core_state.specs.declared.view.Mode.TheVariants.{Write}
 use Rattle.core_state.specs.declared.view.Call.{Call}
 use Rattle.core_state.specs.declared.view.View.{View}
 use Rattle.core_state.specs.Log.{history}
-use Rattle.core_state.specs.View.{IsPass}
+use Rattle.core_state.specs.View.{IsPass, Holds}
 use Rattle.core_state.specs.Core.{Core, IsViewAt}
 use Rattle.core_state.specs.Kind.{Kind, Step, view_after, after_step}
 use Rattle.core_state.specs.Scope.{Sight, sight, scene_in}
-use Rattle.core_state.specs.Bodies.{free_indexes, IsBetweenBoxes, MovesBody}
-use Rattle.core_state.specs.BodiesAgree.{BodiesAgree, body_scope, ListsFree, ChangesList, IsUnderStripe}
+use Rattle.core_state.specs.Bodies.{free_indexes, IsBetweenBoxes, MovesBody, has_box_word}
+use Rattle.core_state.specs.BodiesAgree.{BodiesAgree, body_scope, ListsFree, ChangesList}
 use Rattle.core_state.proofs.Beginning.{record_body}
 use Rattle.core_state.proofs.Frames.{step-history}
-use Rattle.core_guard.proofs.BodiesStep.{WordsPart, ListPart, StripePart, together, same-locks, unlisted, unstored, new_sight, bodies-agree, words-kept, list-moved, list-left, stripe-moved, stripe-part, stripe-stays, KeepsHeld, batch-part}
+use Rattle.core_guard.proofs.OnBody.{IsOn, on-moves, on-lists, on-stripe, OnBody, on-after, stripe-after}
+use Rattle.core_guard.proofs.BodiesStep.{WordsPart, ListPart, StripePart, together, same-locks, unlisted, unstored, new_sight, bodies-agree, words-kept, list-moved, list-left, stripe-part, stripe-stays, KeepsHeld, batch-part}
+use Rattle.core_guard.proofs.Recalled.{recalled, call-is}
+use Rattle.core_guard.proofs.Leaving.{Acts}
 
--- the task changes neither the list of free indexes nor a box
-abbrev pub IsCalm : Task → Type 0
-IsCalm (Creating index) = ⊥
-IsCalm (Destroying index) = ⊥
-IsCalm (Moving index target) = ⊥
-IsCalm _ = ⊤
-
-calm-list : (task : Task) → IsCalm task → ¬ ChangesList task
-calm-list (Creating index) calm changes = calm
-calm-list (Destroying index) calm changes = calm
-calm-list _ calm changes = changes
-
-calm-box : (task : Task) (i : ℕ) → IsCalm task → ¬ MovesBody task i
-calm-box (Moving index target) i calm moves = calm
-calm-box _ i calm moves = moves
-
--- the call is as before, or a calm one before and afterwards, which has the stripe of its body
+-- the call is as before, or one on a body whose stripe the pass has, before and afterwards
 pub data CallGoesOn (s : Sight) (v w : View) : Type 0 where
   same_call : w.call ≡ v.call → CallGoesOn s v w
-  calm_call : IsCalm v.call.task → IsCalm w.call.task → IsUnderStripe s w w.call.task → CallGoesOn s v w
+  on_body : (index : ℕ) → IsOn index v.call.task → IsOn index w.call.task → Holds w (stripe_of s.config index) Write → (IsBetweenBoxes v index → IsBetweenBoxes w index) → CallGoesOn s v w
 
 module _ (kind : Kind) (core : Core) (step : Step) (at : IsViewAt core step.seat step.view) (pass : IsPass step.view step.number) (h : BodiesAgree core)
     (goes : CallGoesOn (sight body_scope core) step.view (view_after kind core step)) (locks : (view_after kind core step).locks ≡ step.view.locks) where
@@ -58,7 +43,9 @@ module _ (kind : Kind) (core : Core) (step : Step) (at : IsViewAt core step.seat
     where
       go : CallGoesOn Old step.view Last → IsBetweenBoxes Last i
       go (same_call same) = subst (λ (c : Call). IsBetweenBoxes (record step.view { call = c }) i) (sym same) was
-      go (calm_call before after stripe) = absurd (calm-box step.view.call.task i before was.0)
+      go (on_body index before after stripe boxes) =
+          let one = on-moves index i step.view.call.task before was.0 in
+          subst (IsBetweenBoxes Last) (sym one) (boxes (subst (IsBetweenBoxes step.view) one was))
 
   module _ (past : List Made) where
     abbrev New : Sight
@@ -71,18 +58,18 @@ module _ (kind : Kind) (core : Core) (step : Step) (at : IsViewAt core step.seat
         own (same_call e) old =
             list-moved kind core step at pass past step.view Last Last.call.task h.chain (same-locks step.view Last locks (index_lock core.config)) same
             (subst (λ (c : Call). ListsFree Old step.view c.task h.chain) (sym e) old)
-        own (calm_call before after stripe) old = unlisted New Last Last.call.task h.chain (calm-list Last.call.task after)
+        own (on_body index before after stripe boxes) old = unlisted New Last Last.call.task h.chain (on-lists index Last.call.task after)
 
         quiet : CallGoesOn Old step.view Last → ¬ ChangesList Last.call.task → ¬ ChangesList step.view.call.task
         quiet (same_call e) none = subst (λ (c : Call). ¬ ChangesList c.task) e none
-        quiet (calm_call before after stripe) none = calm-list step.view.call.task before
+        quiet (on_body index before after stripe boxes) none = on-lists index step.view.call.task before
 
     pub stripe-goes : StripePart New
     stripe-goes = go goes
       where
         go : CallGoesOn Old step.view Last → StripePart New
         go (same_call same) = stripe-stays kind core step at pass past h same locks
-        go (calm_call before after stripe) = stripe-part kind core step at pass past h (λ old. stripe-moved kind core step at pass past Last Last Last.call.task (λ lock holds. holds) stripe)
+        go (on_body index before after stripe boxes) = stripe-part kind core step at pass past h (λ old. on-stripe New Last index Last.call.task after stripe)
 
   -- ---- a step on a word that the law does not read
 
@@ -114,3 +101,13 @@ module _ (kind : Kind) (core : Core) (step : Step) (at : IsViewAt core step.seat
         boxes = λ i r e is k. kept (BoxWord i k) refl;
         back = λ i is. is;
       }
+
+-- so of a step on a body under its stripe
+pub BodiesAgree-beside : (kind : Kind) (core : Core) (step : Step) (a : Acts core step) (index : ℕ) (call : Call) → OnBody kind core step index call → (IsBetweenBoxes step.view index → MovesBody call.task index × (has_box_word call.stores ≡ true))
+    → body_scope.names step.name ≡ false → ((value : ℕ) → kind.entry step.view step.name value ≡ None) → BodiesAgree (after_step kind core step)
+BodiesAgree-beside kind core step a index call o boxes hidden plain =
+    let last = recalled kind core step call o.recalls in
+    BodiesAgree-goes kind core step a.at a.pass a.laws.bodies
+    (on_body index o.before (on-after kind core step index call a o) (stripe-after kind core step index call a o)
+    (λ between. subst (λ (c : Call). MovesBody c.task index × (has_box_word c.stores ≡ true)) (sym (call-is kind core step call o.recalls)) (boxes between)))
+    (ap (λ (v : View). v.locks) last) hidden plain (ap (λ (v : View). v.batches) last)

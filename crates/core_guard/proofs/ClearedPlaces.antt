@@ -1,6 +1,6 @@
 -- The locations hold where the entry of a body that is in no layer's broad phase is cleared: it stands at no location of
 -- another body, and an update that planned it has done with it.
-use Rattle.std.proofs.Common.{◌≡◌, ◌≢◌, ◌↔◌, ℕ, ◌≤◌, List, Option, Some, true, length, refl, sym, ◌∙◌, subst, inl, inr, arith}
+use Rattle.std.proofs.Common.{◌≡◌, ◌≢◌, ◌↔◌, ℕ, ◌≤◌, List, Option, Some, true, length, refl, sym, ◌∙◌, subst, inl, inr, arith, false}
 use Rattle.std.specs.Prelude.{Contains, IfSome, IsSomeAnd, option_map}
 use Rattle.scene_model.specs.declared.body_view.Phase.TheVariants.{In}
 use Rattle.scene_model.specs.Scene.{Record, record_at}
@@ -20,7 +20,7 @@ use Rattle.core_state.specs.Nodes.{Nodes, made, Above}
 use Rattle.core_state.specs.Parts.{call_on_places, update_on_places}
 use Rattle.core_state.specs.Scope.{Sight, sight, HasPass}
 use Rattle.core_state.specs.Updates.{EachUpdate, HasUpdate, IsPlacing, IsDone, IsStillMerged, IsNoted}
-use Rattle.core_state.specs.LocationsHold.{LocationsHoldIn, location_scope, IsAt, Encloses, Removes, IsRemoved, IsPlacedNow, IsWhere, in_slot, in_main, in_old, in_merged, IsSecondFor, IsPlannedAt, IsPublishedAt, ClimbsFrom, IsUnheld}
+use Rattle.core_state.specs.LocationsHold.{LocationsHoldIn, location_scope, IsAt, Encloses, Removes, IsRemoved, IsPlacedNow, IsWhere, in_slot, in_main, in_old, in_merged, IsSecondFor, IsPlannedAt, IsPublishedAt, ClimbsFrom, IsUnheld, IsTakenOut, has_cleared_location}
 use Rattle.core_state.proofs.Beginning.{record_body}
 use Rattle.core_guard.proofs.Cleared.{cleared_in, IsGone, ClearsEntries, above-same, body-kept, none-kept, some-back}
 use Rattle.core_guard.proofs.Leaving.{Acts, After, Last, if_some_map, if_some_both}
@@ -74,22 +74,26 @@ module _ (kind : Kind) (core : Core) (step : Step) (a : Acts core step) (i : ℕ
   climbs-forth view (Placing index) n k h = h
   climbs-forth view _ n k h = absurd h
 
+  -- a body that is taken out is so by a view that has cleared no location either, and no entry that stands
+  pub taken-forth : (j : ℕ) (v w : View)
+      → ((n k : ℕ) → c n k ≡ body_child j → has_cleared_location v.call.stores ≡ false → ¬ Contains v.call.stores (record { name = Child n k; value = 0 }) → (has_cleared_location w.call.stores ≡ false) × ¬ Contains w.call.stores (record { name = Child n k; value = 0 }))
+      → IsTakenOut nodes Was v j → IsTakenOut nodes End w j
+  taken-forth j v w more h = record {
+    out = h.out;
+    cleared = λ n k location.
+        let was = h.cleared n k location in (
+          was.0,
+          elim (was.1) [
+            | inl e ↦ inl (none-kept nodes Was c i clears n k e)
+            | inr e ↦ elim (clears n k) [ inl same ↦ let t = more n k (same ∙ e.0) e.1 e.2 in inr (same ∙ e.0, t.0, t.1) | inr gone ↦ inl gone.none ]
+          ],
+        );
+    live = h.live;
+  }
+
   pass-forth : (call : Call) (rebuild : Option Rebuild) → PassIsPlaced nodes Was call rebuild → PassIsPlaced nodes End call rebuild
   pass-forth call rebuild p = record {
-    removed = λ j removes.
-        let t = p.removed j removes in
-        record {
-          out = t.out;
-          cleared = λ n k location.
-              let was = t.cleared n k location in (
-                was.0,
-                elim (was.1) [
-                  | inl e ↦ inl (none-kept nodes Was c i clears n k e)
-                  | inr e ↦ elim (clears n k) [ inl same ↦ inr (same ∙ e.0, e.1, e.2) | inr gone ↦ inl gone.none ]
-                ],
-              );
-          live = t.live;
-        };
+    removed = λ j removes. taken-forth j (acting call rebuild) (acting call rebuild) (λ n k entry none old. (none, old)) (p.removed j removes);
     unheld = unheld-forth call.task p.unheld;
     widened = λ j n k box gives stored location. let t = p.widened j n k box gives stored location in (t.0, encloses-forth n k box t.1);
     still_wide = p.still_wide;

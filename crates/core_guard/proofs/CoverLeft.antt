@@ -20,12 +20,13 @@ use Rattle.core_state.specs.Parts.{task_on_cover, update_on_cover}
 use Rattle.core_state.specs.Nodes.{Nodes, superseded, IsInTree, IsPublished, IsOfLayer}
 use Rattle.core_state.specs.Scope.{Sight, sight, scene_in, IsOnce}
 use Rattle.core_state.specs.Space.{HadAs}
-use Rattle.core_state.specs.Updates.{EachUpdate, IsOldTree, IsStillMerged, IsNoted, IsSameBody, IsPlacing, IsDone}
-use Rattle.core_state.specs.LocationsHold.{IsLocation, Removes, IsRemoved}
+use Rattle.core_state.specs.Updates.{EachUpdate, IsOldTree, IsStillMerged, IsNoted, IsPlacing, IsDone}
+use Rattle.core_state.specs.LocationsHold.{IsLocation, Removes}
 use Rattle.core_state.specs.BodiesCovered.{BodiesCovered, cover_scope, IsCovered, IsInOldTree, LooksAsNoted, IsAsNoted, IsOpen, NotesHold, KeepsMerged, ExchangesDone}
-use Rattle.core_guard.proofs.Seats.{seen_of, has-step}
+use Rattle.core_guard.proofs.Seats.{seen_of}
 use Rattle.core_guard.proofs.Growing.{point-grown, length-grown}
-use Rattle.core_guard.proofs.Leaving.{Acts, After, Last, Stays, IsApart, Leaves, Touches, home-back, each_update, if_some_map, if_some_both, body-forth, body-back, record-back, published-stands, old-stands, stands-in_tree}
+use Rattle.core_guard.proofs.InPlace.{InPlace, stays-in_place, creation-forth, creation-back, in-was, unremoved-stays}
+use Rattle.core_guard.proofs.Leaving.{Acts, After, Last, Stays, IsApart, Leaves, Touches, home-back, each_update, if_some_map, if_some_both, published-stands, old-stands, stands-in_tree}
 use Rattle.core_guard.proofs.PlacesStay.{places-handles}
 
 -- ---- what the law says of one body
@@ -137,6 +138,7 @@ module _ (kind : Kind) (core : Core) (step : Step) where
 
   pub data BodyAfter (nodes later : Nodes) (i : ℕ) : Type 0 where
     as_it_was : Stays kind core step i → BodyAfter nodes later i
+    in_place : InPlace kind core step i → BodyAfter nodes later i
     apart : IsApart kind core step nodes i → BodyAfter nodes later i
     off_trees : IsOff nodes later i → BodyAfter nodes later i
     anew : IsAnew later i → BodyAfter nodes later i
@@ -151,17 +153,17 @@ module _ (kind : Kind) (core : Core) (step : Step) (a : Acts core step) (nodes l
   old-forth : (r : Rebuild) (n : ℕ) → IsOldTree r (nodes.home n) → IsOldTree r (later.home n)
   old-forth r n h = subst (IsOldTree r) (sym (m.stays n (stands-in_tree (nodes.home n) (old-stands r (nodes.home n) h)))) h
 
-  -- ---- a body that stays
+  -- ---- a body that stays where it is
 
-  module _ (i : ℕ) (b : Stays kind core step i) where
+  module _ (i : ℕ) (b : InPlace kind core step i) where
     covered-forth : BodyIsCovered nodes Old i → IsFresh kind core step later New → BodyIsCovered later Seen i
     covered-forth h fresh = record {
-      covered = λ r e inside.
-          let before = record-back _ _ r b.body e in
-          let t = h.covered (record r { user = before.0 }) before.1 inside in
+      covered = λ q e inside.
+          let before = in-was kind core step i b q e inside in
+          let t = h.covered before.0 before.1 before.2 in
           let location : IsLocation Seen i t.0 t.1 = (t.2.0, elim (t.2.1) [ inl e ↦ inl (b.loc_a ∙ e) | inr e ↦ inr (b.loc_b ∙ e) ]) in
           let same = sym (m.stays t.0 (stands-in_tree (nodes.home t.0) (published-stands (nodes.home t.0) t.3))) in
-          (t.0, t.1, location, subst IsPublished same t.3, subst (IsOfLayer r.layer) same t.4);
+          (t.0, t.1, location, subst IsPublished same t.3, subst (λ (l : ℕ). IsOfLayer l (later.home t.0)) (sym before.3) (subst (IsOfLayer before.0.layer) same t.4));
       replaced = λ n k number name below location home none.
           elim (home-back kind core step a nodes later New m n (superseded number name) tt home) [
             | inl was ↦ h.replaced n k number name below (sym b.loc_a ∙ location) was (sym b.loc_b ∙ none)
@@ -172,30 +174,21 @@ module _ (kind : Kind) (core : Core) (step : Step) (a : Acts core step) (nodes l
     old_tree-forth : (r : Rebuild) → IsInOldTree nodes Old r i → IsInOldTree later Seen r i
     old_tree-forth r h = (h.0, h.1, h.2, b.loc_a ∙ h.3, old-forth r h.0 h.4)
 
-    removed-forth : IsRemoved Old i → IsRemoved Seen i
-    removed-forth h = (
-      h.0,
-      has-step cover_scope (λ k v. refl) kind core step a.at a.pass h.0 (λ v. Removes v.call.task i) (λ v. Removes v.call.task i) h.1 (λ seat view apart found own removes. removes)
-          (λ same removes. (task-seen (Last kind core step).call.task i).0.0 (b.removes.0 ((task-seen step.view.call.task i).0.1 removes))),
-    )
-
-    same_body-forth : (n : Noted) → n.index ≡ i → IsSameBody Old n → IsSameBody Seen n
-    same_body-forth n same h =
-        body-forth (λ r. (r.generation ≡ n.generation) × (r.layer ≡ n.layer)) (λ r user. (λ x. x, λ x. x)) _ _ (subst (Stays kind core step) (sym same) b).body h
-
     looks-back : (n : Noted) → n.index ≡ i → LooksAsNoted Seen n → LooksAsNoted Old n
     looks-back n same h =
-        let at = subst (Stays kind core step) (sym same) b in
+        let at = subst (InPlace kind core step) (sym same) b in
         record { state = sym at.state ∙ h.state; location = sym at.loc_a ∙ h.location }
 
     as_noted-forth : (n : Noted) → n.index ≡ i → IsAsNoted Old n → IsAsNoted Seen n
     as_noted-forth n same h =
-        let at = subst (Stays kind core step) (sym same) b in
+        let at = subst (InPlace kind core step) (sym same) b in
+        let before = (task-seen step.view.call.task n.index).0.1 in
+        let after = (task-seen (Last kind core step).call.task n.index).0.0 in
         record {
           looks = record { state = at.state ∙ h.looks.state; location = at.loc_a ∙ h.looks.location };
-          phase = λ left. at.phase ∙ h.phase (λ removed. left (subst (IsRemoved Seen) (sym same) (removed-forth (subst (IsRemoved Old) same removed))));
+          phase = λ left. let t = unremoved-stays kind core step n.index at a cover_scope (λ k v. refl) before after left in t.0.word ∙ h.phase t.1;
           layer = at.layer ∙ h.layer;
-          same = same_body-forth n same h.same;
+          same = creation-forth kind core step n.index at (λ g l. (g ≡ n.generation) × (l ≡ n.layer)) h.same;
         }
 
   -- ---- a body that is in no tree that was there
@@ -228,13 +221,14 @@ module _ (kind : Kind) (core : Core) (step : Step) (a : Acts core step) (nodes l
 
     -- in which the pass that has it is to place the same bodies
     module _ (v w : View) (i : ℕ) (done : IsDone v r i → IsDone w r i) where
-      stays-right : Stays kind core step i → (IsDone w r i → IsDone v r i) → IsNotedRight nodes Old v r i → IsNotedRight later Seen w r i
+      stays-right : InPlace kind core step i → (IsDone w r i → IsDone v r i) → IsNotedRight nodes Old v r i → IsNotedRight later Seen w r i
       stays-right b undone h =
           let tree-back : IsInOldTree later Seen r i → IsInOldTree nodes Old r i = λ t. (t.0, t.1, t.2, sym b.loc_a ∙ t.3, old-back t.0 t.4) in
           let opened-back : IsOpen w r i → IsOpen v r i = λ o. (o.0, λ is. o.1 (done is)) in
           record {
             to_place = λ l t root passed merged body joins.
-                let n = h.to_place l t root passed merged (body-back (λ q. q.layer ≡ l) (λ q user. (λ x. x, λ x. x)) _ _ b.body body) (sym b.phase ∙ joins) in
+                let phase : word_of core (Phase i) ≡ phase_join t = elim (b.phase) [ inl stays ↦ sym stays.word ∙ joins | inr gone ↦ let out = gone.word in absurd (omega arith) ] in
+                let n = h.to_place l t root passed merged (creation-back kind core step i b (λ g x. x ≡ l) body) phase in
                 (n.0, n.1, n.2, λ is. n.3 (undone is));
             all_noted = λ opened tree.
                 let n = h.all_noted (opened-back opened) (tree-back tree) in
@@ -309,7 +303,8 @@ module _ (kind : Kind) (core : Core) (step : Step) (a : Acts core step) (nodes l
     body-later : (i : ℕ) → BodyIsCovered later Seen i
     body-later i =
         elim (bodies i) [
-          | as_it_was b ↦ covered-forth i b (record { covered = h.covered i; replaced = h.replaced i }) fresh
+          | as_it_was b ↦ covered-forth i (stays-in_place kind core step i b) (record { covered = h.covered i; replaced = h.replaced i }) fresh
+          | in_place b ↦ covered-forth i b (record { covered = h.covered i; replaced = h.replaced i }) fresh
           | apart b ↦ (apart-off fresh i b).covered
           | off_trees b ↦ b.covered
           | anew b ↦ b.covered
@@ -319,14 +314,16 @@ module _ (kind : Kind) (core : Core) (step : Step) (a : Acts core step) (nodes l
     abbrev IsRight : View → Rebuild → Type 0
     IsRight view r = RestHolds Seen r × ((i : ℕ) → IsAnew kind core step later i ⊎ IsNotedRight later Seen view r i)
 
-    rights-forth : (v w : View) (r : Rebuild) → ((i : ℕ) → Stays kind core step i → IsPlacing v.call.task i ↔ IsPlacing w.call.task i) → ((i : ℕ) → IsOff kind core step nodes later i → IsPlacing w.call.task i → IsPlacing v.call.task i)
+    rights-forth : (v w : View) (r : Rebuild) → ((i : ℕ) → InPlace kind core step i → IsPlacing v.call.task i ↔ IsPlacing w.call.task i) → ((i : ℕ) → IsOff kind core step nodes later i → IsPlacing w.call.task i → IsPlacing v.call.task i)
         → WasRight v r → IsRight w r
     rights-forth v w r same calm was = (
       rest-forth r was.rest,
       λ i.
+          let stays : InPlace kind core step i → IsNotedRight later Seen w r i = λ b. stays-right r was.fresh v w i (still_done v w r i (same i b).1) b (still_done w v r i (same i b).0) (was.right i) in
           let off : IsOff kind core step nodes later i → IsNotedRight later Seen w r i = λ b. off-right r was.fresh v w i (still_done v w r i (calm i b)) b was.rest.merged (was.right i) in
           elim (bodies i) [
-            | as_it_was b ↦ inr (stays-right r was.fresh v w i (still_done v w r i (same i b).1) b (still_done w v r i (same i b).0) (was.right i))
+            | as_it_was b ↦ inr (stays (stays-in_place kind core step i b))
+            | in_place b ↦ inr (stays b)
             | apart b ↦ inr (off (apart-off fresh i b))
             | off_trees b ↦ inr (off b)
             | anew b ↦ inl b

@@ -11,7 +11,7 @@ use Rattle.scene_model.specs.Step.{HasBody}
 use Rattle.scene_model.specs.History.{scene_after}
 use Rattle.word_map.specs.Names.{IsName}
 use Rattle.word_map.specs.declared.name.Name.{Name}
-use Rattle.word_map.specs.declared.name.Name.TheVariants.{State, Phase, Layer, BoxWord, LocA, LocB, Child, Bound, Parent, Main, Slot, Reader}
+use Rattle.word_map.specs.declared.name.Name.TheVariants.{State, Phase, Layer, User, BoxWord, LocA, LocB, Child, Bound, Parent, Main, Slot, Reader}
 use Rattle.core_state.specs.declared.item.Store.{Store}
 use Rattle.core_state.specs.declared.view.Marked.{Marked}
 use Rattle.core_state.specs.declared.view.Batch.{Batch}
@@ -84,6 +84,16 @@ if_some_both (Some x) P Q h k = (h, k)
 pub some_and_map : {X : Type 0} (o : Option X) (P Q : X → Type 0) → ((x : X) → P x → Q x) → IsSomeAnd o P → IsSomeAnd o Q
 some_and_map None P Q f h = h
 some_and_map (Some x) P Q f h = f x h
+
+-- the three phases of a body are apart
+pub out_in : Out ≡ In → ⊥
+out_in e = absurd cc
+
+pub out_held : Out ≡ Held → ⊥
+out_held e = absurd cc
+
+pub in_held : In ≡ Held → ⊥
+in_held e = absurd cc
 
 -- ---- tasks
 
@@ -178,6 +188,37 @@ pub data IsAsBefore : Option Record → Option Record → Type 0 where
   not_live : IsAsBefore None None
   is_live : (r : Record) (user : ℕ) → IsAsBefore (Some r) (Some (record r { user = user }))
 
+-- what is the same is as before
+pub as_before-same : (o p : Option Record) → p ≡ o → IsAsBefore o p
+as_before-same o p e = subst (IsAsBefore o) (sym e) (go o)
+  where
+    go : (o : Option Record) → IsAsBefore o o
+    go None = not_live
+    go (Some r) = is_live r r.user
+
+-- ---- words of bodies
+
+-- the body whose word it is
+abbrev pub body_of : Name → Option ℕ
+body_of (State i) = Some i
+body_of (Phase i) = Some i
+body_of (Layer i) = Some i
+body_of (User i) = Some i
+body_of (BoxWord i k) = Some i
+body_of (LocA i) = Some i
+body_of (LocB i) = Some i
+body_of _ = None
+
+pub body-no_node : (name : Name) (i : ℕ) → body_of name ≡ Some i → (node_in name ≡ None) × (layer_of name ≡ None)
+body-no_node (State j) i e = (refl, refl)
+body-no_node (Phase j) i e = (refl, refl)
+body-no_node (Layer j) i e = (refl, refl)
+body-no_node (User j) i e = (refl, refl)
+body-no_node (BoxWord j k) i e = (refl, refl)
+body-no_node (LocA j) i e = (refl, refl)
+body-no_node (LocB j) i e = (refl, refl)
+body-no_node _ i e = absurd (none-some i e)
+
 module _ (kind : Kind) (core : Core) (step : Step) where
   abbrev pub After : Core
   After = after_step kind core step
@@ -198,6 +239,21 @@ module _ (kind : Kind) (core : Core) (step : Step) where
     pub layer : word_of After (Layer i) ≡ word_of core (Layer i)
     pub removes : Removes step.view.call.task i ↔ Removes Last.call.task i
     pub places : IsPlacing step.view.call.task i ↔ IsPlacing Last.call.task i
+
+  -- where its record and its words are the same
+  pub stays-by : (i : ℕ) → record_at (scene_of After) i ≡ record_at (scene_of core) i → ((name : Name) → body_of name ≡ Some i → word_of After name ≡ word_of core name)
+      → Removes step.view.call.task i ↔ Removes Last.call.task i → IsPlacing step.view.call.task i ↔ IsPlacing Last.call.task i → Stays i
+  stays-by i body word removes places = record {
+    body = as_before-same _ _ body;
+    loc_a = word (LocA i) refl;
+    loc_b = word (LocB i) refl;
+    phase = word (Phase i) refl;
+    box = λ q. word (BoxWord i q) refl;
+    state = word (State i) refl;
+    layer = word (Layer i) refl;
+    removes = removes;
+    places = places;
+  }
 
   -- a body, or an index that is not live, stands in no tree and is not to, before the step and after it: nobody moves,
   -- removes or places it, it has no second location, and its first one leads to no tree
@@ -354,28 +410,6 @@ module _ (kind : Kind) (core : Core) (step : Step) where
   scene-plain plain i = ap (λ (l : List Made). record_at (scene_after core.config.bodies l) i) (step-history kind core step plain)
 
 -- ---- bodies
-
--- what is the same is as before
-pub as_before-same : (o p : Option Record) → p ≡ o → IsAsBefore o p
-as_before-same o p e = subst (IsAsBefore o) (sym e) (go o)
-  where
-    go : (o : Option Record) → IsAsBefore o o
-    go None = not_live
-    go (Some r) = is_live r r.user
-
-module _ (P : Record → Type 0) (steady : (r : Record) (user : ℕ) → P r ↔ P (record r { user = user })) where
-  -- what does not speak of the user number holds as before
-  pub body-forth : (o p : Option Record) → IsAsBefore o p → IsSomeAnd o P → IsSomeAnd p P
-  body-forth o p not_live h = h
-  body-forth o p (is_live r user) h = (steady r user).0 h
-
-  pub body-back : (o p : Option Record) → IsAsBefore o p → IsSomeAnd p P → IsSomeAnd o P
-  body-back o p not_live h = h
-  body-back o p (is_live r user) h = (steady r user).1 h
-
-pub none-back : (o p : Option Record) → IsAsBefore o p → IsNone p → IsNone o
-none-back o p not_live h = h
-none-back o p (is_live r user) h = absurd cc
 
 -- the record of a body that is there was there before, with another user number
 pub record-back : (o p : Option Record) (r : Record) → IsAsBefore o p → p ≡ Some r → (user : ℕ) × (o ≡ Some (record r { user = user }))

@@ -5,10 +5,12 @@ pub mod FreeIndexes
 pub mod Seats
 pub mod Growing
 pub mod Leaving
+pub mod InPlace
 pub mod BodiesStep
 pub mod Alone
 pub mod ListsAgree
 pub mod OneBody
+pub mod Changed
 pub mod LivesAgree
 pub mod TreesLeft
 pub mod WalksLeft
@@ -36,10 +38,12 @@ pub mod Light
 pub mod Owners
 pub mod Unowned
 pub mod WidenedBound
-pub mod CallsAgree
-pub mod PhaseAgree
 pub mod OutStill
 pub mod Recalled
+pub mod OnBody
+pub mod CallsAgree
+pub mod AgreeOn
+pub mod PhaseAgree
 pub mod Cleared
 pub mod ClearedPlaces
 pub mod OneUpdate

@@ -37,6 +37,7 @@ use Rattle.core_guard.proofs.BodiesStep.{WordsPart, together, sound, known-now, 
 use Rattle.core_guard.proofs.OneBody.{is_other, body_index, past_after, one_sight, one-scene, other_word, one-words, one-held, one-linked, one-agree}
 use Rattle.core_guard.proofs.ListsAgree.{scene_consistent, world-lock, listed-now, known-live}
 use Rattle.core_state.proofs.Beginning.{record_body, contains_first}
+use Rattle.core_guard.proofs.Leaving.{out_held}
 
 -- ---- an index that is to get a body
 
@@ -254,9 +255,6 @@ module _ (core : Core) (step : Step) (at : IsViewAt core step.seat step.view) (p
       (creating-lock create core step at pass formed agree h asked.index asked.creating) h.chain
       (one-linked create core step at pass h created_entry asked.index create_other create_index create_places) tt (λ none. free))
       (λ was. tt)
-    where
-      out_held : Out ≡ Held → ⊥
-      out_held e = absurd cc
 
 pub BodiesAgree-create : (before after : Core) → Steps MayCreate create before after → IsFormed before → GuardsHold before → LocksAgree before → BodiesAgree before → BodiesAgree after
 BodiesAgree-create before after steps formed guards agree h =
@@ -354,9 +352,6 @@ module _ (core : Core) (step : Step) (at : IsViewAt core step.seat step.view) (p
       (list-part destroy core step at pass (past_after destroy core step at pass h (Destroy asked.index) asked.index destroy_other destroy_index destroy_places) agree h destroy_lock h.chain
       (one-linked destroy core step at pass h (Destroy asked.index) asked.index destroy_other destroy_index destroy_places) tt (λ none. free))
       (λ was. tt)
-    where
-      out_held : Out ≡ Held → ⊥
-      out_held e = absurd cc
 
 pub BodiesAgree-destroy : (before after : Core) → Steps MayDestroy destroy before after → IsFormed before → GuardsHold before → LocksAgree before → BodiesAgree before → BodiesAgree after
 BodiesAgree-destroy before after steps formed guards agree h =

@@ -1,5 +1,5 @@
 -- The steps on the list of free indexes and on bodies store no word that another pass has for itself.
-use Rattle.std.proofs.Common.{◌≡◌, ℕ, ◌<◌, List, ◌∷◌, Option, Some, None, Contains, IsNone, refl, sym, ◌∙◌, subst, inl, inr, arith}
+use Rattle.std.proofs.Common.{◌≡◌, ℕ, ◌<◌, List, ◌∷◌, Option, Some, None, Contains, IsNone, refl, sym, ◌∙◌, subst, inl, inr, arith, ◌≢◌}
 use Rattle.std.specs.Prelude.{IsSomeAnd}
 use Rattle.std.proofs.lemmas.Bool.{false≢true}
 use Rattle.scene_model.specs.declared.body_view.Phase.TheVariants.{Out, Held}
@@ -7,7 +7,7 @@ use Rattle.scene_model.specs.Scene.{Record, place_at, record_at}
 use Rattle.scene_model.specs.Step.{HasBody}
 use Rattle.word_map.specs.declared.config.Config.{Config}
 use Rattle.word_map.specs.declared.name.Name.{Name}
-use Rattle.word_map.specs.declared.name.Name.TheVariants.{SlotHead, SlotNext, State, Layer, User, BoxWord}
+use Rattle.word_map.specs.declared.name.Name.TheVariants.{SlotHead, SlotNext, State, Layer, User, BoxWord, Phase, LocA, LocB}
 use Rattle.word_map.specs.Names.{IsName, index_lock, stripe_of}
 use Rattle.core_state.specs.declared.view.Mode.TheVariants.{Write}
 use Rattle.core_state.specs.declared.view.Task.{Task}
@@ -28,8 +28,8 @@ use Rattle.core_guard.proofs.BodiesStep.{others-idle}
 use Rattle.core_guard.proofs.Alone.{marked-held}
 use Rattle.core_guard.proofs.ListsAgree.{scene_consistent, world-lock}
 use Rattle.core_guard.proofs.LivesAgree.{creating-dead, destroy_body, user_live}
-use Rattle.core_guard.proofs.Leaving.{Acts, some_and_map}
-use Rattle.core_guard.proofs.Holders.{Locks, Makes, HasMark, EachOther, keeps, body-holder, body-settles, unlocked, locked, IsGuarded, guarded}
+use Rattle.core_guard.proofs.Leaving.{Acts, some_and_map, held-once}
+use Rattle.core_guard.proofs.Holders.{Locks, Makes, HasMark, EachOther, keeps, body-holder, body-settles, unlocked, locked, IsGuarded, guarded, Holder, Settles}
 
 -- ---- the list of free indexes
 
@@ -100,6 +100,47 @@ pub GuardsHold-create : IsGuarded MayCreate create
 GuardsHold-create = guarded MayCreate create (λ core step a asked. dead-guarded create core step a asked.index asked.creating (subst (IsBodyWord asked.index) (sym asked.names) refl))
 
 -- ---- a live body
+
+-- a word of the body that may be stored under its stripe
+abbrev pub IsStripeWord : ℕ → Name → Type 0
+IsStripeWord i (Phase j) = j ≡ i
+IsStripeWord i (BoxWord j k) = j ≡ i
+IsStripeWord i (LocA j) = j ≡ i
+IsStripeWord i (LocB j) = j ≡ i
+IsStripeWord i _ = ⊥
+
+module _ (kind : Kind) (core : Core) (step : Step) (a : Acts core step) (i : ℕ) (stripe : Holds step.view (stripe_of step.view.config i) Write) (unheld : HasBody (scene_of core) i (λ r. r.phase ≢ Held)) where
+  none_locks : (j : ℕ) → j ≡ i → EachOther core step (λ number view. ¬ Locks view (stripe_of core.config j))
+  none_locks j same = unlocked core step a (λ c. stripe_of c j) (subst (λ (k : ℕ). Holds step.view (stripe_of step.view.config k) Write) (sym same) stripe)
+
+  none_marks : (j : ℕ) → j ≡ i → EachOther core step (λ number view. ¬ HasMark view j)
+  none_marks j same = unmarked core step a j (held-once (record_at (scene_of core) j) (subst (λ (k : ℕ). HasBody (scene_of core) k (λ r. r.phase ≢ Held)) (sym same) unheld))
+
+  none_makes : (j : ℕ) → j ≡ i → EachOther core step (λ number view. ¬ Makes view j)
+  none_makes j same = unmade core step a j (λ gone. none_here (record_at (scene_of core) i) (λ r. r.phase ≢ Held) (subst (λ (k : ℕ). IsNone (record_at (scene_of core) k)) same gone) unheld)
+
+  nobodys : (name : Name) → IsStripeWord i name → EachOther core step (λ number view. ¬ Holder core.config view name × Settles core view name)
+  nobodys (Phase j) same seat number view apart found own = (
+    λ holder. elim holder [ inl l ↦ none_locks j same seat number view apart found own l | inr mark ↦ none_marks j same seat number view apart found own mark ],
+    tt,
+  )
+  nobodys (BoxWord j k) same seat number view apart found own = (
+    λ holder. elim holder [ inl makes ↦ none_makes j same seat number view apart found own makes | inr mark ↦ none_marks j same seat number view apart found own mark ],
+    λ mode holds. absurd (none_locks j same seat number view apart found own (mode, holds)),
+  )
+  nobodys (LocA j) same seat number view apart found own = (
+    λ mark. none_marks j same seat number view apart found own mark,
+    λ mode holds. absurd (none_locks j same seat number view apart found own (mode, holds)),
+  )
+  nobodys (LocB j) same seat number view apart found own = (
+    λ holder. elim holder [ inl l ↦ none_locks j same seat number view apart found own l | inr mark ↦ none_marks j same seat number view apart found own mark ],
+    tt,
+  )
+  nobodys _ same seat number view apart found own = absurd same
+
+  -- no other pass has such a word of a body that no batch holds, and whose stripe this one has
+  pub stripe-guarded : IsStripeWord i step.name → KeepsGuards kind core step
+  stripe-guarded of = keeps kind core step step.name refl (λ stored. nobodys step.name of)
 
 -- one that is out is not held
 out_unheld : (o : Option Record) → IsSomeAnd o (λ r. r.phase ≡ Out) → ¬ IsSomeAnd o (λ r. r.phase ≡ Held)

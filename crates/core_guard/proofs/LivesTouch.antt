@@ -23,8 +23,8 @@ use Rattle.core_guard.proofs.Scenes.{live_or_dead, none_here, with_user}
 use Rattle.core_guard.proofs.Seats.{has-seat}
 use Rattle.core_guard.proofs.BodiesStep.{sound}
 use Rattle.core_guard.proofs.LivesAgree as lives
-use Rattle.core_guard.proofs.Leaving.{Acts, IsHandled, IsIdle, Stays, IsAsBefore, is_live, After, Touches, scene-plain}
-use Rattle.core_guard.proofs.BodyTouch.{body_of, touches-body, held-kept, record-made, record-other, removes-handled, stripe-alone, bare-apart}
+use Rattle.core_guard.proofs.Leaving.{Acts, IsHandled, IsIdle, Stays, IsAsBefore, is_live, After, Touches, scene-plain, body_of, out_in}
+use Rattle.core_guard.proofs.BodyTouch.{touches-body, held-kept, record-made, record-other, removes-handled, stripe-alone, bare-apart}
 
 -- a pass moves, removes or places live bodies only
 abbrev pub HandlesLive : Core → Type 0
@@ -33,10 +33,7 @@ HandlesLive core = (seat number : ℕ) (view : View) (i : ℕ) → IsViewAt core
 -- a body that is out is not in the broad phase
 pub out_unseen : (o : Option Record) → IsSomeAnd o (λ r. r.phase ≡ Out) → ¬ IsSomeAnd o (λ r. r.phase ≡ In)
 out_unseen None out inside = inside
-out_unseen (Some r) out inside = apart (sym out ∙ inside)
-  where
-    apart : Out ≡ In → ⊥
-    apart e = absurd cc
+out_unseen (Some r) out inside = out_in (sym out ∙ inside)
 
 abbrev is_user : Name → Bool
 is_user (User i) = true
@@ -116,9 +113,6 @@ module _ (core : Core) (step : Step) (a : Acts core step) (live : HandlesLive co
         written = refl;
         held = held-kept create core step a refl unstored;
       })
-    where
-      out_in : Out ≡ In → ⊥
-      out_in e = absurd cc
 
 module _ (core : Core) (step : Step) (a : Acts core step) where
   -- ---- destruction

@@ -16,6 +16,8 @@ use Rattle.core_state.proofs.Fitting.{word-fits}
 use Rattle.core_state.proofs.Frames.{frame, step-same}
 use Rattle.core_guard.proofs.LockWords.{Agrees-from, Agrees-to, Takes, Agrees-take, Agrees-release}
 use Rattle.core_guard.proofs.Leaving.{Lawful}
+use Rattle.word_map.specs.declared.name.Name.{Name}
+use Rattle.core_state.specs.declared.view.View.{View}
 
 -- ---- taking a lock
 
@@ -69,3 +71,12 @@ LocksAgree-other core step a kind hidden locks =
       part = λ i. record (bare_view step.number) { locks = locks i };
     } in
     frame lock_scope LocksAgreeIn core (after_step kind core step) (step-same lock_scope kind core step a.at a.pass outside) a.laws.locks
+
+-- ---- a kind that leaves locks and walk
+
+-- a view has the locks and the walk of another
+abbrev pub HasSameLocks : View → View → Type 0
+HasSameLocks view next = (next.locks ≡ view.locks) × (next.walk.is_on ≡ view.walk.is_on)
+
+abbrev pub LeavesLocks : Kind → Type 0
+LeavesLocks kind = (view : View) (name : Name) (found first second : ℕ) → HasSameLocks view (kind.leaves view name found first second)

@@ -1,5 +1,5 @@
 -- The bodies agree after a step that stores the phase of a body, with an entry that says so: what is left is batches.
-use Rattle.std.proofs.Common.{◌≡◌, ◌≢◌, ℕ, ◌-◌, ◌+◌, ◌<◌, List, [], ◌∷◌, ◌++◌, Option, Some, None, option_map, is_some, IsSomeAnd, Bool, true, false, refl, ap, sym, ◌∙◌, subst, inl, inr}
+use Rattle.std.proofs.Common.{◌≡◌, ◌≢◌, ℕ, ◌-◌, ◌+◌, ◌<◌, List, [], ◌∷◌, ◌++◌, Option, Some, is_some, IsSomeAnd, Bool, true, false, refl, ap, sym, ◌∙◌, subst, inl, inr}
 use Rattle.std.proofs.lemmas.Bool.{false≢true, cases_eq}
 use Rattle.std.proofs.lemmas.Option.{same_Some}
 use Rattle.scene_model.specs.declared.body_view.Phase.{Phase as BodyPhase}
@@ -8,7 +8,6 @@ use Rattle.scene_model.specs.declared.entry.Entry.{Entry}
 use Rattle.scene_model.specs.declared.entry.Made.{Made}
 use Rattle.scene_model.specs.Scene.{Record, Scene, Place, place_at, record_at}
 use Rattle.scene_model.specs.Step.{HasBody, IsLawful, after_entry, with_phase, in_phase}
-use Rattle.scene_model.proofs.Places.{place_at-with_change_same, place_at-with_body_other}
 use Rattle.word_map.specs.declared.name.Name.{Name}
 use Rattle.word_map.specs.declared.name.Name.TheVariants.{SlotHead, SlotNext, State, Phase, Layer, User, BoxWord, Slot}
 use Rattle.core_state.specs.declared.view.Marked.{Marked}
@@ -19,22 +18,14 @@ use Rattle.core_state.specs.Core.{Core, word_of, IsViewAt}
 use Rattle.core_state.specs.Operation.{store}
 use Rattle.core_state.specs.Kind.{Kind, Step, left_by, log_after, view_after, after_step}
 use Rattle.core_state.specs.Scope.{Sight, sight, scene_in}
-use Rattle.core_state.specs.Bodies.{state_word, phase_by, free_indexes}
+use Rattle.core_state.specs.Bodies.{state_word, phase_by}
 use Rattle.core_state.specs.BodiesAgree.{BodiesAgree, body_scope, HasWordsOf, IsHeldFor}
 use Rattle.core_state.proofs.Steps.{word-step}
-use Rattle.core_guard.proofs.FreeIndexes.{free-change}
+use Rattle.core_guard.proofs.Changed.{changed-other, changed-here, changed-state, changed-free}
 use Rattle.core_guard.proofs.Scenes.{record_live}
-use Rattle.core_guard.proofs.OneBody.{history-made, scene-made, lawful-made}
+use Rattle.core_guard.proofs.OneBody.{history-made, lawful-made}
 use Rattle.core_guard.proofs.BodiesStep.{new_sight, unstored, bodies-agree, WordsPart, together, whole-back, words-kept, BatchPart}
 use Rattle.core_guard.proofs.CallsAgree.{CallGoesOn, between, list-goes, stripe-goes}
-
--- whether a body is live, and how often one was created, is no matter of its phase
-state-phase : (phase : BodyPhase) (p : Place) → state_word (record p { body = option_map (in_phase phase) p.body }) ≡ state_word p
-state-phase phase p = go p.body refl
-  where
-    go : (o : Option Record) → p.body ≡ o → state_word (record p { body = option_map (in_phase phase) p.body }) ≡ state_word p
-    go None e = rw e refl
-    go (Some r) e = rw e refl
 
 abbrev pub phase_index : Name → ℕ
 phase_index (Phase i) = i
@@ -64,26 +55,22 @@ module _ (kind : Kind) (core : Core) (step : Step) (at : IsViewAt core step.seat
   other_phase i apart = unstored kind core step at pass (Phase i) (λ same. apart (ap phase_index (same ∙ names)))
 
   -- and so do other bodies
-  scene : scene_in phase_sight ≡ with_phase target (scene_in Old) index
-  scene = scene-made core.config.bodies step.number (history core.log) entry ∙ alters (scene_in Old)
-
   pub place_other : (i : ℕ) → i ≢ index → place_at (scene_in phase_sight) i ≡ place_at (scene_in Old) i
-  place_other i apart = ap (λ (s : Scene). place_at s i) scene ∙ place_at-with_body_other (scene_in Old) index i _ apart
+  place_other = changed-other core.config.bodies step.number (history core.log) entry (in_phase target) index alters
 
   pub record_other : (i : ℕ) → i ≢ index → record_at (scene_in phase_sight) i ≡ record_at (scene_in Old) i
   record_other i apart = ap (λ (p : Place). p.body) (place_other i apart)
 
-  place_here : place_at (scene_in phase_sight) index ≡ record (place_at (scene_in Old) index) { body = option_map (in_phase target) (record_at (scene_in Old) index) }
-  place_here = ap (λ (s : Scene). place_at s index) scene ∙ place_at-with_change_same (in_phase target) (scene_in Old) index
-
   -- the body has its new phase
   pub record_here : record_at (scene_in phase_sight) index ≡ Some (in_phase target r)
-  record_here = ap (λ (p : Place). p.body) place_here ∙ ap (option_map (in_phase target)) live
+  record_here = changed-here core.config.bodies step.number (history core.log) entry (in_phase target) index alters r live
 
   state_here : (i : ℕ) → state_word (place_at (scene_in phase_sight) i) ≡ state_word (place_at (scene_in Old) i)
   state_here i =
       elim (cases_eq i index) [
-        | inl same ↦ subst (λ (k : ℕ). state_word (place_at (scene_in phase_sight) k) ≡ state_word (place_at (scene_in Old) k)) (sym same) (ap state_word place_here ∙ state-phase target (place_at (scene_in Old) index))
+        | inl same ↦
+            subst (λ (k : ℕ). state_word (place_at (scene_in phase_sight) k) ≡ state_word (place_at (scene_in Old) k)) (sym same)
+            (changed-state core.config.bodies step.number (history core.log) entry (in_phase target) index alters)
         | inr apart ↦ ap state_word (place_other i apart)
       ]
 
@@ -141,5 +128,5 @@ module _ (kind : Kind) (core : Core) (step : Step) (at : IsViewAt core step.seat
       phase-agree stores made lawful batches =
           bodies-agree kind core step at pass phase_past (history-made kind core step entry stores made)
           (together phase_sight (words lawful)
-          (list-goes kind core step at pass h goes locks phase_past (other_word SlotHead refl) (λ i. other_word (SlotNext i) refl) (ap free_indexes scene ∙ free-change (in_phase target) (scene_in Old) index))
+          (list-goes kind core step at pass h goes locks phase_past (other_word SlotHead refl) (λ i. other_word (SlotNext i) refl) (changed-free core.config.bodies step.number (history core.log) entry (in_phase target) index alters))
           (stripe-goes kind core step at pass h goes locks phase_past) batches)

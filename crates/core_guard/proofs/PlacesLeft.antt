@@ -1,6 +1,6 @@
 -- The locations hold after a step of which it is shown only what they say of the bodies, the nodes and the pass that it
 -- touches.
-use Rattle.std.proofs.Common.{◌≡◌, ◌≢◌, ◌↔◌, ℕ, ◌<◌, ◌≤◌, true, Option, Some, refl, ap, sym, ◌∙◌, subst, inl, inr, arith}
+use Rattle.std.proofs.Common.{◌≡◌, ◌≢◌, ◌↔◌, ℕ, ◌<◌, ◌≤◌, true, Option, Some, refl, ap, sym, ◌∙◌, subst, inl, inr, arith, List}
 use Rattle.std.specs.Prelude.{Contains, length, option_map}
 use Rattle.word_map.specs.declared.name.Name.TheVariants.{LocA, LocB, Child}
 use Rattle.core_state.specs.declared.view.Marked.{Marked}
@@ -12,16 +12,20 @@ use Rattle.core_state.specs.declared.view.View.{View}
 use Rattle.core_state.specs.View.{IsPass}
 use Rattle.core_state.specs.Core.{Core, word_of, IsViewAt}
 use Rattle.core_state.specs.Kind.{Kind, Step, after_step}
-use Rattle.core_state.specs.Encoding.{body_child, place}
+use Rattle.core_state.specs.Encoding.{body_child, place, sides_of}
 use Rattle.core_state.specs.Parts.{call_on_places, update_on_places}
 use Rattle.core_state.specs.Nodes.{Nodes, made, Stands, IsInTree, IsPublished}
-use Rattle.core_state.specs.Scope.{Sight, sight, HasPass}
+use Rattle.core_state.specs.Scope.{Sight, sight, HasPass, scene_in}
 use Rattle.core_state.specs.Updates.{HasUpdate, IsNoted, IsPlacing}
 use Rattle.core_state.specs.Bodies.{all_batches}
-use Rattle.core_state.specs.LocationsHold.{LocationsHold, location_scope, IsLocation, IsPlannedIn, IsPlannedAt, IsPublishedAt}
-use Rattle.core_guard.proofs.PlacesStay.{BodyIsPlaced, PassIsPlaced, EachPlaced, acting, taken-out, body-placed, pass-placed, places-handles, handled-seen, places-seen, placed-forth, apart-placed, apart-nowhere, location-forth, pass-forth, planned-forth, published-forth, update-forth}
-use Rattle.core_guard.proofs.Seats.{seen_of, each-step}
+use Rattle.core_state.specs.LocationsHold.{LocationsHold, location_scope, IsLocation, IsPlannedIn, IsPlannedAt, IsPublishedAt, Encloses, box_in}
+use Rattle.core_guard.proofs.PlacesStay.{BodyIsPlaced, PassIsPlaced, EachPlaced, acting, taken-out, body-placed, pass-placed, places-handles, handled-seen, places-seen, placed-forth, apart-placed, apart-nowhere, location-forth, pass-forth, planned-forth, published-forth, update-forth, stays-enclosed}
+use Rattle.core_guard.proofs.Seats.{seen_of, each-step, flat-step}
 use Rattle.core_guard.proofs.Leaving.{Acts, IsHandled, idle-places, published-stands, After, Last, Stays, IsApart, Leaves, Touches, home-back, each_update, stands-in_tree}
+use Rattle.core_guard.proofs.InPlace.{InPlace, stays-in_place}
+use Rattle.fixed_box.specs.FixBox.{words_of}
+use Rattle.scene_model.specs.declared.body_view.Phase.TheVariants.{In}
+use Rattle.scene_model.specs.Scene.{Record, record_at}
 
 -- ---- what is to be shown
 
@@ -43,15 +47,15 @@ module _ (kind : Kind) (core : Core) (step : Step) where
     pub alone : (seat number : ℕ) (view : View) → seat ≢ step.seat → IsViewAt core seat view → IsPass view number → ¬ IsHandled view.call.task i
     pub entry : (n k : ℕ) → IsPublished (nodes.home n) → k < 4 → word_of core (Child n k) ≡ body_child i → IsLocation Old i n k → IsLocation Now i n k
     pub second : (n k : ℕ) → Stands (nodes.home n) → k < 4 → word_of core (Child n k) ≡ body_child i → word_of core (LocB i) ≡ place n k → word_of (After kind core step) (LocB i) ≡ place n k
-    pub planned : (r : Rebuild) (noted : Noted) → SeenUpdate ≡ Some r → Contains r.noted noted → noted.index ≡ i
-        → IsPlannedAt nodes Old step.number (seen_of location_scope step.number step.view) r noted
-        → IsPlannedAt later Now step.number (seen_of location_scope step.number (Last kind core step)) r noted
+    pub places : IsPlacing step.view.call.task i ↔ IsPlacing (Last kind core step).call.task i
 
   -- what becomes of a body
   pub data BodyLeft (nodes later : Nodes) (i : ℕ) : Type 0 where
     body_stays : Stays kind core step i → BodyLeft nodes later i
     body_apart : IsApart kind core step nodes i → BodyLeft nodes later i
     body_anew : IsAnew nodes later i → BodyLeft nodes later i
+    body_in_place : InPlace kind core step i → ((r : Record) (n k : ℕ) → record_at (scene_in Now) i ≡ Some r → r.phase ≡ In → IsLocation Now i n k → Encloses Now n k (sides_of (words_of r.bounds)) × Encloses Now n k (box_in Now i))
+        → BodyLeft nodes later i
 
   -- the pass of which it is shown anew, or that is in the middle of what it was in the middle of, with bodies that stay
   pub data PassLeft (later : Nodes) : Type 0 where
@@ -92,12 +96,7 @@ module _ (kind : Kind) (core : Core) (step : Step) (a : Acts core step) (later :
     alone = alone;
     entry = λ n k published below entry location. (location.0, elim (location.1) [ inl e ↦ inl (loc_a ∙ e) | inr e ↦ inr (loc_b ∙ e) ]);
     second = λ n k stands below entry e. loc_b ∙ e;
-    planned = λ r noted some among same h.
-        planned-forth kind core step a later New m step.number (seen_of location_scope step.number step.view) (seen_of location_scope step.number (Last kind core step)) r noted (
-          λ places. places-seen step.view.call (Last kind core step).call noted.index (subst (λ (j : ℕ). IsPlacing step.view.call.task j → IsPlacing (Last kind core step).call.task j) (sym same) placing.0) places,
-          λ places. places-seen (Last kind core step).call step.view.call noted.index (subst (λ (j : ℕ). IsPlacing (Last kind core step).call.task j → IsPlacing step.view.call.task j) (sym same) placing.1) places,
-        )
-        (λ n k stands below entry e. ap (λ (j : ℕ). word_of (After kind core step) (LocB j)) same ∙ (loc_b ∙ (ap (λ (j : ℕ). word_of core (LocB j)) (sym same) ∙ e))) h;
+    places = placing;
   }
 
   abbrev NotedAt : ℕ → ℕ → ℕ → ℕ → Rebuild → Type 0
@@ -111,17 +110,21 @@ module _ (kind : Kind) (core : Core) (step : Step) (a : Acts core step) (later :
     body-later i = go (shown.bodies i)
       where
         go : BodyLeft kind core step nodes later i → BodyIsPlaced later Is i
-        go (body_stays b) = placed-forth kind core step a later New m i b (body-placed nodes Was places i)
+        go (body_stays b) =
+            let old = body-placed nodes Was places i in
+            placed-forth kind core step a later New m i (stays-in_place kind core step i b) old (stays-enclosed kind core step a later New m i b old)
         go (body_apart b) = apart-placed kind core step a later New m i b
         go (body_anew b) = b.placed
+        go (body_in_place b enclosed) = placed-forth kind core step a later New m i b (body-placed nodes Was places i) enclosed
 
     location-kept : (i n k : ℕ) → IsPublished (nodes.home n) → Was.word (Child n k) ≡ body_child i → IsLocation Was i n k → IsLocation Is i n k
     location-kept i n k published entry h = go (shown.bodies i)
       where
         go : BodyLeft kind core step nodes later i → IsLocation Is i n k
-        go (body_stays b) = location-forth kind core step a later New m i b n k h
+        go (body_stays b) = location-forth kind core step a later New m i (stays-in_place kind core step i b) n k h
         go (body_apart b) = absurd (apart-nowhere kind core step a later New m i b n k (stands-in_tree (nodes.home n) (published-stands (nodes.home n) published)) h)
         go (body_anew b) = b.entry n k published h.0 entry h
+        go (body_in_place b enclosed) = location-forth kind core step a later New m i b n k h
 
     second-kept : (i n k : ℕ) → Stands (nodes.home n) → k < 4 → Was.word (Child n k) ≡ body_child i → Was.word (LocB i) ≡ place n k → Is.word (LocB i) ≡ place n k
     second-kept i n k stands below entry e = go (shown.bodies i)
@@ -130,15 +133,17 @@ module _ (kind : Kind) (core : Core) (step : Step) (a : Acts core step) (later :
         go (body_stays b) = b.loc_b ∙ e
         go (body_apart b) = let none = b.second in absurd (omega arith)
         go (body_anew b) = b.second n k stands below entry e
+        go (body_in_place b enclosed) = b.loc_b ∙ e
 
     -- what others handle stays
-    stays-handled : (seat number : ℕ) (view : View) → seat ≢ step.seat → IsViewAt core seat view → IsPass view number → (i : ℕ) → IsHandled view.call.task i → Stays kind core step i
+    stays-handled : (seat number : ℕ) (view : View) → seat ≢ step.seat → IsViewAt core seat view → IsPass view number → (i : ℕ) → IsHandled view.call.task i → InPlace kind core step i
     stays-handled seat number view apart found is i handled = go (shown.bodies i)
       where
-        go : BodyLeft kind core step nodes later i → Stays kind core step i
-        go (body_stays b) = b
+        go : BodyLeft kind core step nodes later i → InPlace kind core step i
+        go (body_stays b) = stays-in_place kind core step i b
         go (body_apart b) = absurd (b.alone seat number view found is handled)
         go (body_anew b) = absurd (b.alone seat number view apart found is handled)
+        go (body_in_place b enclosed) = b
 
     own-later : PassIsPlaced nodes Was (call_on_places step.view.call) (option_map update_on_places step.view.rebuild) → PassIsPlaced later Is (call_on_places (Last kind core step).call) (option_map update_on_places (Last kind core step).rebuild)
     own-later p =
@@ -148,7 +153,8 @@ module _ (kind : Kind) (core : Core) (step : Step) (a : Acts core step) (later :
         go (pass_anew own) = own
         go (pass_stays same stay) =
             subst (λ (c : Call). PassIsPlaced later Is c (option_map update_on_places step.view.rebuild)) (sym same)
-            (pass-forth kind core step a later New m (option_map update_on_places step.view.rebuild) (call_on_places step.view.call) stay p)
+            (pass-forth kind core step a later New m (option_map update_on_places step.view.rebuild) (call_on_places step.view.call)
+            (λ i handled. stays-in_place kind core step i (stay i handled)) p)
 
     passes-later : EachPlaced later Is
     passes-later =
@@ -177,12 +183,13 @@ module _ (kind : Kind) (core : Core) (step : Step) (a : Acts core step) (later :
 
         go : BodyLeft kind core step nodes later noted.index → IsPlannedAt later Is step.number (seen_of location_scope step.number (Last kind core step)) r noted
         go (body_stays b) = forth b.places
+        go (body_in_place b enclosed) = forth b.places
         go (body_apart b) =
             forth (
               λ places. absurd (b.alone step.seat step.number step.view a.at a.pass (places-handles one.task noted.index places)),
               λ places. absurd (b.alone_after (places-handles other.task noted.index places)),
             )
-        go (body_anew b) = b.planned r noted some among refl h
+        go (body_anew b) = forth b.places
 
     pub LocationsHold-leaves : LocationsHold later (After kind core step)
     LocationsHold-leaves = record {
@@ -245,3 +252,19 @@ LocationsHold-touches kind core step a later t = LocationsHold-leaves kind core 
           | inl b ↦ b
           | inr b ↦ absurd (b.alone step.seat step.number step.view a.at a.pass (handled-seen step.view.call i handled))
         ]
+
+-- ---- a step after which all bodies stand as they stood
+
+pub LocationsHold-stays : (kind : Kind) (core : Core) (step : Step) (a : Acts core step) → Leaves kind core step a.laws.nodes a.laws.nodes (λ n. ⊥) → ((i : ℕ) → Stays kind core step i) → (Last kind core step).batches ≡ step.view.batches
+    → PassIsPlaced a.laws.nodes (sight location_scope (After kind core step)) (call_on_places (Last kind core step).call) (SeenUpdate kind core step) → LocationsHold a.laws.nodes (after_step kind core step)
+LocationsHold-stays kind core step a m stays batches own = LocationsHold-leaves kind core step a a.laws.nodes (λ n. ⊥) m (record {
+  bodies = λ i. body_stays (stays i);
+  own = pass_anew own;
+  entries = λ i n k new. absurd new;
+  made_entries = λ i n k number l new. absurd new;
+  held = λ batch m among marked.
+      let same = flat-step location_scope (λ k v. refl) kind core step a.at a.pass (λ view. view.batches) batches in
+      let old = a.laws.locations.held batch m (subst (λ (l : List Batch). Contains l batch) same among) marked in
+      let b = stays m.index in
+      (elim (old.0) [ inl t ↦ inl (t.0, b.loc_a ∙ t.1) | inr t ↦ inr (t.0, b.loc_a ∙ t.1, t.2) ], b.loc_b ∙ old.1);
+})

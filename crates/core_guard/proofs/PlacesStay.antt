@@ -1,11 +1,11 @@
 -- What the law of locations says of one body, one pass and one update, and that it stays where the step leaves them.
-use Rattle.std.proofs.Common.{◌≡◌, ◌≢◌, ◌↔◌, ℕ, ◌<◌, ◌≤◌, List, Option, Some, None, refl, ap, sym, ◌∙◌, subst, inl, inr, arith}
+use Rattle.std.proofs.Common.{◌≡◌, ◌≢◌, ◌↔◌, ℕ, ◌<◌, ◌≤◌, List, Option, Some, None, refl, ap, sym, ◌∙◌, subst, inl, inr, arith, []}
 use Rattle.std.specs.Prelude.{Contains, IsNone, IsSomeAnd, length}
 use Rattle.fixed_box.specs.FixBox.{words_of}
 use Rattle.scene_model.specs.declared.body_view.Phase.TheVariants.{Out, Held, In}
 use Rattle.scene_model.specs.Scene.{Record, record_at}
 use Rattle.scene_model.specs.Step.{HasBody}
-use Rattle.word_map.specs.declared.name.Name.TheVariants.{LocA, LocB, Child}
+use Rattle.word_map.specs.declared.name.Name.TheVariants.{Phase, LocA, LocB, Child}
 use Rattle.core_state.specs.declared.item.Store.{Store}
 use Rattle.core_state.specs.declared.view.Task.{Task}
 use Rattle.core_state.specs.declared.view.Task.TheVariants.{Nothing, Creating, Destroying, Pooling, Moving, Removing, Placing}
@@ -21,11 +21,14 @@ use Rattle.core_state.specs.Parts.{call_by_task, call_on_places, update_on_place
 use Rattle.core_state.specs.Nodes.{Nodes, Home, IsLive, Stands, IsInTree, Above}
 use Rattle.core_state.specs.Scope.{Sight, sight, scene_in, bare_view, HasPass, EachPass}
 use Rattle.core_state.specs.TreesSound.{tree_scope}
-use Rattle.core_state.specs.Updates.{HasUpdate, IsStillMerged, IsSameBody, IsPlacing, IsDone}
+use Rattle.core_state.specs.Updates.{HasUpdate, IsStillMerged, IsPlacing, IsDone}
 use Rattle.core_state.specs.LocationsHold.{LocationsHold, LocationsHoldIn, location_scope, IsLocation, IsAt, Encloses, box_in, Removes, IsRemoved, IsTakenOut, has_cleared_location, IsPlacedNow, IsWhere, in_slot, in_main, in_old, in_merged, IsSecondFor, IsSecond, IsPlannedAt, IsPublishedAt, GivesBox, IsWidened, IsStillWide, ClimbsFrom, IsOnItsWay, IsWidenedOnWay, IsUnheld}
 use Rattle.core_state.proofs.Beginning.{record_body}
 use Rattle.core_guard.proofs.Seats.{each-seat, has-step}
-use Rattle.core_guard.proofs.Leaving.{Acts, IsHandled, IsIdle, idle-unhandled, LeadsWithin, sound-leads, IsAsBefore, After, Last, Stays, IsApart, Leaves, home-forth, stands-later, wider, above-stands, above-forth, above-back, has_update, body-forth, body-back, none-back, record-back, stands-in_tree, held-once, live-stands, covers-more}
+use Rattle.core_guard.proofs.InPlace.{InPlace, stays-in_place, none-was, phase-back, phase-forth, in-stays, in-was, unremoved-stays, IsAlike, alike-forth}
+use Rattle.core_guard.proofs.Leaving.{Acts, IsHandled, IsIdle, idle-unhandled, LeadsWithin, sound-leads, After, Last, Stays, IsApart, Leaves, home-forth, stands-later, wider, above-stands, above-forth, above-back, has_update, record-back, stands-in_tree, held-once, live-stands, covers-more, out_held}
+use Rattle.std.proofs.lemmas.Bool.{false≢true}
+use Rattle.core_state.proofs.Opening.{none_in}
 
 -- ---- what the law says of one body, and of one pass
 
@@ -48,6 +51,20 @@ pub record PassIsPlaced (nodes : Nodes) (s : Sight) (call : Call) (rebuild : Opt
   pub climbs_from : (n k : ℕ) → ClimbsFrom s (acting call rebuild) call.task n k → Stands (nodes.home n)
   pub on_its_way : IsOnItsWay s (acting call rebuild)
   pub widened_on_way : IsWidenedOnWay s (acting call rebuild)
+
+-- a call that has loaded and stored nothing
+pub begun-placed : (nodes : Nodes) (s : Sight) (r : Option Rebuild) (task : Task)
+    → ((i : ℕ) → Removes task i → IsTakenOut nodes s (acting (record { task = task; loads = []; stores = [] }) r) i) → IsUnheld s task
+    → ((n k : ℕ) → ClimbsFrom s (acting (record { task = task; loads = []; stores = [] }) r) task n k → Stands (nodes.home n)) → PassIsPlaced nodes s (record { task = task; loads = []; stores = [] }) r
+begun-placed nodes s r task removed unheld climbs = record {
+  removed = removed;
+  unheld = unheld;
+  widened = λ i n k box gives has. absurd (false≢true has);
+  still_wide = λ n k q value among. absurd (none_in _ among);
+  climbs_from = climbs;
+  on_its_way = λ m value among. absurd (none_in _ among);
+  widened_on_way = λ x y q value among. absurd (none_in _ among);
+}
 
 -- of a view it reads what was stored alone
 pub taken-out : (nodes : Nodes) (s : Sight) (v w : View) (i : ℕ) → w.call.stores ≡ v.call.stores → IsTakenOut nodes s v i → IsTakenOut nodes s w i
@@ -144,9 +161,6 @@ held-unhandled s (Moving index target) i unheld out held e = held-once (record_a
 held-unhandled s (Placing index) i unheld out held e = held-once (record_at (scene_in s) index) unheld (subst (λ (j : ℕ). HasBody (scene_in s) j (λ r. r.phase ≡ Held)) (sym e) held)
 held-unhandled s (Removing index) i unheld out held e = go (record_at (scene_in s) i) (out e) held
   where
-    out_held : Out ≡ Held → ⊥
-    out_held e = absurd cc
-
     go : (o : Option Record) → IsSomeAnd o (λ r. r.phase ≡ Out) → IsSomeAnd o (λ r. r.phase ≡ Held) → ⊥
     go None h k = h
     go (Some r) h k = out_held (sym h ∙ k)
@@ -201,22 +215,29 @@ module _ (kind : Kind) (core : Core) (step : Step) (a : Acts core step) (later :
   pub update-forth : (number : ℕ) (P Q : Rebuild → Type 0) → ((r : Rebuild) → P r → Q r) → HasPass Was number (λ v. HasUpdate v P) → HasPass Is number (λ v. HasUpdate v Q)
   update-forth = has_update kind core step a nodes later New m location_scope (λ k v. refl) update_on_places (λ bare v. refl)
 
-  -- ---- a body that stays
+  -- ---- a body that stays where it is
 
-  module _ (i : ℕ) (b : Stays kind core step i) where
+  -- if it is in the broad phase, its box and its box words lie in all bounds from each location up
+  abbrev pub IsEnclosed : ℕ → Type 0
+  IsEnclosed i = (r : Record) (n k : ℕ) → record_at (scene_in Is) i ≡ Some r → r.phase ≡ In → IsLocation Is i n k → Encloses Is n k (sides_of (words_of r.bounds)) × Encloses Is n k (box_in Is i)
+
+  -- a second location that stays is one still
+  pub second-forth : (i : ℕ) → Is.word (LocB i) ≡ Was.word (LocB i) → IsAlike (record_at (scene_in Was) i) (record_at (scene_in Is) i) → IsSecond Was i → IsSecond Is i
+  second-forth i loc_b body h = (
+    h.0,
+    update-forth h.0 (IsSecondFor Was i) (IsSecondFor Is i)
+        (λ r t.
+        let n = t.3 in
+        let alike = subst (λ (j : ℕ). IsAlike (record_at (scene_in Was) j) (record_at (scene_in Is) j)) (sym n.2) body in
+        (t.0, t.1, t.2, (n.0, n.1, n.2, (loc_b ∙ n.3.0, alike-forth _ _ alike (λ g l. (g ≡ n.0.generation) × (l ≡ n.0.layer)) n.3.1)))) h.1,
+  )
+
+  module _ (i : ℕ) (b : InPlace kind core step i) where
     pub location-back : (n k : ℕ) → IsLocation Is i n k → IsLocation Was i n k
     location-back n k h = (h.0, elim (h.1) [ inl e ↦ inl (sym b.loc_a ∙ e) | inr e ↦ inr (sym b.loc_b ∙ e) ])
 
     pub location-forth : (n k : ℕ) → IsLocation Was i n k → IsLocation Is i n k
     location-forth n k h = (h.0, elim (h.1) [ inl e ↦ inl (b.loc_a ∙ e) | inr e ↦ inr (b.loc_b ∙ e) ])
-
-    pub at-forth : (n k user : ℕ) (r : Record) → IsAt nodes Was i (record r { user = user }) n k → IsAt later Is i r n k
-    at-forth n k user r h = record {
-      stands = later_stands n h.stands;
-      entry = m.child n k (stands-in_tree (nodes.home n) h.stands) ∙ h.entry;
-      bounds = encloses-forth n k (sides_of (words_of r.bounds)) h.stands h.bounds;
-      box_words = subst (λ (box : Sides). Encloses Is n k box) (λ j q. sym (b.box q) j) (encloses-forth n k (box_in Was i) h.stands h.box_words);
-    }
 
     placed_now-forth : IsPlacedNow Was i → IsPlacedNow Is i
     placed_now-forth h = (
@@ -225,18 +246,11 @@ module _ (kind : Kind) (core : Core) (step : Step) (a : Acts core step) (later :
           (λ same. places-seen step.view.call (Last kind core step).call i b.places.0),
     )
 
-    removed-forth : IsRemoved Was i → IsRemoved Is i
-    removed-forth h = (
-      h.0,
-      has-step location_scope (λ k v. refl) kind core step a.at a.pass h.0 (λ v. Removes v.call.task i) (λ v. Removes v.call.task i) h.1 (λ seat view apart found own removes. removes)
-          (λ same. removes-seen step.view.call (Last kind core step).call i b.removes.0),
-    )
-
-    pub where-forth : (layer n : ℕ) → IsWhere nodes Was i layer n → IsWhere later Is i layer n
-    where-forth layer n (in_slot t e home second) =
-        in_slot t (b.phase ∙ e) (home_forth n _ tt home) (elim second [ inl none ↦ inl (b.loc_b ∙ none) | inr placed ↦ inr (placed_now-forth placed) ])
-    where-forth layer n (in_main e home second) =
-        in_main (b.phase ∙ e) (home_forth n _ tt home)
+    where-forth : (layer n : ℕ) → Is.word (Phase i) ≡ Was.word (Phase i) → IsWhere nodes Was i layer n → IsWhere later Is i layer n
+    where-forth layer n phase (in_slot t e home second) =
+        in_slot t (phase ∙ e) (home_forth n _ tt home) (elim second [ inl none ↦ inl (b.loc_b ∙ none) | inr placed ↦ inr (placed_now-forth placed) ])
+    where-forth layer n phase (in_main e home second) =
+        in_main (phase ∙ e) (home_forth n _ tt home)
         (elim second [
           | inl none ↦ inl (b.loc_b ∙ none)
           | inr t ↦
@@ -245,39 +259,39 @@ module _ (kind : Kind) (core : Core) (step : Step) (a : Acts core step) (later :
                 | inr old ↦ inr (old.0, update-forth old.0 (λ r. length r.swapped ≤ layer) (λ r. length r.swapped ≤ layer) (λ r few. few) old.1)
               ])
         ])
-    where-forth layer n (in_old number name e second home of_layer) = in_old number name (b.phase ∙ e) (λ none. second (sym b.loc_b ∙ none)) (home_forth n _ tt home) of_layer
-    where-forth layer n (in_merged number t root e second home has) =
-        in_merged number t root (b.phase ∙ e) (λ none. second (sym b.loc_b ∙ none)) (home_forth n _ tt home)
+    where-forth layer n phase (in_old number name e second home of_layer) = in_old number name (phase ∙ e) (λ none. second (sym b.loc_b ∙ none)) (home_forth n _ tt home) of_layer
+    where-forth layer n phase (in_merged number t root e second home has) =
+        in_merged number t root (phase ∙ e) (λ none. second (sym b.loc_b ∙ none)) (home_forth n _ tt home)
         (update-forth number (λ r. IsStillMerged r layer t root) (λ r. IsStillMerged r layer t root) (λ r merged. merged) has)
-
-    same-forth : (noted : Noted) → noted.index ≡ i → IsSameBody Was noted → IsSameBody Is noted
-    same-forth noted e same =
-        body-forth (λ r. (r.generation ≡ noted.generation) × (r.layer ≡ noted.layer)) (λ r user. (λ t. t, λ t. t)) (record_at (scene_of core) noted.index) (record_at (scene_of (After kind core step)) noted.index)
-        (subst (λ (j : ℕ). IsAsBefore (record_at (scene_of core) j) (record_at (scene_of (After kind core step)) j)) (sym e) b.body) same
-
-    pub second-forth : IsSecond Was i → IsSecond Is i
-    second-forth h = (
-      h.0,
-      update-forth h.0 (IsSecondFor Was i) (IsSecondFor Is i) (λ r t. let noted = t.3 in (t.0, t.1, t.2, (noted.0, noted.1, noted.2, (b.loc_b ∙ noted.3.0, same-forth noted.0 noted.2 noted.3.1)))) h.1,
-    )
 
     nowhere-forth : (Was.word (LocA i) ≡ 0) × (Was.word (LocB i) ≡ 0) → (Is.word (LocA i) ≡ 0) × (Is.word (LocB i) ≡ 0)
     nowhere-forth h = (b.loc_a ∙ h.0, b.loc_b ∙ h.1)
 
-    pub phase-forth : (P : Record → Type 0) → ((r : Record) (user : ℕ) → P r ↔ P (record r { user = user })) → HasBody (scene_in Was) i P → HasBody (scene_in Is) i P
-    phase-forth P steady h = body-forth P steady (record_at (scene_of core) i) (record_at (scene_of (After kind core step)) i) b.body h
-
-    pub phase-back : (P : Record → Type 0) → ((r : Record) (user : ℕ) → P r ↔ P (record r { user = user })) → HasBody (scene_in Is) i P → HasBody (scene_in Was) i P
-    phase-back P steady h = body-back P steady (record_at (scene_of core) i) (record_at (scene_of (After kind core step)) i) b.body h
-
-    pub placed-forth : BodyIsPlaced nodes Was i → BodyIsPlaced later Is i
-    placed-forth h = record {
-      at = λ r n k e inside location. let old = record-back _ _ r b.body e in at-forth n k old.0 r (h.at (record r { user = old.0 }) n k old.1 inside (location-back n k location));
-      first = λ r n k e inside below location. let old = record-back _ _ r b.body e in where-forth r.layer n (h.first (record r { user = old.0 }) n k old.1 inside below (sym b.loc_a ∙ location));
-      second = λ other. second-forth (h.second (λ none. other (b.loc_b ∙ none)));
-      dead = λ none. nowhere-forth (h.dead (none-back _ _ b.body none));
-      out = λ body kept. nowhere-forth (h.out (phase-back (λ r. r.phase ≡ Out) (λ r user. (λ t. t, λ t. t)) body) (λ removed. kept (removed-forth removed)));
+    pub placed-forth : BodyIsPlaced nodes Was i → IsEnclosed i → BodyIsPlaced later Is i
+    placed-forth h enclosed = record {
+      at = λ q n k e inside location.
+          let old = in-was kind core step i b q e inside in
+          let was = h.at old.0 n k old.1 old.2 (location-back n k location) in
+          let box = enclosed q n k e inside location in
+          record { stands = later_stands n was.stands; entry = m.child n k (stands-in_tree (nodes.home n) was.stands) ∙ was.entry; bounds = box.0; box_words = box.1 };
+      first = λ q n k e inside below location.
+          let old = in-was kind core step i b q e inside in
+          where-forth q.layer n (in-stays kind core step i b q e inside).word (subst (λ (l : ℕ). IsWhere nodes Was i l n) (sym old.3) (h.first old.0 n k old.1 old.2 below (sym b.loc_a ∙ location)));
+      second = λ other. second-forth i b.loc_b b.body (h.second (λ none. other (b.loc_b ∙ none)));
+      dead = λ none. nowhere-forth (h.dead (none-was kind core step i b none));
+      out = λ body kept.
+          let t = unremoved-stays kind core step i b a location_scope (λ k v. refl) (seen-task (λ task. Removes task i) (removes-busy i) step.view.call) (task-seen (λ task. Removes task i) (removes-busy i) (Last kind core step).call) kept in
+          nowhere-forth (h.out (phase-back kind core step i b (λ p. p ≡ Out) t.0 body) t.1);
     }
+
+  -- one of which all stays lies in them as it did
+  pub stays-enclosed : (i : ℕ) → Stays kind core step i → BodyIsPlaced nodes Was i → IsEnclosed i
+  stays-enclosed i b h q n k e inside location =
+      let old = record-back _ _ q b.body e in
+      let was = h.at (record q { user = old.0 }) n k old.1 inside (location-back i (stays-in_place kind core step i b) n k location) in (
+        encloses-forth n k (sides_of (words_of q.bounds)) was.stands was.bounds,
+        subst (λ (box : Sides). Encloses Is n k box) (λ j p. sym (b.box p) j) (encloses-forth n k (box_in Was i) was.stands was.box_words),
+      )
 
   -- ---- a body that is apart
 
@@ -301,24 +315,24 @@ module _ (kind : Kind) (core : Core) (step : Step) (a : Acts core step) (later :
   -- ---- passes that handle no body but such as stay
 
   module _ (rebuild : Option Rebuild) where
-    pub climbs-back : (call : Call) (task : Task) → ((i : ℕ) → IsHandled task i → Stays kind core step i) → (n k : ℕ) → ClimbsFrom Is (acting call rebuild) task n k → ClimbsFrom Was (acting call rebuild) task n k
+    pub climbs-back : (call : Call) (task : Task) → ((i : ℕ) → IsHandled task i → InPlace kind core step i) → (n k : ℕ) → ClimbsFrom Is (acting call rebuild) task n k → ClimbsFrom Was (acting call rebuild) task n k
     climbs-back call (Moving index target) stay n k h = location-back index (stay index refl) n k h
     climbs-back call (Placing index) stay n k h = h
     climbs-back call _ stay n k h = absurd h
 
-    pub climbs-forth : (call : Call) (task : Task) → ((i : ℕ) → IsHandled task i → Stays kind core step i) → (n k : ℕ) → ClimbsFrom Was (acting call rebuild) task n k → ClimbsFrom Is (acting call rebuild) task n k
+    pub climbs-forth : (call : Call) (task : Task) → ((i : ℕ) → IsHandled task i → InPlace kind core step i) → (n k : ℕ) → ClimbsFrom Was (acting call rebuild) task n k → ClimbsFrom Is (acting call rebuild) task n k
     climbs-forth call (Moving index target) stay n k h = location-forth index (stay index refl) n k h
     climbs-forth call (Placing index) stay n k h = h
     climbs-forth call _ stay n k h = absurd h
 
-    pub unheld-forth : (task : Task) → ((i : ℕ) → IsHandled task i → Stays kind core step i) → IsUnheld Was task → IsUnheld Is task
-    unheld-forth (Moving index target) stay h = phase-forth index (stay index refl) (λ r. r.phase ≢ Held) (λ r user. (λ t. t, λ t. t)) h
-    unheld-forth (Placing index) stay h = phase-forth index (stay index refl) (λ r. r.phase ≢ Held) (λ r user. (λ t. t, λ t. t)) h
+    pub unheld-forth : (task : Task) → ((i : ℕ) → IsHandled task i → InPlace kind core step i) → IsUnheld Was task → IsUnheld Is task
+    unheld-forth (Moving index target) stay h = phase-forth kind core step index (stay index refl) (λ p. p ≢ Held) (λ e. absurd cc) h
+    unheld-forth (Placing index) stay h = phase-forth kind core step index (stay index refl) (λ p. p ≢ Held) (λ e. absurd cc) h
     unheld-forth _ stay h = tt
 
-    pub taken-forth : (call : Call) (i : ℕ) → Stays kind core step i → IsTakenOut nodes Was (acting call rebuild) i → IsTakenOut later Is (acting call rebuild) i
+    pub taken-forth : (call : Call) (i : ℕ) → InPlace kind core step i → IsTakenOut nodes Was (acting call rebuild) i → IsTakenOut later Is (acting call rebuild) i
     taken-forth call i b h = record {
-      out = phase-forth i b (λ r. r.phase ≡ Out) (λ r user. (λ t. t, λ t. t)) h.out;
+      out = phase-forth kind core step i b (λ p. p ≡ Out) refl h.out;
       cleared = λ n k location.
           let t = h.cleared n k (location-back i b n k location) in
           let child = m.child n k (stands-in_tree (nodes.home n) t.0) in
@@ -328,7 +342,7 @@ module _ (kind : Kind) (core : Core) (step : Step) (a : Acts core step) (later :
           subst IsLive (sym (m.stays n (stands-in_tree (nodes.home n) (live-stands (nodes.home n) live)))) live;
     }
 
-    pub pass-forth : (call : Call) → ((i : ℕ) → IsHandled call.task i → Stays kind core step i) → PassIsPlaced nodes Was call rebuild → PassIsPlaced later Is call rebuild
+    pub pass-forth : (call : Call) → ((i : ℕ) → IsHandled call.task i → InPlace kind core step i) → PassIsPlaced nodes Was call rebuild → PassIsPlaced later Is call rebuild
     pass-forth call stay p = record {
       removed = λ i removes. taken-forth call i (stay i (removes-handles call.task i removes)) (p.removed i removes);
       unheld = unheld-forth call.task stay p.unheld;

@@ -1,11 +1,11 @@
 -- The readers are counted after a step that leaves nodes where they stand and widens bounds at most, to sides that count.
-use Rattle.std.proofs.Common.{◌≡◌, ◌≢◌, ◌⊎◌, ◌↔◌, ℕ, suc, ◌+◌, ◌%◌, ◌<◌, ◌≤◌, List, [], ◌∷◌, Option, Some, None, length, true, refl, ap, sym, ◌∙◌, subst, inl, inr, arith}
-use Rattle.std.specs.Prelude.{Contains, AllPairs, map, get_or, option_map, IfSome}
+use Rattle.std.proofs.Common.{◌≡◌, ◌≢◌, ◌⊎◌, ◌↔◌, ℕ, suc, ◌+◌, ◌%◌, ◌<◌, ◌≤◌, List, [], ◌∷◌, Option, Some, None, length, true, refl, ap, sym, ◌∙◌, subst, inl, inr, arith, ◌++◌}
+use Rattle.std.specs.Prelude.{Contains, AllPairs, map, get_or, option_map, IfSome, IsSomeAnd}
 use Rattle.std.proofs.lemmas.Bool.{cases_lt, cases_eq}
 use Rattle.std.proofs.lemmas.List.{get_or_default}
 use Rattle.scene_model.specs.declared.entry.Made.{Made}
 use Rattle.fixed_box.specs.FixBox.{words_of}
-use Rattle.scene_model.specs.Scene.{Scene, record_at}
+use Rattle.scene_model.specs.Scene.{Scene, record_at, Record}
 use Rattle.scene_model.specs.Step.{HasBody}
 use Rattle.word_map.specs.declared.name.Name.{Name}
 use Rattle.word_map.specs.declared.name.Name.TheVariants.{Reader, Child, Bound, LocA, LocB}
@@ -23,7 +23,7 @@ use Rattle.core_state.specs.Core.{Core, word_of, scene_of, IsViewAt}
 use Rattle.core_state.specs.Kind.{Kind, Step}
 use Rattle.core_state.specs.Encoding.{node_child, place, Sides, sides_of, bound_in}
 use Rattle.core_state.specs.Nodes.{Nodes, Home, made, IsLive, Stands, IsInTree, IsOfLayer, Above, here, Below, itself, lower}
-use Rattle.core_state.specs.Parts.{task_at_place, update_on_places, update_on_readers}
+use Rattle.core_state.specs.Parts.{task_at_place, update_on_places, update_on_readers, update_on_cover}
 use Rattle.core_state.specs.Scope.{Sight, sight, HasPass, EachPass}
 use Rattle.core_state.specs.Space.{HadAs, HadInLayer, IsTarget, IsComing, IsInHull, IsInLayer, IsInSpace}
 use Rattle.core_state.specs.Updates.{EachUpdate}
@@ -31,11 +31,14 @@ use Rattle.core_state.specs.TreesSound.{tree_scope}
 use Rattle.core_state.specs.LocationsHold.{LocationsHold, IsLocation, IsPlannedAt, IsPublishedAt, location_scope}
 use Rattle.core_state.specs.Walking.{Query, Spot, resting, at_child, at_bound, Position, waiting, Follows, position_of}
 use Rattle.core_state.specs.ReadersCounted.{ReadersCounted, reader_scope, ReachesByChild, ReachesBySpot, the_node, the_node_of_bound, by_child, by_next_child, by_part, Reaches, by_stack, by_spot, layer_at_hand, waiting_at, AreApart, IsWalkedAt, WalkStays, ReadsInSpace, AvoidsSuperseded, HasSeenOff, ClimbsInTrees, IsPlannedBelow, IsSideOf, IsTight}
-use Rattle.core_state.proofs.Beginning.{body_record, record_body, cases_cons}
+use Rattle.core_state.proofs.Beginning.{body_record, record_body, cases_cons, last_point}
 use Rattle.core_state.proofs.Steps.{view-step}
-use Rattle.core_guard.proofs.Seats.{each-seat, each-seats, has-seat, each-step, has-step, has-unstep, seat-has}
+use Rattle.core_guard.proofs.Seats.{each-seat, each-seats, has-seat, each-step, has-step, has-unstep, seat-has, HasSeat, seat-before, steps_now, stays}
 use Rattle.core_guard.proofs.Growing.{point-grown, length-grown, had_in_layer-grown}
-use Rattle.core_guard.proofs.Leaving.{Acts, if_some_map, if_some_both, some_and_map, IsHandled, IsIdle, LeadsWithin, sound-leads, stands-in_tree, After, Last, Stays, Leaves, Touches, above-forth, above-back, each_update, body-forth, live-stands, other-number}
+use Rattle.core_guard.proofs.Leaving.{Acts, if_some_map, if_some_both, some_and_map, IsHandled, IsIdle, LeadsWithin, sound-leads, stands-in_tree, After, Last, Stays, Leaves, Touches, above-forth, above-back, each_update, live-stands, other-number}
+use Rattle.core_guard.proofs.InPlace.{InPlace, stays-in_place, creation-forth}
+use Rattle.core_state.specs.BodiesCovered.{cover_scope}
+use Rattle.scene_model.specs.History.{point}
 
 -- ---- hulls and lists
 
@@ -435,22 +438,22 @@ module _ (kind : Kind) (core : Core) (step : Step) (a : Acts core step) (later :
   goes_on-same c w =
       let h = a.laws.readers in
       let own = each-seat reader_scope (λ k v. refl) core in
-      let stays = own _ h.stays step.seat step.number step.view a.at a.pass in
+      let walks = own _ h.stays step.seat step.number step.view a.at a.pass in
       let odd-same : Now.word (Reader step.number) % 2 ≡ Old.word (Reader step.number) % 2 = ap (λ (x : ℕ). x % 2) (w.reader step.number) in
       record {
         odd = λ was. (λ e. ap (λ (x : Walk). x.is_on) w.walk ∙ was.0 (sym odd-same ∙ e), λ on. odd-same ∙ was.1 (ap (λ (x : Walk). x.is_on) (sym w.walk) ∙ on));
         seen = λ number other. w.reader number;
-        stays = subst (λ (x : Walk). WalkIn later Now x) (sym w.walk) (walk-forth step.view.walk stays);
-        in_space = subst (λ (x : Walk). SpaceIn Now x) (sym w.walk) (walk_space-forth c step.view.walk stays (own _ h.in_space step.seat step.number step.view a.at a.pass));
+        stays = subst (λ (x : Walk). WalkIn later Now x) (sym w.walk) (walk-forth step.view.walk walks);
+        in_space = subst (λ (x : Walk). SpaceIn Now x) (sym w.walk) (walk_space-forth c step.view.walk walks (own _ h.in_space step.seat step.number step.view a.at a.pass));
         avoids = each_update kind core step a Before later New m reader_scope (λ k v. refl) update_on_readers (λ bare view. refl)
             (λ number v r. EachPass Old (Off Before Old number r)) (λ number v r. HasSeenOff Now r step.number → AvoidsSuperseded later Now number (Last kind core step).walk) h.seen_off
-            (λ number v r off seen. avoids-own number r stays w (own _ off step.seat step.number step.view a.at a.pass) seen)
-            (λ r some off seen. avoids-own step.number r stays w (own _ off step.seat step.number step.view a.at a.pass) seen);
+            (λ number v r off seen. avoids-own number r walks w (own _ off step.seat step.number step.view a.at a.pass) seen)
+            (λ r some off seen. avoids-own step.number r walks w (own _ off step.seat step.number step.view a.at a.pass) seen);
       }
     where
       avoids-own : (number : ℕ) (r : Rebuild) → WalkIn Before Old step.view.walk → SameWalk → (HasSeenOff Old r step.number → AvoidsSuperseded Before Old number step.view.walk) → HasSeenOff Now r step.number → AvoidsSuperseded later Now number (Last kind core step).walk
-      avoids-own number r stays w off seen =
-          subst (λ (x : Walk). AvoidsSuperseded later Now number x) (sym w.walk) (avoids-forth number step.view.walk stays (off (seen-back r step.number (w.reader step.number) seen)))
+      avoids-own number r walks w off seen =
+          subst (λ (x : Walk). AvoidsSuperseded later Now number x) (sym w.walk) (avoids-forth number step.view.walk walks (off (seen-back r step.number (w.reader step.number) seen)))
 
   pub ReadersCounted-leaves : Counts → SameWalk → ReadersCounted later (After kind core step)
   ReadersCounted-leaves c w = ReadersCounted-goes_on c (goes_on-same c w)
@@ -461,9 +464,14 @@ module _ (kind : Kind) (core : Core) (step : Step) (a : Acts core step) (later :
   abbrev pub KeepsLayer : ℕ → Type 0
   KeepsLayer i = (g l : ℕ) → HasBody (scene_of core) i (λ r. (r.generation ≡ g) × (r.layer ≡ l)) → HasBody (scene_of (After kind core step)) i (λ r. (r.generation ≡ g) × (r.layer ≡ l))
 
-  -- what is to be shown where the own pass is to give bodies the same boxes: bodies that passes handle keep their layers
+  -- the body has this side now
+  abbrev HasSide : ℕ → ℕ → ℕ → Type 0
+  HasSide index q side = HasBody (scene_of (After kind core step)) index (λ r. sides_of (words_of r.bounds) q ≡ side)
+
+  -- what is to be shown where the own pass is to give bodies the same boxes, or has given them: bodies that passes handle
+  -- keep their layers
   pub record KeepsTargets : Type 0 where
-    pub targets : (index q side : ℕ) → IsTarget step.view.call.task index q side → IsTarget (Last kind core step).call.task index q side
+    pub targets : (index q side : ℕ) → IsTarget step.view.call.task index q side → IsTarget (Last kind core step).call.task index q side ⊎ HasSide index q side
     pub bodies : (seat number : ℕ) (view : View) → IsViewAt core seat view → IsPass view number → (i : ℕ) → IsHandled view.call.task i → KeepsLayer i
 
   pub had-forth : (l : ℕ) (box : Sides) → HadInLayer Old l box → HadInLayer Now l box
@@ -480,13 +488,24 @@ module _ (kind : Kind) (core : Core) (step : Step) (a : Acts core step) (later :
             (sym (point-grown core.config.bodies Old.history m.more h.0 h.2)) h.3,
       )
 
-  coming-forth : KeepsTargets → (index q side : ℕ) → IsComing Old index q side → IsComing Now index q side
-  coming-forth t index q side h = (
-    h.0,
-    has-step reader_scope (λ k v. refl) kind core step a.at a.pass h.0 (λ v. IsTarget v.call.task index q side) (λ v. IsTarget v.call.task index q side) h.1
-        (λ seat view apart found pass target. target)
-        (λ same target. target-seen (Last kind core step).call.task index q side (t.targets index q side (target-was step.view.call.task index q side target))),
-  )
+  -- what a body has it had at the last point of the history
+  had-now : (index : ℕ) (P : Record → Type 0) → HasBody (scene_of (After kind core step)) index P → HasBody (point core.config.bodies Now.history (length Now.history)) index P
+  had-now index P h = subst (λ (s : Scene). HasBody s index P) (sym (last_point (After kind core step))) h
+
+  coming-left : KeepsTargets → (index q side : ℕ) → IsComing Old index q side → IsComing Now index q side ⊎ HasSide index q side
+  coming-left t index q side h =
+      let from = has-seat reader_scope (λ k v. refl) core h.0 (λ v. IsTarget v.call.task index q side) h.1 in
+      elim (seat-before reader_scope (λ k v. refl) kind core step a.at a.pass from.seat h.0 from.view from.at from.pass) [
+        | steps_now same one two ↦
+            elim (t.targets index q side (target-was step.view.call.task index q side (subst (λ (v : View). IsTarget (task_at_place v.call.task) index q side) (sym one) from.holds))) [
+              | inl target ↦ inl (comes step.number (record { seat = step.seat; view = Last kind core step; at = view-step kind core step a.at; pass = a.pass; holds = target-seen (Last kind core step).call.task index q side target }))
+              | inr has ↦ inr has
+            ]
+        | stays apart new ↦ inl (comes h.0 (record { seat = from.seat; view = from.view; at = new; pass = from.pass; holds = from.holds }))
+      ]
+    where
+      comes : (number : ℕ) → HasSeat reader_scope (λ k v. refl) (After kind core step) number (λ v. IsTarget v.call.task index q side) → IsComing Now index q side
+      comes number seat = (number, seat-has reader_scope (λ k v. refl) (After kind core step) number (λ v. IsTarget v.call.task index q side) seat)
 
   coming-keeps : KeepsTargets → (index q side : ℕ) → IsComing Old index q side → KeepsLayer index
   coming-keeps t index q side h =
@@ -501,18 +520,75 @@ module _ (kind : Kind) (core : Core) (step : Step) (a : Acts core step) (later :
   -- all that counted for a layer or for an update counts then
   pub layers-kept : KeepsTargets → (l q side : ℕ) → IsInLayer Old l q side → IsInLayer Now l q side
   layers-kept t l q side (inl had) = inl (had.0, had-forth l had.0 had.1, had.2)
-  layers-kept t l q side (inr coming) = inr (coming.0, coming-forth t coming.0 q side coming.1, layer-forth coming.0 l (coming-keeps t coming.0 q side coming.1) coming.2)
+  layers-kept t l q side (inr coming) =
+      let of = layer-forth coming.0 l (coming-keeps t coming.0 q side coming.1) coming.2 in
+      elim (coming-left t coming.0 q side coming.1) [
+        | inl c ↦ inr (coming.0, c, of)
+        | inr has ↦
+            let x = body_record (record_at (scene_of (After kind core step)) coming.0) _ has in
+            let P : Record → Type 0 = λ y. (y.layer ≡ l) × (sides_of (words_of x.0.bounds) ≡ sides_of (words_of y.bounds)) in
+            let here = record_body (record_at (scene_of (After kind core step)) coming.0) P x.0 x.1 (subst (λ (o : Option Record). IsSomeAnd o (λ y. y.layer ≡ l)) x.1 of, refl) in
+            inl (sides_of (words_of x.0.bounds), (length Now.history, coming.0, omega arith, had-now coming.0 P here), x.2)
+      ]
 
   pub gives-kept : KeepsTargets → EachUpdate Old (λ number view r. (noted : Noted) (q side : ℕ) → Contains r.noted noted → IsSideOf Old r noted q side → IsSideOf Now r noted q side)
-  gives-kept t number view among pass = some-all view.rebuild _ gives
+  gives-kept t =
+      let begun = each-seat cover_scope (λ k v. refl) core (λ k v. IfSome v.rebuild (λ r. r.from ≤ length Old.history)) (λ number v among pass. if_some_map v.rebuild _ _ (λ r notes. notes.begun) (a.laws.cover.notes number v among pass)) in
+      each-seats reader_scope (λ k v. refl) core (λ number v. IfSome v.rebuild Gives) (λ seat number view at pass. each view.rebuild (begun seat number view at pass))
     where
-      gives : (r : Rebuild) (noted : Noted) (q side : ℕ) → Contains r.noted noted → IsSideOf Old r noted q side → IsSideOf Now r noted q side
-      gives r noted q side among (inl had) = inl (had.0, had_as-forth r.from noted had.0 had.1, had.2)
-      gives r noted q side among (inr both) = inr (coming-keeps t noted.index q side both.1 noted.generation noted.layer both.0, coming-forth t noted.index q side both.1)
+      give : (r : Rebuild) → r.from ≤ length Old.history → (noted : Noted) (q side : ℕ) → IsSideOf Old r noted q side → IsSideOf Now r noted q side
+      give r begun noted q side (inl had) = inl (had.0, had_as-forth r.from noted had.0 had.1, had.2)
+      give r begun noted q side (inr both) =
+          let same = coming-keeps t noted.index q side both.1 noted.generation noted.layer both.0 in
+          elim (coming-left t noted.index q side both.1) [
+            | inl c ↦ inr (same, c)
+            | inr has ↦
+                let x = body_record (record_at (scene_of (After kind core step)) noted.index) _ has in
+                let is = subst (λ (o : Option Record). IsSomeAnd o (λ y. (y.generation ≡ noted.generation) × (y.layer ≡ noted.layer))) x.1 same in
+                let P : Record → Type 0 = λ y. (y.generation ≡ noted.generation) × (y.layer ≡ noted.layer) × (sides_of (words_of x.0.bounds) ≡ sides_of (words_of y.bounds)) in
+                let here = record_body (record_at (scene_of (After kind core step)) noted.index) P x.0 x.1 (is.0, is.1, refl) in
+                let longer = length-grown Old.history m.more in
+                let total : length Now.history ≡ length (Old.history ++ m.more) = ap length m.goes_on in
+                inl (sides_of (words_of x.0.bounds), (length Now.history, omega arith, omega arith, had-now noted.index P here), x.2)
+          ]
 
-  -- a body that stays keeps its layer
-  pub stays-keeps : (i : ℕ) → Stays kind core step i → KeepsLayer i
-  stays-keeps i s g l body = body-forth (λ r. (r.generation ≡ g) × (r.layer ≡ l)) (λ r user. (λ h. h, λ h. h)) (record_at (scene_of core) i) (record_at (scene_of (After kind core step)) i) s.body body
+      each : (o : Option Rebuild) → IfSome (option_map update_on_cover o) (λ r. r.from ≤ length Old.history) → IfSome (option_map update_on_readers o) Gives
+      each None begun = tt
+      each (Some r) begun = λ noted q side among counts. give (update_on_readers r) begun noted q side counts
+
+  -- a body that stays where it is keeps its layer
+  pub in_place-keeps : (i : ℕ) → InPlace kind core step i → KeepsLayer i
+  in_place-keeps i b g l body = creation-forth kind core step i b (λ x y. (x ≡ g) × (y ≡ l)) body
+
+-- ---- a step after which all bodies stand as they stood
+
+module _ (kind : Kind) (core : Core) (step : Step) (a : Acts core step) (m : Leaves kind core step a.laws.nodes a.laws.nodes (λ n. ⊥)) (stays_all : (i : ℕ) → Stays kind core step i) where
+  abbrev None_comes : ℕ → Type 0
+  None_comes n = ⊥
+
+  abbrev Seen : Sight
+  Seen = sight reader_scope (After kind core step)
+
+  pub counts-stay : ((index q side : ℕ) → IsTarget step.view.call.task index q side → IsTarget (Last kind core step).call.task index q side ⊎ HasBody (scene_of (After kind core step)) index (λ r. sides_of (words_of r.bounds) q ≡ side))
+      → ClimbsInTrees a.laws.nodes Seen (Last kind core step).call.task
+      → ((n k q l : ℕ) → IsLive (a.laws.nodes.home n) → IsOfLayer l (a.laws.nodes.home n) → (word_of (After kind core step) (Bound n k q) ≡ word_of core (Bound n k q)) ⊎ IsInLayer Seen l q (word_of (After kind core step) (Bound n k q)))
+      → EachUpdate (sight reader_scope core) (λ number view r. (n k q l : ℕ) → a.laws.nodes.home n ≡ made number l → (word_of (After kind core step) (Bound n k q) ≡ word_of core (Bound n k q)) ⊎ TightSide Seen r n k q (word_of (After kind core step) (Bound n k q)))
+      → Counts kind core step a a.laws.nodes None_comes m
+  counts-stay targets climbs live fresh =
+      let kept : KeepsTargets kind core step a a.laws.nodes None_comes m = record {
+        targets = targets;
+        bodies = λ seat number view at pass i handled. in_place-keeps kind core step a a.laws.nodes None_comes m i (stays-in_place kind core step i (stays_all i));
+      } in
+      record {
+        places = λ seat number view apart at pass i handled. ((stays_all i).loc_a, (stays_all i).loc_b);
+        climbs = climbs;
+        layers = layers-kept kind core step a a.laws.nodes None_comes m kept;
+        gives = gives-kept kind core step a a.laws.nodes None_comes m kept;
+        live = live;
+        fresh = fresh;
+        new = λ n k l none. absurd none;
+        unmade = λ n number l none. absurd none;
+      }
 
 -- ---- a step that touches no place in a tree
 
@@ -530,16 +606,16 @@ module _ (kind : Kind) (core : Core) (step : Step) (a : Acts core step) (later :
   None_new n = ⊥
 
   handled-stays : (seat number : ℕ) (view : View) → IsViewAt core seat view → IsPass view number → (i : ℕ) → IsHandled view.call.task i → Stays kind core step i
-  handled-stays seat number view at pass i handled = elim (t.bodies i) [ inl stays ↦ stays | inr apart ↦ absurd (apart.alone seat number view at pass handled) ]
+  handled-stays seat number view at pass i handled = elim (t.bodies i) [ inl same ↦ same | inr apart ↦ absurd (apart.alone seat number view at pass handled) ]
 
   keeps : KeepsTargets kind core step a later None_new t.leaves
   keeps = record {
     targets = λ index q side target.
         elim (t.call) [
-          | inl same ↦ subst (λ (c : Call). IsTarget c.task index q side) (sym same) target
+          | inl same ↦ inl (subst (λ (c : Call). IsTarget c.task index q side) (sym same) target)
           | inr calm ↦ absurd (idle-target step.view.call.task index q side calm.0 target)
         ];
-    bodies = λ seat number view at pass i handled. stays-keeps kind core step a later None_new t.leaves i (handled-stays seat number view at pass i handled);
+    bodies = λ seat number view at pass i handled. in_place-keeps kind core step a later None_new t.leaves i (stays-in_place kind core step i (handled-stays seat number view at pass i handled));
   }
 
   counts : Counts kind core step a later None_new t.leaves

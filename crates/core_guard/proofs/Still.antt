@@ -1,15 +1,13 @@
 -- A step that stores no word but those of readers, and makes no entry: nodes and bodies are as before. Of a load in a climb
 -- it is to be shown that the node is on the way up, of a step of a walk that the walk goes on.
-use Rattle.std.proofs.Common.{◌≡◌, ◌≢◌, ℕ, List, [], ◌∷◌, ◌++◌, None, refl, sym, ◌∙◌, subst, inl, inr, arith}
-use Rattle.std.specs.Prelude.{Option, IsSomeAnd, Contains}
+use Rattle.std.proofs.Common.{◌≡◌, ◌≢◌, ℕ, [], ◌∷◌, ◌++◌, None, refl, sym, ◌∙◌, subst, inl, inr, arith, ap}
+use Rattle.std.specs.Prelude.{Option}
 use Rattle.std.proofs.lemmas.List.Elements.{Contains-append_cases}
-use Rattle.scene_model.specs.Scene.{Record}
 use Rattle.word_map.specs.declared.name.Name.{Name}
-use Rattle.word_map.specs.declared.name.Name.TheVariants.{State, Phase, Layer, BoxWord, LocA, LocB, Child, Bound, Parent, Main, Slot, Reader}
+use Rattle.word_map.specs.declared.name.Name.TheVariants.{Child, Bound, Parent, Main, Slot, Reader}
 use Rattle.core_state.specs.declared.item.Load.{Load}
 use Rattle.core_state.specs.declared.view.Task.{Task}
 use Rattle.core_state.specs.declared.view.Task.TheVariants.{Moving, Placing}
-use Rattle.core_state.specs.declared.view.Batch.{Batch}
 use Rattle.core_state.specs.declared.view.Call.{Call}
 use Rattle.core_state.specs.declared.view.Rebuild.{Rebuild}
 use Rattle.core_state.specs.Log.{history}
@@ -25,12 +23,14 @@ use Rattle.core_state.specs.Space.{IsTarget}
 use Rattle.core_state.specs.Updates.{IsPlacing}
 use Rattle.core_state.specs.ReadersCounted.{ReadersCounted}
 use Rattle.core_state.proofs.Beginning.{above-more}
-use Rattle.core_guard.proofs.Seats.{each-seat, flat-step}
-use Rattle.core_guard.proofs.Leaving.{Acts, After, Last, Stays, Leaves, step-goes_on, scene-plain, as_before-same}
+use Rattle.core_guard.proofs.Seats.{each-seat}
+use Rattle.core_guard.proofs.Leaving.{Acts, After, Last, Stays, Leaves, step-goes_on, scene-plain, stays-by, body_of}
 use Rattle.core_guard.proofs.PlacesStay.{PassIsPlaced, acting, taken-out, pass-placed, pass-forth}
-use Rattle.core_guard.proofs.PlacesLeft.{SeenUpdate, body_stays, pass_anew, LocationsHold-leaves}
-use Rattle.core_guard.proofs.ReadersLeft.{some-all, Counts, GoesOn, KeepsTargets, layers-kept, gives-kept, climbs-own, ReadersCounted-goes_on}
+use Rattle.core_guard.proofs.PlacesLeft.{SeenUpdate, LocationsHold-stays}
+use Rattle.core_guard.proofs.ReadersLeft.{some-all, Counts, GoesOn, climbs-own, ReadersCounted-goes_on, counts-stay}
 use Rattle.core_guard.proofs.TreesLeft.{KeepsBoxes}
+use Rattle.core_guard.proofs.InPlace.{stays-in_place}
+use Rattle.std.proofs.lemmas.Option.{none-some}
 
 pub record IsStill (kind : Kind) (core : Core) (step : Step) : Type 0 where
   pub words : (name : Name) → ((p : ℕ) → name ≢ Reader p) → word_of (After kind core step) name ≡ word_of core name
@@ -42,7 +42,7 @@ pub record IsStill (kind : Kind) (core : Core) (step : Step) : Type 0 where
 -- ---- climbs
 
 -- where a call climbs from is no matter of what it loaded
-climbs-any : (s : Sight) (c d : Call) (r : Option Rebuild) (task : Task) (n k : ℕ) → ClimbsFrom s (acting c r) task n k → ClimbsFrom s (acting d r) task n k
+pub climbs-any : (s : Sight) (c d : Call) (r : Option Rebuild) (task : Task) (n k : ℕ) → ClimbsFrom s (acting c r) task n k → ClimbsFrom s (acting d r) task n k
 climbs-any s c d r (Moving index target) n k h = h
 climbs-any s c d r (Placing index) n k h = h
 climbs-any s c d r _ n k h = absurd h
@@ -51,14 +51,13 @@ abbrev pub with_new : Call → Load → Call
 with_new c new = record c { loads = c.loads ++ new ∷ [] }
 
 module _ (nodes : Nodes) (s : Sight) (r : Option Rebuild) (c : Call) (p : PassIsPlaced nodes s c r) where
-  -- what a climb has come to is on the way up
-  pub come-on_way : (Begins : ℕ → ℕ → Type 0) → ((n k : ℕ) → Begins n k → ClimbsFrom s (acting c r) c.task n k) → (d : Call) (m j : ℕ) → HasComeTo c Begins m j
-      → (n : ℕ) × (k : ℕ) × (b : ℕ) × ClimbsFrom s (acting d r) c.task n k × Above s.word n k m b
-  come-on_way Begins climbs d m j (at_start begins) = (m, j, j, climbs-any s c d r c.task m j (climbs m j begins), here m j)
-  come-on_way Begins climbs d m j (by_parent x below loaded) =
+  -- what a climb has come to is at a place that it begins at, or above one
+  pub come-up : (Begins : ℕ → ℕ → Type 0) → ((n k : ℕ) → Begins n k → ClimbsFrom s (acting c r) c.task n k) → (m j : ℕ) → HasComeTo c Begins m j → (n : ℕ) × (k : ℕ) × ClimbsFrom s (acting c r) c.task n k × Above s.word n k m j
+  come-up Begins climbs m j (at_start begins) = (m, j, climbs m j begins, here m j)
+  come-up Begins climbs m j (by_parent x below loaded) =
       let old = p.on_its_way x (place m j) loaded in
       let t = old.1 in
-      (t.0, t.1, j, climbs-any s c d r c.task t.0 t.1 t.3, above-more s.word t.0 t.1 x t.2 m j t.4 old.0 below)
+      (t.0, t.1, t.3, above-more s.word t.0 t.1 x t.2 m j t.4 old.0 below)
 
   -- a load more
   loaded-placed : (new : Load) → IsOnItsWay s (acting (record c { loads = new ∷ [] }) r) → PassIsPlaced nodes s (with_new c new) r
@@ -107,17 +106,9 @@ module _ (kind : Kind) (core : Core) (step : Step) (s : IsStill kind core step) 
   }
 
   pub still-stays : (i : ℕ) → Stays kind core step i
-  still-stays i = record {
-    body = as_before-same _ _ (scene-plain kind core step s.entry i);
-    loc_a = s.words (LocA i) (λ p e. absurd cc);
-    loc_b = s.words (LocB i) (λ p e. absurd cc);
-    phase = s.words (Phase i) (λ p e. absurd cc);
-    box = λ q. s.words (BoxWord i q) (λ p e. absurd cc);
-    state = s.words (State i) (λ p e. absurd cc);
-    layer = s.words (Layer i) (λ p e. absurd cc);
-    removes = (subst (λ (t : Task). Removes t i) (sym s.task), subst (λ (t : Task). Removes t i) s.task);
-    places = (subst (λ (t : Task). IsPlacing t i) (sym s.task), subst (λ (t : Task). IsPlacing t i) s.task);
-  }
+  still-stays i =
+      stays-by kind core step i (scene-plain kind core step s.entry i) (λ name of. s.words name (λ p e. none-some i (sym (ap body_of e) ∙ of)))
+      (subst (λ (t : Task). Removes t i) (sym s.task), subst (λ (t : Task). Removes t i) s.task) (subst (λ (t : Task). IsPlacing t i) (sym s.task), subst (λ (t : Task). IsPlacing t i) s.task)
 
   module _ (a : Acts core step) where
     abbrev No_new : ℕ → Type 0
@@ -135,21 +126,11 @@ module _ (kind : Kind) (core : Core) (step : Step) (s : IsStill kind core step) 
     pub still-placed : Placed (call_on_places step.view.call)
     still-placed =
         let Was = sight location_scope core in
-        pass-forth kind core step a a.laws.nodes No_new left (SeenUpdate kind core step) (call_on_places step.view.call) (λ i handled. still-stays i)
+        pass-forth kind core step a a.laws.nodes No_new left (SeenUpdate kind core step) (call_on_places step.view.call) (λ i handled. stays-in_place kind core step i (still-stays i))
         (each-seat location_scope (λ k v. refl) core (λ number v. PassIsPlaced a.laws.nodes Was v.call v.rebuild) (pass-placed a.laws.nodes Was a.laws.locations) step.seat step.number step.view a.at a.pass)
 
     pub LocationsHold-still : Placed (call_on_places (Last kind core step).call) → LocationsHold a.laws.nodes (After kind core step)
-    LocationsHold-still own = LocationsHold-leaves kind core step a a.laws.nodes No_new left (record {
-      bodies = λ i. body_stays (still-stays i);
-      own = pass_anew own;
-      entries = λ i n k new. absurd new;
-      made_entries = λ i n k number l new. absurd new;
-      held = λ batch m among marked.
-          let same = flat-step location_scope (λ k v. refl) kind core step a.at a.pass (λ view. view.batches) s.batches in
-          let old = a.laws.locations.held batch m (subst (λ (l : List Batch). Contains l batch) same among) marked in
-          let b = still-stays m.index in
-          (elim (old.0) [ inl t ↦ inl (t.0, b.loc_a ∙ t.1) | inr t ↦ inr (t.0, b.loc_a ∙ t.1, t.2) ], b.loc_b ∙ old.1);
-    })
+    LocationsHold-still own = LocationsHold-stays kind core step a left still-stays s.batches own
 
     -- a load more in the own call
     pub LocationsHold-loaded : (new : Load) → call_on_places step.view.call ≡ step.view.call → call_on_places (Last kind core step).call ≡ with_new step.view.call new
@@ -168,20 +149,9 @@ module _ (kind : Kind) (core : Core) (step : Step) (s : IsStill kind core step) 
     pub still-counts : (Last kind core step).call ≡ step.view.call → Counts kind core step a a.laws.nodes No_new left
     still-counts call =
         let bound = λ (n k q : ℕ). s.words (Bound n k q) (λ p e. absurd cc) in
-        let targets : KeepsTargets kind core step a a.laws.nodes No_new left = record {
-          targets = λ index q side target. subst (λ (c : Call). IsTarget c.task index q side) (sym call) target;
-          bodies = λ seat number view at pass i handled g l body. subst (λ (o : Option Record). IsSomeAnd o (λ r. (r.generation ≡ g) × (r.layer ≡ l))) (sym (scene-plain kind core step s.entry i)) body;
-        } in
-        record {
-          places = λ seat number view apart at pass i handled. ((still-stays i).loc_a, (still-stays i).loc_b);
-          climbs = climbs-own kind core step a a.laws.nodes No_new left call (λ i handled. ((still-stays i).loc_a, (still-stays i).loc_b));
-          layers = layers-kept kind core step a a.laws.nodes No_new left targets;
-          gives = gives-kept kind core step a a.laws.nodes No_new left targets;
-          live = λ n k q l live layer. inl (bound n k q);
-          fresh = λ number view among pass. some-all view.rebuild _ (λ r n k q l home. inl (bound n k q));
-          new = λ n k l none. absurd none;
-          unmade = λ n number l none. absurd none;
-        }
+        counts-stay kind core step a left still-stays (λ index q side target. inl (subst (λ (c : Call). IsTarget c.task index q side) (sym call) target))
+        (climbs-own kind core step a a.laws.nodes No_new left call (λ i handled. ((still-stays i).loc_a, (still-stays i).loc_b))) (λ n k q l live layer. inl (bound n k q))
+        (λ number view among pass. some-all view.rebuild _ (λ r n k q l home. inl (bound n k q)))
 
     pub ReadersCounted-still : (Last kind core step).call ≡ step.view.call → GoesOn kind core step a a.laws.nodes No_new left → ReadersCounted a.laws.nodes (After kind core step)
     ReadersCounted-still call g = ReadersCounted-goes_on kind core step a a.laws.nodes No_new left (still-counts call) g

@@ -86,6 +86,21 @@ module _ (kind : Kind) (core : Core) (step : Step) (a : Acts core step) where
               elim (w.one) [ inl found ↦ (omega arith, omega arith) | inr first ↦ (omega arith, omega arith) ]
         ]
 
+    -- a side is as it was, or of it holds what holds of the new one
+    pub side-or : (P : ℕ → ℕ → ℕ → ℕ → Type 0) → P node child side step.first → (n k q : ℕ) → (word_of (After kind core step) (Bound n k q) ≡ word_of core (Bound n k q)) ⊎ P n k q (word_of (After kind core step) (Bound n k q))
+    side-or P new n k q =
+        elim (side-after n k q) [
+          | as_it_was e ↦ inl e
+          | is_widened one two three old now ↦
+              elim (w.one) [
+                | inl found ↦ inl (now ∙ (found ∙ sym old))
+                | inr first ↦
+                    let v : ℕ = word_of (After kind core step) (Bound n k q) in
+                    let here : P node child side v = subst (P node child side) (sym (now ∙ first)) new in
+                    inr (subst (λ (x : ℕ). P x k q v) (sym one) (subst (λ (x : ℕ). P node x q v) (sym two) (subst (λ (x : ℕ). P node child x v) (sym three) here)))
+              ]
+        ]
+
     pub widened-boxes : KeepsBoxes kind core step a.laws.nodes a.laws.nodes
     widened-boxes n k stands box q below =
         let was = box q below in

@@ -1,22 +1,18 @@
 -- Clearing an entry of a body that is taken out: it is at a location of that body, so no way to another body is cut.
-use Rattle.std.proofs.Common.{◌≡◌, ◌≢◌, ℕ, List, [], ◌∷◌, ◌++◌, Option, Some, None, false, IsSome, is_some, refl, ap, sym, ◌∙◌, subst, inl, inr, arith}
-use Rattle.std.specs.Prelude.{Contains, IfSome, IsSomeAnd, option_map}
+use Rattle.std.proofs.Common.{◌≡◌, ◌≢◌, ℕ, List, [], ◌∷◌, ◌++◌, Option, Some, None, false, refl, ap, sym, ◌∙◌, subst, inl, inr, arith}
+use Rattle.std.specs.Prelude.{Contains, IfSome, option_map}
 use Rattle.std.proofs.lemmas.List.Folds.{list_any-append}
 use Rattle.std.proofs.lemmas.Bool.{cases_eq}
-use Rattle.scene_model.specs.declared.body_view.Phase.TheVariants.{Out, In}
-use Rattle.scene_model.specs.Scene.{Record, record_at}
-use Rattle.scene_model.specs.Step.{HasBody}
 use Rattle.word_map.specs.declared.name.Name.{Name}
 use Rattle.word_map.specs.declared.name.Name.TheVariants.{LocB, Child, Bound}
 use Rattle.core_state.specs.declared.item.Store.{Store}
 use Rattle.core_state.specs.declared.view.Task.{Task}
-use Rattle.core_state.specs.declared.view.Task.TheVariants.{Removing}
 use Rattle.core_state.specs.declared.view.Call.{Call}
 use Rattle.core_state.specs.declared.view.Noted.{Noted}
 use Rattle.core_state.specs.declared.view.Rebuild.{Rebuild}
 use Rattle.core_state.specs.declared.view.View.{View}
 use Rattle.core_state.specs.View.{IsPass}
-use Rattle.core_state.specs.Core.{Core, word_of, scene_of, IsViewAt}
+use Rattle.core_state.specs.Core.{Core, word_of, IsViewAt}
 use Rattle.core_state.specs.Kind.{Step, after_step}
 use Rattle.core_state.specs.Removing.{MayClearEntry, clear_entry}
 use Rattle.core_state.specs.Encoding.{body_child, place}
@@ -24,30 +20,32 @@ use Rattle.core_state.specs.Nodes.{Nodes, made, IsLive, Stands}
 use Rattle.core_state.specs.Parts.{call_on_places, update_on_places}
 use Rattle.core_state.specs.Scope.{Sight, sight}
 use Rattle.core_state.specs.LocksAgree.{lock_scope}
-use Rattle.core_state.specs.BodiesAgree.{BodiesAgree, body_scope, IsUnderStripe}
+use Rattle.core_state.specs.BodiesAgree.{body_scope}
 use Rattle.core_state.specs.NodesInOnePlace.{node_scope}
 use Rattle.core_state.specs.TreesSound.{TreesSoundIn, tree_scope}
-use Rattle.core_state.specs.Updates.{EachUpdate, HasUpdate, IsPlacing, IsDone}
-use Rattle.core_state.specs.LocationsHold.{LocationsHoldIn, location_scope, IsLocation, IsTakenOut, IsSecondFor, is_location_store, has_cleared_location}
+use Rattle.core_state.specs.Updates.{EachUpdate, IsPlacing, IsDone}
+use Rattle.core_state.specs.LocationsHold.{LocationsHoldIn, location_scope, IsLocation, IsTakenOut, is_location_store, has_cleared_location}
 use Rattle.core_state.specs.BodiesCovered.{BodiesCoveredIn, cover_scope}
 use Rattle.core_state.specs.WalksLead.{WalksLeadIn, walk_scope}
 use Rattle.core_state.specs.ReadersCounted.{ReadersCountedIn, reader_scope}
 use Rattle.core_state.specs.Invariants.{Invariants}
 use Rattle.core_state.proofs.Lookups.{at_one}
 use Rattle.core_state.proofs.Steps.{word-step}
-use Rattle.core_guard.proofs.CallsAgree.{IsCalm, calm_call, BodiesAgree-goes}
 use Rattle.core_guard.proofs.Cleared.{IsGone, ClearsEntries, none-kept, children_in, child-sight, child-law, child-where, child-clears, TreesSound-cleared, WalksLead-cleared, ReadersCounted-cleared}
-use Rattle.core_guard.proofs.ClearedPlaces.{End, ClearsPlace, LocationsHold-cleared}
+use Rattle.core_guard.proofs.ClearedPlaces.{End, ClearsPlace, LocationsHold-cleared, taken-forth}
 use Rattle.core_guard.proofs.Holders.{keeps, IsGuarded, guarded}
 use Rattle.core_guard.proofs.Leaving.{Acts, After, Last, idle-unhandled}
-use Rattle.core_guard.proofs.OneUpdate.{one-update}
+use Rattle.core_guard.proofs.OneUpdate.{second-placed}
 use Rattle.core_guard.proofs.PlacesLeft.{SeenUpdate}
 use Rattle.core_guard.proofs.PlacesStay.{PassIsPlaced, acting, seen-task, places-handles}
-use Rattle.core_guard.proofs.Recalled.{Recalls, call-is, task-is, law-unseen, LocksAgree-recalled, NodesInOnePlace-recalled}
-use Rattle.core_guard.proofs.Seats.{seen_of, each-seats, has-seat}
+use Rattle.core_guard.proofs.Recalled.{call-is, law-unseen}
+use Rattle.core_guard.proofs.Seats.{seen_of, each-seats}
 use Rattle.core_guard.proofs.Touched.{IsKept, kept}
 use Rattle.core_guard.proofs.Unowned.{stands-unowned}
-use Rattle.core_move.proofs.Removers.{last-or, more-placed, stripe, others-else, taken, body_out, known-location}
+use Rattle.core_move.proofs.Removers.{last-or, more-placed, taken, known-location, removes-on, not_in}
+use Rattle.core_guard.proofs.CallsAgree.{BodiesAgree-beside}
+use Rattle.core_guard.proofs.OnBody.{OnBody, IsOn, others-else, LocksAgree-on, NodesInOnePlace-on, nobody-does}
+use Rattle.core_state.specs.Bodies.{MovesBody}
 
 -- one store more, of no location
 cleared-more : (stores : List Store) (new : Store) → is_location_store new.name ≡ false → has_cleared_location stores ≡ false → has_cleared_location (stores ++ new ∷ []) ≡ false
@@ -72,11 +70,8 @@ module _ (core : Core) (step : Step) (a : Acts core step) (asked : MayClearEntry
   abbrev new_call : Call
   new_call = record step.view.call { stores = step.view.call.stores ++ new_store ∷ [] }
 
-  recalls : Recalls clear_entry core step new_call
-  recalls = refl
-
-  task-after : (Last clear_entry core step).call.task ≡ Removing i
-  task-after = task-is clear_entry core step new_call recalls ∙ asked.task
+  o : OnBody clear_entry core step i new_call
+  o = removes-on clear_entry core step a i asked.task new_call (subst (IsOn i) (sym asked.task) refl) refl
 
   -- ---- the word
 
@@ -97,16 +92,6 @@ module _ (core : Core) (step : Step) (a : Acts core step) (asked : MayClearEntry
       child-clears clear_entry core step asked.node asked.child asked.names (λ value. refl) nodes i none-after
       (elim (((taken clear_entry core step a i asked.task).cleared asked.node asked.child location).1) [ inl e ↦ inl e | inr e ↦ inr (e.0, stands) ])
 
-  not_in : ¬ HasBody (scene_of core) i (λ r. r.phase ≡ In)
-  not_in inside = go (record_at (scene_of core) i) (body_out clear_entry core step a i asked.task) inside
-    where
-      apart : Out ≡ In → ⊥
-      apart e = absurd cc
-
-      go : (o : Option Record) → IsSomeAnd o (λ x. x.phase ≡ Out) → ¬ IsSomeAnd o (λ x. x.phase ≡ In)
-      go None h k = h
-      go (Some x) h k = apart (sym h ∙ k)
-
   -- ---- the pass
 
   -- an entry that stands was not cleared: what is stored is 0
@@ -124,26 +109,12 @@ module _ (core : Core) (step : Step) (a : Acts core step) (asked : MayClearEntry
 
   still-taken : IsTakenOut nodes Later (acting new_call (SeenUpdate clear_entry core step)) i
   still-taken =
-      let t = taken clear_entry core step a i asked.task in
-      record {
-        out = t.out;
-        cleared = λ n k at.
-            let was = t.cleared n k at in (
-              was.0,
-              elim (was.1) [
-                | inl e ↦ inl (none-kept nodes Was c i clears n k e)
-                | inr e ↦ elim (clears n k) [
-                  | inl same ↦ inr (same ∙ e.0, cleared-more step.view.call.stores new_store (ap is_location_store asked.names) e.1, uncleared n k (same ∙ e.0) e.2)
-                  | inr gone ↦ inl gone.none
-                ]
-              ],
-            );
-        live = t.live;
-      }
+      taken-forth clear_entry core step a i c clears i (acting step.view.call (SeenUpdate clear_entry core step)) (acting new_call (SeenUpdate clear_entry core step))
+      (λ n k entry none old. (cleared-more step.view.call.stores new_store (ap is_location_store asked.names) none, uncleared n k entry old)) (taken clear_entry core step a i asked.task)
 
   own-after : PassIsPlaced nodes Later (call_on_places (Last clear_entry core step).call) (SeenUpdate clear_entry core step)
   own-after =
-      subst (λ (d : Call). PassIsPlaced nodes Later (call_on_places d) (SeenUpdate clear_entry core step)) (sym (call-is clear_entry core step new_call recalls))
+      subst (λ (d : Call). PassIsPlaced nodes Later (call_on_places d) (SeenUpdate clear_entry core step)) (sym (call-is clear_entry core step new_call refl))
       (more-placed clear_entry core step a i asked.task Later new_store (λ n k q e. bound_child n k q asked.node asked.child (e ∙ asked.names)) still-taken)
 
   -- ---- an update that planned the entry
@@ -167,25 +138,7 @@ module _ (core : Core) (step : Step) (a : Acts core step) (asked : MayClearEntry
 
   -- nobody places it
   unplaced : (seat number : ℕ) (view : View) → IsViewAt core seat view → IsPass view number → ¬ IsPlacing view.call.task i
-  unplaced seat number view found own places =
-      elim (cases_eq seat step.seat) [
-        | inl same ↦
-            let one : step.view ≡ view = at_one core.views step.seat step.view view a.at (subst (λ (k : ℕ). IsViewAt core k view) same found) in
-            subst (λ (t : Task). IsPlacing t i) (ap (λ (v : View). v.call.task) (sym one) ∙ asked.task) places
-        | inr apart ↦ others-else clear_entry core step a i asked.task seat number view apart found own (places-handles view.call.task i places)
-      ]
-
-  some-of : (o : Option Rebuild) (P : Rebuild → Type 0) → IsSomeAnd (option_map update_on_places o) P → IsSome o
-  some-of None P h = absurd h
-  some-of (Some r) P h = refl
-
-  placed-by : (seat number : ℕ) (view : View) (r : Rebuild) → IsViewAt core seat view → IsPass view number → view.rebuild ≡ Some r → word_of core (LocB i) ≢ 0 → Contains r.placed i
-  placed-by seat number view r found own e other =
-      let second = a.laws.locations.second i other in
-      let from = has-seat location_scope (λ k v. refl) core second.0 (λ v. HasUpdate v (IsSecondFor Was i)) second.1 in
-      let one : from.view ≡ view =
-      one-update core a.formed nodes a.laws.places from.seat seat second.0 number from.view view from.at found from.pass own (some-of from.view.rebuild (IsSecondFor Was i) from.holds) (ap is_some e) in
-      (subst (λ (o : Option Rebuild). IsSomeAnd (option_map update_on_places o) (IsSecondFor Was i)) (ap (λ (v : View). v.rebuild) one ∙ e) from.holds).1
+  unplaced = nobody-does clear_entry core step i new_call a o (λ t. IsPlacing t i) (λ t. places-handles t i) (λ h. subst (λ (t : Task). IsPlacing t i) asked.task h)
 
   abbrev HasDone : ℕ → View → Rebuild → Type 0
   HasDone number view r = (noted : Noted) (n k : ℕ) → Contains r.noted noted → noted.index ≡ i → IsGone nodes (λ n k. word_of core (Child n k)) c i n k → noted.place ≡ place n k → nodes.home n ≡ made number noted.layer → IsDone view r i
@@ -197,14 +150,14 @@ module _ (core : Core) (step : Step) (a : Acts core step) (asked : MayClearEntry
       go seat number view found own None e = tt
       go seat number view found own (Some r) e = λ noted n k among same gone at home.
           inl (
-            placed-by seat number view r found own e (planned-second n k number noted.layer gone home),
+            second-placed core a.formed nodes a.laws.places a.laws.locations i (planned-second n k number noted.layer gone home) seat number view r found own e,
             λ places.
                 unplaced seat number view found own (seen-task (λ task. IsPlacing task i) (λ task calm h. idle-unhandled task i calm (places-handles task i h)) view.call places),
           )
 
   clears-place : ClearsPlace clear_entry core step a i c clears
   clears-place = record {
-    left = not_in;
+    left = not_in clear_entry core step a i asked.task;
     rebuild = refl;
     batches = refl;
     removes = λ j removes. removes;
@@ -215,13 +168,6 @@ module _ (core : Core) (step : Step) (a : Acts core step) (asked : MayClearEntry
 
   -- ---- the laws
 
-  BodiesAgree-clear_entry : BodiesAgree (after_step clear_entry core step)
-  BodiesAgree-clear_entry =
-      BodiesAgree-goes clear_entry core step a.at a.pass a.laws.bodies
-      (calm_call (subst IsCalm (sym asked.task) tt) (subst IsCalm (sym task-after) tt)
-      (subst (λ (t : Task). IsUnderStripe (sight body_scope core) (Last clear_entry core step) t) (sym task-after) (stripe clear_entry core step a i asked.task)))
-      refl (ap body_scope.names asked.names) (λ value. refl) refl
-
   Invariants-cleared : Invariants (after_step clear_entry core step)
   Invariants-cleared =
       let node = asked.node in
@@ -230,15 +176,15 @@ module _ (core : Core) (step : Step) (a : Acts core step) (asked : MayClearEntry
       let kids = children_in clear_entry core step node child asked.names (λ value. refl) in
       record {
         nodes = nodes;
-        locks = LocksAgree-recalled clear_entry core step new_call recalls a (ap lock_scope.names asked.names);
-        bodies = BodiesAgree-clear_entry;
-        places = NodesInOnePlace-recalled clear_entry core step new_call recalls a (ap node_scope.names asked.names) refl;
+        locks = LocksAgree-on clear_entry core step i new_call a o (ap lock_scope.names asked.names);
+        bodies = BodiesAgree-beside clear_entry core step a i new_call o (λ between. absurd (subst (λ (t : Task). MovesBody t i) asked.task between.0)) (ap body_scope.names asked.names) (λ value. refl);
+        places = NodesInOnePlace-on clear_entry core step i new_call a o (ap node_scope.names asked.names);
         trees = law tree_scope (TreesSoundIn nodes) refl (TreesSound-cleared nodes (sight tree_scope core) (kids tree_scope) i clears a.laws.trees);
         locations =
             subst (LocationsHoldIn nodes) (sym (child-sight clear_entry core step node child asked.names (λ value. refl) location_scope))
             (LocationsHold-cleared clear_entry core step a i c clears clears-place);
-        cover = law-unseen clear_entry core step new_call recalls a cover_scope (BodiesCoveredIn nodes) (ap cover_scope.names asked.names) (λ reads value. refl) refl a.laws.cover;
-        walks = law walk_scope WalksLeadIn refl (WalksLead-cleared nodes (sight walk_scope core) (kids walk_scope) i clears not_in a.laws.walks);
+        cover = law-unseen clear_entry core step new_call refl a cover_scope (BodiesCoveredIn nodes) (ap cover_scope.names asked.names) (λ reads value. refl) refl a.laws.cover;
+        walks = law walk_scope WalksLeadIn refl (WalksLead-cleared nodes (sight walk_scope core) (kids walk_scope) i clears (not_in clear_entry core step a i asked.task) a.laws.walks);
         readers = law reader_scope (ReadersCountedIn nodes) refl (ReadersCounted-cleared nodes (sight reader_scope core) (kids reader_scope) i clears a.laws.readers);
       }
 

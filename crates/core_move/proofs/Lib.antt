@@ -1,14 +1,10 @@
 pub mod Standing
 pub mod MoveSteps
-pub mod MoveBodies
 pub mod Widening
 pub mod WidenSteps
 pub mod Climbing
-pub mod Reboxed
 pub mod BoxMoves
-pub mod MoveReaders
 pub mod SideStores
-pub mod CoverMoved
 pub mod LastStores
 pub mod Closing
 pub mod ParentLoads

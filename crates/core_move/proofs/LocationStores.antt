@@ -1,7 +1,7 @@
 -- Clearing a location of a body that is taken out: its entries are cleared, so nothing leads to the location, and nothing
 -- stands at it. The first location is cleared before the second, with which the removal ends.
-use Rattle.std.proofs.Common.{◌≡◌, ◌≢◌, ◌⊎◌, ℕ, zero, suc, List, [], ◌∷◌, ◌++◌, Option, Some, None, Bool, true, false, IsSomeAnd, refl, ap, sym, ◌∙◌, subst, inl, inr, arith}
-use Rattle.std.specs.Prelude.{Contains, cond, nat_lt}
+use Rattle.std.proofs.Common.{◌≡◌, ◌≢◌, ◌⊎◌, ℕ, zero, suc, [], ◌∷◌, ◌++◌, Option, Some, Bool, true, false, IsSomeAnd, refl, ap, sym, ◌∙◌, subst, inl, inr, arith}
+use Rattle.std.specs.Prelude.{cond, nat_lt}
 use Rattle.std.proofs.lemmas.Bool.{false≢true}
 use Rattle.std.proofs.lemmas.Option.{same_Some, none-some}
 use Rattle.scene_model.specs.declared.body_view.Phase.{Phase as BodyPhase}
@@ -9,58 +9,45 @@ use Rattle.scene_model.specs.declared.body_view.Phase.TheVariants.{Out, Held, In
 use Rattle.scene_model.specs.Scene.{Record, record_at}
 use Rattle.scene_model.specs.Step.{HasBody}
 use Rattle.word_map.specs.declared.name.Name.{Name}
-use Rattle.word_map.specs.declared.name.Name.TheVariants.{Phase, LocA, LocB, Child, Bound, Parent}
-use Rattle.word_map.specs.Names.{stripe_of}
+use Rattle.word_map.specs.declared.name.Name.TheVariants.{Phase, LocA, LocB, Child, Bound}
 use Rattle.core_state.specs.declared.item.Store.{Store}
-use Rattle.core_state.specs.declared.view.Mode.{Mode}
-use Rattle.core_state.specs.declared.view.Mode.TheVariants.{Write}
 use Rattle.core_state.specs.declared.view.Task.{Task}
 use Rattle.core_state.specs.declared.view.Task.TheVariants.{Nothing, Removing}
 use Rattle.core_state.specs.declared.view.Call.{Call}
-use Rattle.core_state.specs.declared.view.Marked.{Marked}
-use Rattle.core_state.specs.declared.view.Batch.{Batch}
 use Rattle.core_state.specs.declared.view.View.{View}
-use Rattle.core_state.specs.View.{IsPass, Holds, known_word, no_call}
-use Rattle.core_state.specs.Core.{Core, word_of, scene_of, IsViewAt}
+use Rattle.core_state.specs.View.{known_word, no_call}
+use Rattle.core_state.specs.Core.{Core, word_of, scene_of}
 use Rattle.core_state.specs.Kind.{Step, learned, after_step}
 use Rattle.core_state.specs.Removing.{HasClearedEntries, MayClearLocation, the_first, the_second, clear_location, location_cleared}
 use Rattle.core_state.specs.Moving.{with_store}
 use Rattle.core_state.specs.Guards.{KeepsGuards}
-use Rattle.core_state.specs.Encoding.{body_child}
-use Rattle.core_state.specs.Nodes.{Nodes, Above, Stands}
-use Rattle.core_state.specs.Parts.{call_by_task, call_on_places, task_on_pool}
+use Rattle.core_state.specs.Encoding.{body_child, place}
+use Rattle.core_state.specs.Nodes.{Nodes}
+use Rattle.core_state.specs.Parts.{call_on_places}
 use Rattle.core_state.specs.Scope.{Sight, sight}
-use Rattle.core_state.specs.Bodies.{phase_by, phase_by_slot, all_batches}
-use Rattle.core_state.specs.LocksAgree.{lock_scope}
-use Rattle.core_state.specs.BodiesAgree.{BodiesAgree, body_scope, IsUnderStripe}
-use Rattle.core_state.specs.NodesInOnePlace.{node_scope}
-use Rattle.core_state.specs.TreesSound.{TreesSoundIn, tree_scope}
+use Rattle.core_state.specs.Bodies.{phase_by, phase_by_slot, MovesBody}
+use Rattle.core_state.specs.BodiesAgree.{body_scope}
 use Rattle.core_state.specs.Updates.{IsPlacing}
-use Rattle.core_state.specs.LocationsHold.{location_scope, IsLocation, IsTakenOut, Removes, IsRemoved, IsPlannedIn, IsSecond, IsSecondFor, is_location_store}
-use Rattle.core_state.specs.WalksLead.{WalksLeadIn, walk_scope}
-use Rattle.core_state.specs.ReadersCounted.{reader_scope, ClimbsInTrees}
+use Rattle.core_state.specs.LocationsHold.{location_scope, IsLocation, IsTakenOut, Removes, IsRemoved, IsSecond, is_location_store}
 use Rattle.core_state.specs.Invariants.{Invariants}
 use Rattle.core_state.specs.Space.{IsTarget}
 use Rattle.core_state.proofs.Beginning.{body_record, record_body}
-use Rattle.core_state.proofs.Opening.{none_in}
-use Rattle.core_state.proofs.Steps.{view-step, word-step, word-step-other}
-use Rattle.core_guard.proofs.Alone.{marked-held, lock-alone}
-use Rattle.core_guard.proofs.BodyAnew.{turn-leaves, TurnsBody, LocationsHold-turned, BodiesCovered-turned, ReadersCounted-turned}
-use Rattle.core_guard.proofs.BodyTouch.{body_of, other-word, no_place}
-use Rattle.core_guard.proofs.CallsAgree.{IsCalm, calm_call, BodiesAgree-goes}
-use Rattle.core_guard.proofs.Cleared.{above-same}
+use Rattle.core_state.proofs.Steps.{word-step, word-step-other}
+use Rattle.core_guard.proofs.BodyAnew.{turn-leaves, No_new, Invariants-turned}
+use Rattle.core_guard.proofs.BodyTouch.{no_place}
 use Rattle.core_guard.proofs.CoverLeft.{IsOff, off_trees}
-use Rattle.core_guard.proofs.Holders.{HasMark, EachOther, keeps, IsGuarded, guarded}
-use Rattle.core_guard.proofs.Leaving.{Acts, After, Last, Leaves, IsIdle, idle-unhandled, scene-plain, some_and_map}
-use Rattle.core_guard.proofs.NodesLeft.{flat_from}
-use Rattle.core_guard.proofs.PlacesLeft.{SeenUpdate, IsAnew}
-use Rattle.core_guard.proofs.PlacesStay.{BodyIsPlaced, PassIsPlaced, acting, seen-task, places-handles, update-forth, planned-forth}
-use Rattle.core_guard.proofs.ReadersLeft.{climbs-was}
-use Rattle.core_guard.proofs.Recalled.{Recalls, recalled, call-is, task-is, law-unseen, LocksAgree-recalled, NodesInOnePlace-recalled}
+use Rattle.core_guard.proofs.Holders.{IsGuarded, guarded}
+use Rattle.core_guard.proofs.Leaving.{Acts, After, Last, Leaves, idle-unhandled, scene-plain, body_of, out_in}
+use Rattle.core_guard.proofs.PlacesLeft.{SeenUpdate, IsAnew, body_anew}
+use Rattle.core_guard.proofs.PlacesStay.{BodyIsPlaced, PassIsPlaced, acting, begun-placed, task-seen, removes-handles, second-forth}
+use Rattle.core_guard.proofs.Recalled.{Recalls, recalled, task-is}
 use Rattle.core_guard.proofs.Scenes.{none_here}
-use Rattle.core_guard.proofs.Seats.{seen_of, seen_at, each-seat, seat-has, flat-step}
 use Rattle.core_guard.proofs.Touched.{IsKept, kept}
-use Rattle.core_move.proofs.Removers.{with_more, more-placed, stripe, others-else, taken, body_out, first-known, location-known}
+use Rattle.core_move.proofs.Removers.{with_more, more-placed, taken, body_out, first-known, location-known, removes-on, not-held, not_in, known-stripe}
+use Rattle.core_guard.proofs.CallsAgree.{BodiesAgree-beside}
+use Rattle.core_guard.proofs.OnBody.{OnBody, IsOn, others-else}
+use Rattle.core_guard.proofs.LivesGuarded.{IsStripeWord, stripe-guarded}
+use Rattle.core_guard.proofs.InPlace.{removed-now, alike-of}
 
 -- which location it is: the first one, after which the pass goes on, or the second one, once the first is 0
 data Which (core : Core) (step : Step) (i : ℕ) (call : Call) : Type 0 where
@@ -70,10 +57,7 @@ data Which (core : Core) (step : Step) (i : ℕ) (call : Call) : Type 0 where
 -- a phase word that says that a body is out is 0
 out-zero : (word slot : ℕ) → phase_by word slot ≡ Some Out → word ≡ 0
 out-zero zero slot e = refl
-out-zero (suc zero) slot e = absurd (in_out (same_Some In Out e))
-  where
-    in_out : In ≡ Out → ⊥
-    in_out e = absurd cc
+out-zero (suc zero) slot e = absurd (out_in (sym (same_Some In Out e)))
 out-zero (suc (suc t)) slot e = absurd (go slot e)
   where
     some_out : (p : BodyPhase) → p ≢ Out → Some p ≢ Some Out
@@ -103,10 +87,20 @@ module _ (core : Core) (step : Step) (a : Acts core step) (i : ℕ) (asked : Has
   abbrev Is : Sight
   Is = sight location_scope (After clear_location core step)
 
+  -- what is so of the task that goes on, and of none, is so of the task that the pass has
+  by-task : (P : Task → Type 0) → P (Removing i) → P Nothing → P call.task
+  by-task P one two = elim which [ which_first names same ↦ subst (λ (d : Call). P d.task) (sym same) (subst P (sym asked.task) one) | which_second names first same ↦ subst (λ (d : Call). P d.task) (sym same) two ]
+
+  o : OnBody clear_location core step i call
+  o = removes-on clear_location core step a i asked.task call (by-task (IsOn i) refl tt) recalls
+
   -- ---- words
 
   of_body : body_of step.name ≡ Some i
   of_body = elim which [ which_first names same ↦ ap body_of names | which_second names first same ↦ ap body_of names ]
+
+  abbrev leaves : Leaves clear_location core step nodes nodes (No_new clear_location core step)
+  leaves = turn-leaves clear_location core step nodes i of_body (ap (λ (v : View). v.rebuild) (recalled clear_location core step call recalls))
 
   is_location : is_location_store step.name ≡ true
   is_location = elim which [ which_first names same ↦ ap is_location_store names | which_second names first same ↦ ap is_location_store names ]
@@ -114,20 +108,14 @@ module _ (core : Core) (step : Step) (a : Acts core step) (i : ℕ) (asked : Has
   word-same : (name : Name) → is_location_store name ≡ false → word_of (After clear_location core step) name ≡ word_of core name
   word-same name other = word-step-other clear_location core step name (λ same. false≢true (sym other ∙ (ap is_location_store same ∙ is_location)))
 
-  other-same : (j : ℕ) → j ≢ i → (word_of (After clear_location core step) (LocA j) ≡ word_of core (LocA j)) × (word_of (After clear_location core step) (LocB j) ≡ word_of core (LocB j))
-  other-same j apart = (
-    other-word clear_location core step i of_body (LocA j) (λ e. apart (same_Some j i e)),
-    other-word clear_location core step i of_body (LocB j) (λ e. apart (same_Some j i e)),
-  )
-
-  stored : word_of (After clear_location core step) step.name ≡ 0
-  stored = word-step clear_location core step ∙ none
+  stored : (name : Name) → step.name ≡ name → word_of (After clear_location core step) name ≡ 0
+  stored name names = ap (word_of (After clear_location core step)) (sym names) ∙ (word-step clear_location core step ∙ none)
 
   -- the first location is 0 then, and the second one is, or is as before
   first-none : word_of (After clear_location core step) (LocA i) ≡ 0
   first-none =
       elim which [
-        | which_first names same ↦ ap (λ (n : Name). word_of (After clear_location core step) n) (sym names) ∙ stored
+        | which_first names same ↦ stored (LocA i) names
         | which_second names first same ↦ word-step-other clear_location core step (LocA i) (λ e. first_second (e ∙ names)) ∙ first
       ]
     where
@@ -138,42 +126,39 @@ module _ (core : Core) (step : Step) (a : Acts core step) (i : ℕ) (asked : Has
   second-or =
       elim which [
         | which_first names same ↦ inl (word-step-other clear_location core step (LocB i) (λ e. second_first (e ∙ names)))
-        | which_second names first same ↦ inr (ap (λ (n : Name). word_of (After clear_location core step) n) (sym names) ∙ stored)
+        | which_second names first same ↦ inr (stored (LocB i) names)
       ]
     where
       second_first : LocB i ≡ LocA i → ⊥
       second_first e = absurd cc
+
+  -- so it leads nowhere
+  first-off : (n k : ℕ) → word_of (After clear_location core step) (LocA i) ≢ place n k
+  first-off n k = no_place clear_location core step (word_of (After clear_location core step) (LocA i)) n k first-none
 
   -- a location then was one
   location-back : (n k : ℕ) → IsLocation Is i n k → IsLocation Was i n k
   location-back n k h = (
     h.0,
     elim (h.1) [
-      | inl e ↦ absurd (no_place clear_location core step (word_of (After clear_location core step) (LocA i)) n k first-none e)
+      | inl e ↦ absurd (first-off n k e)
       | inr e ↦ elim second-or [ inl same ↦ inr (sym same ∙ e) | inr zero_now ↦ absurd (no_place clear_location core step (word_of (After clear_location core step) (LocB i)) n k zero_now e) ]
     ],
   )
 
   -- ---- the body
 
-  out_now : HasBody (scene_of core) i (λ r. r.phase ≡ Out)
-  out_now = body_out clear_location core step a i asked.task
-
   record-same : (j : ℕ) → record_at (scene_of (After clear_location core step)) j ≡ record_at (scene_of core) j
   record-same j = scene-plain clear_location core step (λ value. refl) j
 
+  live : (r : Record) × (record_at (scene_of core) i ≡ Some r) × (r.phase ≡ Out)
+  live = body_record (record_at (scene_of core) i) (λ r. r.phase ≡ Out) (body_out clear_location core step a i asked.task)
+
   out-after : HasBody (scene_of (After clear_location core step)) i (λ r. r.phase ≡ Out)
-  out-after = subst (λ (o : Option Record). IsSomeAnd o (λ r. r.phase ≡ Out)) (sym (record-same i)) out_now
+  out-after = subst (λ (o : Option Record). IsSomeAnd o (λ r. r.phase ≡ Out)) (sym (record-same i)) (body_out clear_location core step a i asked.task)
 
-  out_not : (P : BodyPhase) → Out ≢ P → (o : Option Record) → IsSomeAnd o (λ r. r.phase ≡ Out) → ¬ IsSomeAnd o (λ r. r.phase ≡ P)
-  out_not P other None h k = h
-  out_not P other (Some r) h k = other (sym h ∙ k)
-
-  not_in : (r : Record) → record_at (scene_of (After clear_location core step)) i ≡ Some r → r.phase ≢ In
-  not_in r e inside = out_not In (λ e. absurd cc) (record_at (scene_of (After clear_location core step)) i) out-after (record_body _ (λ x. x.phase ≡ In) r e inside)
-
-  not_held : ¬ HasBody (scene_of core) i (λ r. r.phase ≡ Held)
-  not_held held = out_not Held (λ e. absurd cc) (record_at (scene_of core) i) out_now held
+  unseen : (r : Record) → record_at (scene_of (After clear_location core step)) i ≡ Some r → r.phase ≢ In
+  unseen r e inside = not_in clear_location core step a i asked.task (record_body (record_at (scene_of core) i) (λ x. x.phase ≡ In) r (sym (record-same i) ∙ e) inside)
 
   -- nothing stands at a location of it
   empty : (n k : ℕ) → IsLocation Was i n k → word_of core (Child n k) ≡ 0
@@ -182,34 +167,6 @@ module _ (core : Core) (step : Step) (a : Acts core step) (i : ℕ) (asked : Has
         | inl e ↦ e
         | inr e ↦ absurd (e.2 (asked.cleared n k (location-known clear_location core step a i asked.task n k location)))
       ]
-
-  -- ---- the pass
-
-  task-after : ((Last clear_location core step).call.task ≡ Removing i) ⊎ ((Last clear_location core step).call.task ≡ Nothing)
-  task-after =
-      elim which [
-        | which_first names same ↦ inl (task-is clear_location core step call recalls ∙ (ap (λ (d : Call). d.task) same ∙ asked.task))
-        | which_second names first same ↦ inr (task-is clear_location core step call recalls ∙ ap (λ (d : Call). d.task) same)
-      ]
-
-  -- what is so of both tasks is so of the one that it has, and what is so of both names
-  by-name : (f : Name → Bool) → f (LocA i) ≡ false → f (LocB i) ≡ false → f step.name ≡ false
-  by-name f one two = elim which [ which_first names same ↦ ap f names ∙ one | which_second names first same ↦ ap f names ∙ two ]
-
-  pool : task_on_pool call.task ≡ Nothing
-  pool = elim which [ which_first names same ↦ ap (λ (d : Call). task_on_pool d.task) same ∙ ap task_on_pool asked.task | which_second names first same ↦ ap (λ (d : Call). task_on_pool d.task) same ]
-
-  by-task : (P : Task → Type 0) → P (Removing i) → P Nothing → P (Last clear_location core step).call.task
-  by-task P one two = elim task-after [ inl e ↦ subst P (sym e) one | inr e ↦ subst P (sym e) two ]
-
-  rebuild-same : (Last clear_location core step).rebuild ≡ step.view.rebuild
-  rebuild-same = ap (λ (v : View). v.rebuild) (recalled clear_location core step call recalls)
-
-  batches-same : (Last clear_location core step).batches ≡ step.view.batches
-  batches-same = ap (λ (v : View). v.batches) (recalled clear_location core step call recalls)
-
-  abbrev leaves : Leaves clear_location core step nodes nodes (λ n. ⊥)
-  leaves = turn-leaves clear_location core step nodes i of_body rebuild-same
 
   -- ---- places
 
@@ -220,42 +177,27 @@ module _ (core : Core) (step : Step) (a : Acts core step) (i : ℕ) (asked : Has
     cleared = λ n k at.
         let old = location-back n k at in
         (((taken clear_location core step a i asked.task).cleared n k old).0, inl (word-same (Child n k) refl ∙ empty n k old));
-    live = λ n k below e. absurd (no_place clear_location core step (word_of (After clear_location core step) (LocA i)) n k first-none e);
+    live = λ n k below e. absurd (first-off n k e);
   }
 
-  -- the pass goes on with the second location, or has done
-  own-after : PassIsPlaced nodes Is (call_on_places (Last clear_location core step).call) (SeenUpdate clear_location core step)
+  own-after : PassIsPlaced nodes Is (call_on_places call) (SeenUpdate clear_location core step)
   own-after =
-      subst (λ (d : Call). PassIsPlaced nodes Is (call_on_places d) (SeenUpdate clear_location core step)) (sym (call-is clear_location core step call recalls))
-      (elim which [
+      elim which [
         | which_first names same ↦
             subst (λ (d : Call). PassIsPlaced nodes Is (call_on_places d) (SeenUpdate clear_location core step)) (sym same)
             (more-placed clear_location core step a i asked.task Is new_store (λ n k q e. bound_location i n k q (e ∙ names)) still-taken)
-        | which_second names first same ↦ subst (λ (d : Call). PassIsPlaced nodes Is (call_on_places d) (SeenUpdate clear_location core step)) (sym same) ends
-      ])
-    where
-      ends : PassIsPlaced nodes Is no_call (SeenUpdate clear_location core step)
-      ends = record {
-        removed = λ j removes. absurd removes;
-        unheld = tt;
-        widened = λ j n k box gives. absurd gives;
-        still_wide = λ n k q value among. absurd (none_in _ among);
-        climbs_from = λ n k climbs. absurd climbs;
-        on_its_way = λ m value among. absurd (none_in _ among);
-        widened_on_way = λ x y q value among. absurd (none_in _ among);
-      }
+        | which_second names first same ↦
+            subst (λ (d : Call). PassIsPlaced nodes Is (call_on_places d) (SeenUpdate clear_location core step)) (sym same)
+            (begun-placed nodes Is (SeenUpdate clear_location core step) Nothing (λ j removes. absurd removes) tt (λ n k climbs. absurd climbs))
+      ]
 
   second-after : word_of (After clear_location core step) (LocB i) ≢ 0 → IsSecond Is i
   second-after other =
       elim second-or [
         | inl same ↦
-            let h = a.laws.locations.second i (λ none_now. other (same ∙ none_now)) in (
-              h.0,
-              update-forth clear_location core step a nodes (λ n. ⊥) leaves h.0 (IsSecondFor Was i) (IsSecondFor Is i)
-                  (λ r t.
-                  let noted = t.3 in
-                  (t.0, t.1, t.2, (noted.0, noted.1, noted.2, (same ∙ noted.3.0, subst (λ (o : Option Record). IsSomeAnd o (λ q. (q.generation ≡ noted.0.generation) × (q.layer ≡ noted.0.layer))) (sym (record-same noted.0.index)) noted.3.1)))) h.1,
-            )
+            second-forth clear_location core step a nodes (λ n. ⊥) leaves i same
+            (alike-of (record_at (scene_of core) i) (record_at (scene_of (After clear_location core step)) i) live.0 live.0 live.1 (record-same i ∙ live.1) refl refl)
+            (a.laws.locations.second i (λ none_now. other (same ∙ none_now)))
         | inr zero_now ↦ absurd (other zero_now)
       ]
 
@@ -264,27 +206,16 @@ module _ (core : Core) (step : Step) (a : Acts core step) (i : ℕ) (asked : Has
   nowhere left =
       elim which [
         | which_first names same ↦
-            absurd (left (
-              step.number,
-              seat-has location_scope (λ k v. refl) (After clear_location core step) step.number (λ view. Removes view.call.task i)
-                  (record {
-                    seat = step.seat;
-                    view = Last clear_location core step;
-                    at = view-step clear_location core step a.at;
-                    pass = a.pass;
-                    holds = subst (λ (t : Task). Removes (call_by_task t (Last clear_location core step).call).task i) (sym (removing same)) (subst (λ (t : Task). Removes t i) (sym (removing same)) refl);
-                  }),
-            ))
-        | which_second names first same ↦ (first-none, ap (λ (n : Name). word_of (After clear_location core step) n) (sym names) ∙ stored)
+            let now = task-is clear_location core step call recalls ∙ (ap (λ (d : Call). d.task) same ∙ asked.task) in
+            absurd (left (removed-now clear_location core step i a location_scope (λ k v. refl) (task-seen (λ t. Removes t i) (λ t calm h. idle-unhandled t i calm (removes-handles t i h)) (Last clear_location core step).call)
+            (subst (λ (t : Task). Removes t i) (sym now) refl)))
+        | which_second names first same ↦ (first-none, stored (LocB i) names)
       ]
-    where
-      removing : call ≡ record step.view.call { stores = step.view.call.stores ++ record { name = step.name; value = step.first } ∷ [] } → (Last clear_location core step).call.task ≡ Removing i
-      removing same = task-is clear_location core step call recalls ∙ (ap (λ (d : Call). d.task) same ∙ asked.task)
 
   placed : BodyIsPlaced nodes Is i
   placed = record {
-    at = λ r n k e inside location. absurd (not_in r e inside);
-    first = λ r n k e inside below location. absurd (not_in r e inside);
+    at = λ r n k e inside location. absurd (unseen r e inside);
+    first = λ r n k e inside below location. absurd (unseen r e inside);
     second = second-after;
     dead = λ dead. absurd (none_here (record_at (scene_of (After clear_location core step)) i) (λ r. r.phase ≡ Out) dead out-after);
     out = λ out left. nowhere left;
@@ -296,119 +227,49 @@ module _ (core : Core) (step : Step) (a : Acts core step) (i : ℕ) (asked : Has
   body-new : IsAnew clear_location core step nodes nodes i
   body-new = record {
     placed = placed;
-    alone = others-else clear_location core step a i asked.task;
+    alone = others-else clear_location core step i call a o;
     entry = λ n k published below entry location. absurd (unentered n k location entry);
     second = λ n k stands below entry e. absurd (unentered n k (below, inr e) entry);
-    planned = λ r noted some among same h.
-        planned-forth clear_location core step a nodes (λ n. ⊥) leaves step.number (seen_of location_scope step.number step.view) (seen_of location_scope step.number (Last clear_location core step)) r noted
-        (λ places. absurd (seen_none noted.index places), λ places. absurd (seen_none_after noted.index places))
-        (λ n k stands below entry e.
-        absurd (unentered n k (below, inr (ap (λ (j : ℕ). word_of core (LocB j)) (sym same) ∙ e)) (entry ∙ ap body_child same))) h;
+    places = (
+      λ h. absurd (subst (λ (t : Task). IsPlacing t i) asked.task h),
+      λ h. absurd (subst (λ (t : Task). ¬ IsPlacing t i) (sym (task-is clear_location core step call recalls)) (by-task (λ t. ¬ IsPlacing t i) (λ no. no) (λ no. no)) h),
+    );
   }
-    where
-      idle_places : (j : ℕ) (t : Task) → IsIdle t → ¬ IsPlacing t j
-      idle_places j t calm places = idle-unhandled t j calm (places-handles t j places)
-
-      seen_none : (j : ℕ) → ¬ IsPlacing (call_on_places step.view.call).task j
-      seen_none j places = subst (λ (t : Task). IsPlacing t j) asked.task (seen-task (λ t. IsPlacing t j) (idle_places j) step.view.call places)
-
-      seen_none_after : (j : ℕ) → ¬ IsPlacing (call_on_places (Last clear_location core step).call).task j
-      seen_none_after j places = by-task (λ t. ¬ IsPlacing t j) (λ no. no) (λ no. no) (seen-task (λ t. IsPlacing t j) (idle_places j) (Last clear_location core step).call places)
-
-  -- batches hold other bodies
-  held-later : (batch : Batch) (m : Marked) → Contains (all_batches Is) batch → Contains batch.marked m → IsPlannedIn Is batch m × (word_of (After clear_location core step) (LocB m.index) ≡ 0)
-  held-later batch m among marked =
-      let was = subst (λ (l : List Batch). Contains l batch) (flat-step location_scope (λ k v. refl) clear_location core step a.at a.pass (λ v. v.batches) batches-same) among in
-      let t = flat_from (λ (v : View). v.batches) Was.passes batch was in
-      let from = seen_at location_scope core t.0 t.1 in
-      let held = marked-held core a.laws.bodies from.seat from.number from.view from.at from.pass batch m (subst (λ (v : View). Contains v.batches batch) (sym from.is) t.2) marked in
-      let apart : m.index ≢ i = λ same. not_held (subst (λ (j : ℕ). HasBody (scene_of core) j (λ r. r.phase ≡ Held)) same (some_and_map (record_at (scene_of core) m.index) _ _ (λ r both. both.0) held)) in
-      let words = other-same m.index apart in
-      let old = a.laws.locations.held batch m was marked in
-      (elim (old.0) [ inl u ↦ inl (u.0, words.0 ∙ u.1) | inr u ↦ inr (u.0, words.0 ∙ u.1, u.2) ], words.1 ∙ old.1)
-
-  -- ---- cover
 
   -- its first location leads nowhere
   body-off : IsOff clear_location core step nodes nodes i
   body-off =
-      let live = body_record (record_at (scene_of core) i) (λ r. r.phase ≡ Out) out_now in
       let words = a.laws.bodies.live i live.0 live.1 in
       let phase : word_of core (Phase i) ≡ 0 = out-zero (word_of core (Phase i)) _ (words.phase ∙ ap Some live.2) in
       record {
         covered = record {
-          covered = λ r e inside. absurd (not_in r e inside);
-          replaced = λ n k number name below location. absurd (no_place clear_location core step (word_of (After clear_location core step) (LocA i)) n k first-none location);
+          covered = λ r e inside. absurd (unseen r e inside);
+          replaced = λ n k number name below location. absurd (first-off n k location);
         };
-        off = λ n k below location. absurd (no_place clear_location core step (word_of (After clear_location core step) (LocA i)) n k first-none location);
+        off = λ n k below location. absurd (first-off n k location);
         unjoined = λ l t root has joins. let same = word-same (Phase i) refl in absurd (omega arith);
-        calm = λ places. absurd (by-task (λ t. ¬ IsPlacing t i) (λ no. no) (λ no. no) places);
+        calm = body-new.places.1;
       }
-
-  -- ---- readers
-
-  abbrev Old : Sight
-  Old = sight reader_scope core
-
-  abbrev Now : Sight
-  Now = sight reader_scope (After clear_location core step)
-
-  climbs : (n k x y : ℕ) → IsLocation Now i n k → Above Now.word n k x y → Stands (nodes.home x)
-  climbs n k x y location up =
-      subst (ClimbsInTrees nodes Old) asked.task
-      (climbs-was nodes Old step.view.call.task (each-seat reader_scope (λ k v. refl) core (λ k v. ClimbsInTrees nodes Old v.call.task) a.laws.readers.climbs step.seat step.number step.view a.at a.pass))
-      n k x y (location-back n k location) (above-same Now.word Old.word (λ m. sym (word-same (Parent m) refl)) n k x y up)
-
-  -- all that is to be shown
-  turns : TurnsBody clear_location core step nodes i
-  turns = record {
-    of_body = of_body;
-    others = λ j apart. record-same j;
-    layer = λ g l body. subst (λ (o : Option Record). IsSomeAnd o (λ r. (r.generation ≡ g) × (r.layer ≡ l))) (sym (record-same i)) body;
-    rebuild = rebuild-same;
-    walk = ap (λ (v : View). v.walk) (recalled clear_location core step call recalls);
-    removes = λ j apart. (
-      λ h. absurd (apart (sym (subst (λ (t : Task). Removes t j) asked.task h))),
-      λ h. absurd (by-task (λ t. ¬ Removes t j) (λ same. apart (sym same)) (λ no. no) h),
-    );
-    places = λ j apart. (λ h. absurd (subst (λ (t : Task). IsPlacing t j) asked.task h), λ h. absurd (by-task (λ t. ¬ IsPlacing t j) (λ no. no) (λ no. no) h));
-    targets = λ index q side target. absurd (subst (λ (t : Task). IsTarget t index q side) asked.task target);
-    alone = others-else clear_location core step a i asked.task;
-    placed = body-new;
-    covered = off_trees body-off;
-    own = own-after;
-    climbs = by-task (ClimbsInTrees nodes Now) climbs tt;
-    held = held-later;
-  }
 
   -- ---- all laws
 
-  BodiesAgree-cleared : BodiesAgree (after_step clear_location core step)
-  BodiesAgree-cleared =
-      BodiesAgree-goes clear_location core step a.at a.pass a.laws.bodies
-      (calm_call (subst IsCalm (sym asked.task) tt) (by-task IsCalm tt tt)
-      (by-task (IsUnderStripe (sight body_scope core) (Last clear_location core step))
-      (subst (λ (v : View). Holds v (stripe_of core.config i) Write) (sym (recalled clear_location core step call recalls)) (stripe clear_location core step a i asked.task)) tt))
-      (ap (λ (v : View). v.locks) (recalled clear_location core step call recalls)) (by-name (λ n. body_scope.names n) refl refl) (λ value. refl) batches-same
-
   Invariants-cleared : Invariants (after_step clear_location core step)
-  Invariants-cleared = record {
-    nodes = nodes;
-    locks = LocksAgree-recalled clear_location core step call recalls a (by-name (λ n. lock_scope.names n) refl refl);
-    bodies = BodiesAgree-cleared;
-    places = NodesInOnePlace-recalled clear_location core step call recalls a (by-name (λ n. node_scope.names n) refl refl) (pool ∙ ap task_on_pool (sym asked.task));
-    trees = law-unseen clear_location core step call recalls a tree_scope (TreesSoundIn nodes) (by-name (λ n. tree_scope.names n) refl refl) (λ reads value. refl) refl a.laws.trees;
-    locations = LocationsHold-turned clear_location core step a i turns;
-    cover = BodiesCovered-turned clear_location core step a i turns;
-    walks = law-unseen clear_location core step call recalls a walk_scope WalksLeadIn (by-name (λ n. walk_scope.names n) refl refl) (λ reads value. refl) refl a.laws.walks;
-    readers = ReadersCounted-turned clear_location core step a i turns;
-  }
-
-  -- no other pass has the body marked
-  unmarked : EachOther core step (λ number view. ¬ HasMark view i)
-  unmarked seat number view apart found is t =
-      not_held (subst (λ (j : ℕ). HasBody (scene_of core) j (λ r. r.phase ≡ Held)) t.4
-      (some_and_map (record_at (scene_of core) t.1.index) _ _ (λ r both. both.0) (marked-held core a.laws.bodies seat number view found is t.0 t.1 t.2 t.3)))
+  Invariants-cleared =
+      Invariants-turned clear_location core step a i call
+      (record {
+        on = o;
+        of_body = of_body;
+        others = λ j apart. record-same j;
+        layer = λ g l body. subst (λ (o : Option Record). IsSomeAnd o (λ r. (r.generation ≡ g) × (r.layer ≡ l))) (sym (record-same i)) body;
+        targets = λ index q side target. absurd (subst (λ (t : Task). IsTarget t index q side) asked.task target);
+        unheld = not-held clear_location core step a i asked.task;
+        placed = body_anew body-new;
+        stand = λ n k location. ((taken clear_location core step a i asked.task).cleared n k (location-back n k location)).0;
+        covered = off_trees body-off;
+        own = own-after;
+      })
+      (BodiesAgree-beside clear_location core step a i call o (λ between. absurd (subst (λ (t : Task). MovesBody t i) asked.task between.0))
+      (elim which [ which_first names same ↦ ap body_scope.names names | which_second names first same ↦ ap body_scope.names names ]) (λ value. refl))
 
 -- ---- kind 41
 
@@ -432,35 +293,22 @@ module _ (core : Core) (step : Step) (a : Acts core step) where
       let recalls = second-recalls i names in
       let which = second-which i names entries first in (
         first-none core step a i entries none no_call recalls which,
-        ap (λ (n : Name). word_of (After clear_location core step) n) (sym names) ∙ stored core step a i entries none no_call recalls which,
+        stored core step a i entries none no_call recalls which (LocB i) names,
         out-after core step a i entries none no_call recalls which,
       )
-
-  -- no other pass has the stripe
-  unstriped : (i : ℕ) → HasClearedEntries step.view i → (seat number : ℕ) (view : View) (mode : Mode) → seat ≢ step.seat → IsViewAt core seat view → IsPass view number → ¬ Holds view (stripe_of core.config i) mode
-  unstriped i entries seat number view mode apart found is holds =
-      lock-alone clear_location core step a.at a.pass a.laws.locks a.laws.bodies (stripe_of core.config i) seat number view mode (stripe clear_location core step a i entries.task) apart found is holds
 
   Invariants-nowhere : MayClearLocation step.view step.name step.first step.second → Invariants (after_step clear_location core step)
   Invariants-nowhere (the_first i names entries none) = Invariants-cleared core step a i entries none first_call (first-recalls i names) (which_first names refl)
   Invariants-nowhere (the_second i names entries first none) = Invariants-cleared core step a i entries none no_call (second-recalls i names) (second-which i names entries first)
 
   KeepsGuards-nowhere : MayClearLocation step.view step.name step.first step.second → KeepsGuards clear_location core step
-  KeepsGuards-nowhere (the_first i names entries none) =
-      keeps clear_location core step (LocA i) names
-      (λ stored seat number view apart found is. (
-        unmarked core step a i entries none first_call (first-recalls i names) (which_first names refl) seat number view apart found is,
-        λ mode holds. absurd (unstriped i entries seat number view mode apart found is holds),
-      ))
-  KeepsGuards-nowhere (the_second i names entries first none) =
-      keeps clear_location core step (LocB i) names
-      (λ stored seat number view apart found is. (
-        λ holder. elim holder [
-          | inl l ↦ unstriped i entries seat number view l.0 apart found is l.1
-          | inr t ↦ unmarked core step a i entries none no_call (second-recalls i names) (second-which i names entries first) seat number view apart found is t
-        ],
-        tt,
-      ))
+  KeepsGuards-nowhere asked = elim asked [
+    | the_first i names entries none ↦ free i entries (subst (IsStripeWord i) (sym names) refl)
+    | the_second i names entries first none ↦ free i entries (subst (IsStripeWord i) (sym names) refl)
+  ]
+    where
+      free : (i : ℕ) → HasClearedEntries step.view i → IsStripeWord i step.name → KeepsGuards clear_location core step
+      free i entries of = stripe-guarded clear_location core step a i (known-stripe clear_location core step a i entries.task) (not-held clear_location core step a i entries.task) of
 
 pub Invariants-clear_location : IsKept MayClearLocation clear_location
 Invariants-clear_location = kept MayClearLocation clear_location (λ core step a asked. Invariants-nowhere core step a asked)

@@ -1,20 +1,13 @@
 -- Steps of moves and of removals leave the locks of their pass as they were, and its walk.
-use Rattle.std.proofs.Common.{◌≡◌, ℕ, refl}
+use Rattle.std.proofs.Common.{ℕ, refl}
 use Rattle.word_map.specs.declared.name.Name.{Name}
 use Rattle.word_map.specs.declared.name.Name.TheVariants.{Phase, BoxWord, LocB}
 use Rattle.core_state.specs.declared.view.Task.{Task}
 use Rattle.core_state.specs.declared.view.Task.TheVariants.{Moving}
 use Rattle.core_state.specs.declared.view.View.{View}
-use Rattle.core_state.specs.Kind.{Kind}
 use Rattle.core_state.specs.Moving.{widened_by, widen_low, widen_high, side_stored_by, store_side}
 use Rattle.core_state.specs.Removing.{remove, clear_location}
-
--- a view has the locks and the walk of another
-abbrev pub HasSameLocks : View → View → Type 0
-HasSameLocks view next = (next.locks ≡ view.locks) × (next.walk.is_on ≡ view.walk.is_on)
-
-abbrev pub LeavesLocks : Kind → Type 0
-LeavesLocks kind = (view : View) (name : Name) (found first second : ℕ) → HasSameLocks view (kind.leaves view name found first second)
+use Rattle.core_guard.proofs.LockSteps.{HasSameLocks, LeavesLocks}
 
 by-widening : (task : Task) (index : ℕ) (view : View) (name : Name) (value : ℕ) → HasSameLocks view (widened_by task index view name value)
 by-widening (Moving i target) index view name value = (refl, refl)

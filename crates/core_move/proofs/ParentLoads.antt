@@ -25,7 +25,7 @@ use Rattle.core_guard.proofs.Leaving.{Acts, After, Last}
 use Rattle.core_guard.proofs.PlacesStay.{acting}
 use Rattle.core_guard.proofs.PlacesLeft.{SeenUpdate}
 use Rattle.core_guard.proofs.Settled.{settled-still}
-use Rattle.core_guard.proofs.Still.{IsStill, Placed, come-on_way, LocationsHold-loaded}
+use Rattle.core_guard.proofs.Still.{IsStill, Placed, LocationsHold-loaded, come-up, climbs-any}
 use Rattle.core_guard.proofs.Holders.{IsGuarded}
 use Rattle.core_guard.proofs.Touched.{IsKept, kept}
 
@@ -62,8 +62,10 @@ module _ (index : ℕ) (core : Core) (step : Step) (a : Acts core step) (asked :
       let e = only new_load (record { name = Parent m; value = value }) h in
       let name = ap (λ (l : Load). l.name) e in
       let node : asked.node ≡ m = ap node_of_parent (sym asked.names ∙ name) in
-      let t = come-on_way a.laws.nodes Is (SeenUpdate kind core step) step.view.call p (IsKnownLocation step.view index) begins (record step.view.call { loads = new_load ∷ [] }) asked.node asked.child asked.come in
-      (same_word (Parent m) ∙ (ap (λ (x : Name). word_of core x) (sym name) ∙ ap (λ (l : Load). l.value) e), (t.0, t.1, t.2, t.3, subst (λ (x : ℕ). Above Is.word t.0 t.1 x t.2) node t.4))
+      let t = come-up a.laws.nodes Is (SeenUpdate kind core step) step.view.call p (IsKnownLocation step.view index) begins asked.node asked.child asked.come in (
+        same_word (Parent m) ∙ (ap (λ (x : Name). word_of core x) (sym name) ∙ ap (λ (l : Load). l.value) e),
+        (t.0, t.1, asked.child, climbs-any Is step.view.call (record step.view.call { loads = new_load ∷ [] }) (SeenUpdate kind core step) step.view.call.task t.0 t.1 t.2, subst (λ (x : ℕ). Above Is.word t.0 t.1 x asked.child) node t.3),
+      )
 
   light : IsLight kind core step
   light = record { reader = λ stored. absurd (false≢true stored); entry = λ value. refl; locks = refl; bodies = refl; nodes = refl; trees = refl; cover = refl }

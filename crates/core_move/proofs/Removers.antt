@@ -1,9 +1,9 @@
 -- What holds for a pass that takes a body out: it has the stripe, the body is out, its locations are those that the pass
 -- knows, and its entries are cleared in part.
-use Rattle.std.proofs.Common.{◌≡◌, ◌≢◌, ◌⊎◌, ℕ, List, [], ◌∷◌, ◌++◌, refl, ap, sym, ◌∙◌, subst, inl, inr}
+use Rattle.std.proofs.Common.{◌≡◌, ◌≢◌, ◌⊎◌, ℕ, List, [], ◌∷◌, ◌++◌, refl, ap, sym, ◌∙◌, subst, inl, inr, Option, IsSomeAnd, Some, None}
 use Rattle.std.specs.Prelude.{Contains}
 use Rattle.std.proofs.lemmas.List.Elements.{Contains-append_cases}
-use Rattle.scene_model.specs.declared.body_view.Phase.TheVariants.{Out}
+use Rattle.scene_model.specs.declared.body_view.Phase.TheVariants.{Out, Held, In}
 use Rattle.scene_model.specs.Step.{HasBody}
 use Rattle.word_map.specs.declared.name.Name.TheVariants.{LocA, LocB, Bound}
 use Rattle.word_map.specs.Names.{stripe_of}
@@ -12,9 +12,8 @@ use Rattle.core_state.specs.declared.view.Mode.TheVariants.{Write}
 use Rattle.core_state.specs.declared.view.Task.{Task}
 use Rattle.core_state.specs.declared.view.Task.TheVariants.{Removing}
 use Rattle.core_state.specs.declared.view.Call.{Call}
-use Rattle.core_state.specs.declared.view.View.{View}
-use Rattle.core_state.specs.View.{IsPass, Holds, known_word}
-use Rattle.core_state.specs.Core.{Core, word_of, scene_of, IsViewAt}
+use Rattle.core_state.specs.View.{Holds, known_word}
+use Rattle.core_state.specs.Core.{Core, word_of, scene_of}
 use Rattle.core_state.specs.Kind.{Kind, Step}
 use Rattle.core_state.specs.Guards.{by_lock}
 use Rattle.core_state.specs.Moving.{IsKnownLocation}
@@ -24,12 +23,16 @@ use Rattle.core_state.specs.BodiesAgree.{body_scope, IsUnderStripe}
 use Rattle.core_state.specs.LocationsHold.{location_scope, IsLocation, GivesBox, ClimbsFrom, IsUnheld, Removes, IsTakenOut}
 use Rattle.core_state.proofs.Opening.{only}
 use Rattle.core_guard.proofs.BodiesStep.{known-now}
-use Rattle.core_guard.proofs.BodyTouch.{stripe-others}
-use Rattle.core_guard.proofs.Leaving.{Acts, IsHandled}
+use Rattle.core_guard.proofs.Leaving.{Acts, some_and_map, out_held, out_in}
 use Rattle.core_guard.proofs.OutStill.{out-still}
 use Rattle.core_guard.proofs.PlacesLeft.{SeenUpdate}
 use Rattle.core_guard.proofs.PlacesStay.{PassIsPlaced, acting, pass-placed}
 use Rattle.core_guard.proofs.Seats.{seen_of, each-seat}
+use Rattle.core_guard.proofs.OnBody.{OnBody, IsOn}
+use Rattle.core_guard.proofs.Recalled.{Recalls}
+use Rattle.core_guard.proofs.Settled.{sound}
+use Rattle.word_map.specs.declared.config.Config.{Config}
+use Rattle.scene_model.specs.Scene.{record_at, Record}
 
 -- one element more in a list
 pub last-or : {X : Type 0} (xs : List X) (x y : X) → Contains (xs ++ x ∷ []) y → Contains xs y ⊎ (x ≡ y)
@@ -41,8 +44,12 @@ module _ (kind : Kind) (core : Core) (step : Step) (a : Acts core step) (i : ℕ
       subst (IsUnderStripe (sight body_scope core) (seen_of body_scope step.number step.view)) task
       (each-seat body_scope (λ k v. refl) core (λ k v. IsUnderStripe (sight body_scope core) v v.call.task) a.laws.bodies.stripes step.seat step.number step.view a.at a.pass)
 
-  pub others-else : (seat number : ℕ) (view : View) → seat ≢ step.seat → IsViewAt core seat view → IsPass view number → ¬ IsHandled view.call.task i
-  others-else = stripe-others kind core step a i stripe
+  pub known-stripe : Holds step.view (stripe_of step.view.config i) Write
+  known-stripe = subst (λ (c : Config). Holds step.view (stripe_of c i) Write) (sym (sound core step a).config) stripe
+
+  -- it goes on, or has done
+  pub removes-on : (call : Call) → IsOn i call.task → Recalls kind core step call → OnBody kind core step i call
+  removes-on call after recalls = record { stripe = known-stripe; before = subst (IsOn i) (sym task) refl; after = after; recalls = recalls }
 
   abbrev pub Was : Sight
   Was = sight location_scope core
@@ -57,6 +64,16 @@ module _ (kind : Kind) (core : Core) (step : Step) (a : Acts core step) (i : ℕ
 
   pub body_out : HasBody (scene_of core) i (λ r. r.phase ≡ Out)
   body_out = taken.out
+
+  pub not-held : HasBody (scene_of core) i (λ r. r.phase ≢ Held)
+  not-held = some_and_map (record_at (scene_of core) i) _ _ (λ r out held. absurd (out_held (sym out ∙ held))) body_out
+
+  pub not_in : ¬ HasBody (scene_of core) i (λ r. r.phase ≡ In)
+  not_in inside = go (record_at (scene_of core) i) body_out inside
+    where
+      go : (o : Option Record) → IsSomeAnd o (λ x. x.phase ≡ Out) → ¬ IsSomeAnd o (λ x. x.phase ≡ In)
+      go None h k = h
+      go (Some x) h k = out_in (sym h ∙ k)
 
   -- its locations are those that the pass knows
   pub first-known : word_of core (LocA i) ≡ known_word step.view (LocA i)

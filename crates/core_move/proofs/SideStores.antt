@@ -1,58 +1,40 @@
 -- Storing a box word in a move keeps all laws: of a body in the broad phase every bound from its locations up contains the new
 -- box, and contained the old one; one that is out stands in no tree.
-use Rattle.std.proofs.Common.{◌≡◌, ◌≢◌, ◌⊎◌, ℕ, ◌+◌, ◌<◌, ◌≤◌, ◌||◌, List, [], ◌∷◌, ◌++◌, Bool, true, false, length, option_map, Option, None, refl, ap, sym, ◌∙◌, subst, inl, inr}
-use Rattle.std.specs.Prelude.{slice_index, IsSomeAnd}
-use Rattle.std.proofs.lemmas.Bool.{cases_eq}
-use Rattle.std.proofs.lemmas.Option.{same_Some}
-use Rattle.scene_model.specs.declared.body_view.Phase.TheVariants.{Out, Held, In}
-use Rattle.scene_model.specs.Scene.{Record, record_at}
-use Rattle.scene_model.specs.Step.{HasBody}
-use Rattle.fixed_box.specs.FixBox.{words_of}
-use Rattle.word_map.specs.declared.name.Name.{Name}
-use Rattle.word_map.specs.Names.{stripe_of}
-use Rattle.word_map.specs.declared.name.Name.TheVariants.{BoxWord, Bound, Layer, User, Phase, Slot}
+use Rattle.std.proofs.Common.{◌≡◌, ◌≢◌, ◌⊎◌, ℕ, ◌||◌, List, [], ◌∷◌, ◌++◌, Bool, true, false, refl, ap, sym, ◌∙◌, subst, inl, inr, Some}
+use Rattle.std.specs.Prelude.{slice_index}
+use Rattle.scene_model.specs.declared.body_view.Phase.TheVariants.{Out}
+use Rattle.scene_model.specs.Scene.{record_at}
+use Rattle.word_map.specs.declared.name.Name.TheVariants.{BoxWord, Bound}
 use Rattle.core_state.specs.declared.item.Load.{Load}
 use Rattle.core_state.specs.declared.item.Store.{Store}
-use Rattle.core_state.specs.declared.view.Task.{Task}
 use Rattle.core_state.specs.declared.view.Task.TheVariants.{Moving}
 use Rattle.core_state.specs.declared.view.Call.{Call}
-use Rattle.core_state.specs.declared.view.View.{View}
 use Rattle.core_state.specs.Log.{history}
-use Rattle.core_state.specs.Core.{Core, word_of, scene_of}
-use Rattle.core_state.specs.Kind.{Kind, Step, log_after, learned, after_step}
-use Rattle.core_state.specs.Encoding.{Sides, sides_of, layer_of}
-use Rattle.core_state.specs.Guards.{KeepsGuards}
+use Rattle.core_state.specs.Core.{Core, scene_of}
+use Rattle.core_state.specs.Kind.{Step, learned, after_step}
+use Rattle.core_state.specs.Encoding.{Sides, sides_of}
 use Rattle.core_state.specs.Bodies.{is_box_word, has_box_word, MovesBody, IsBetweenBoxes}
 use Rattle.core_state.specs.Moving.{IsSettled, StoresSide, of_target, of_body_out, MayStoreSide, side_stored_by, store_side}
-use Rattle.core_state.specs.Nodes.{Nodes, Stands, node_in}
-use Rattle.core_state.specs.Parts.{update_on_trees}
-use Rattle.core_state.specs.Scope.{Scope, Sight, sight, bare_view, HasPass}
-use Rattle.core_state.specs.TreesSound.{TreesSoundIn, tree_scope}
-use Rattle.core_state.specs.LocationsHold.{LocationsHold, location_scope, IsLocation, IsAt, Encloses, box_in}
-use Rattle.core_state.specs.BodiesAgree.{BodiesAgree, body_scope}
-use Rattle.core_state.specs.BodiesCovered.{BodiesCoveredIn, cover_scope}
-use Rattle.core_state.specs.WalksLead.{WalksLeadIn, walk_scope}
+use Rattle.core_state.specs.Scope.{Sight, sight, HasPass}
+use Rattle.core_state.specs.LocationsHold.{location_scope, IsLocation, Encloses, Removes}
+use Rattle.core_state.specs.BodiesAgree.{body_scope}
 use Rattle.core_state.specs.Invariants.{Invariants}
-use Rattle.core_state.proofs.Beginning.{record_body}
-use Rattle.core_state.proofs.Frames.{frame, step-same, step-history}
-use Rattle.core_state.proofs.Steps.{word-step, word-step-other, view-step}
-use Rattle.core_guard.proofs.BodiesStep.{phase-kept}
-use Rattle.core_guard.proofs.BodyTouch.{body_of}
-use Rattle.core_guard.proofs.Leaving.{Acts, After, Last, Leaves, leaves-same, scene-plain, held-once, stands-in_tree}
-use Rattle.core_guard.proofs.PlacesLeft.{SeenUpdate, body_anew}
-use Rattle.core_guard.proofs.PlacesStay.{encloses-forth}
-use Rattle.core_guard.proofs.ReadersLeft.{some-all}
+use Rattle.core_state.proofs.Frames.{step-history}
+use Rattle.core_state.proofs.Steps.{view-step}
+use Rattle.core_guard.proofs.Leaving.{Acts, After, Last, Leaves, scene-plain}
+use Rattle.core_guard.proofs.PlacesLeft.{SeenUpdate}
+use Rattle.core_guard.proofs.PlacesStay.{encloses-forth, PassIsPlaced}
 use Rattle.core_guard.proofs.Seats.{seat-has}
-use Rattle.core_guard.proofs.Settled.{settled-still}
 use Rattle.core_guard.proofs.Touched.{IsKept, kept}
-use Rattle.core_guard.proofs.Holders.{keeps, unlocked, IsGuarded, guarded}
-use Rattle.core_guard.proofs.LivesGuarded.{unmade, unmarked}
-use Rattle.core_guard.proofs.Scenes.{none_here}
-use Rattle.core_move.proofs.BoxMoves.{IsReady, ready-in, ready-out, ready-stands, ready-unheld, ready-placed, ready-wide}
-use Rattle.core_move.proofs.MoveSteps.{under-task, under-target, IsUnderWay, has_begun, begins_now, is_move_word, IsOfMove, same-call, location-back, LocationsHold-moves, stores-placed, LocksAgree-moves, NodesInOnePlace-moves, cover-part}
-use Rattle.core_move.proofs.MoveBodies.{only-same, word-kept, BodiesAgree-moves}
-use Rattle.core_move.proofs.Reboxed.{reboxed}
-use Rattle.core_move.proofs.MoveReaders.{ReadersCounted-moves}
+use Rattle.core_guard.proofs.Holders.{IsGuarded, guarded}
+use Rattle.core_guard.proofs.LivesGuarded.{IsStripeWord, stripe-guarded}
+use Rattle.core_move.proofs.BoxMoves.{IsReady, ready-in, ready-out, ready-stands, ready-placed, ready-wide, settled-unheld, box-leaves, box-in_place, back, box-turns, box-agrees}
+use Rattle.core_move.proofs.MoveSteps.{under-target, IsUnderWay, has_begun, begins_now, stores-placed, under-so}
+use Rattle.core_guard.proofs.BodyAnew.{No_new, Invariants-turned}
+use Rattle.core_guard.proofs.Changed.{changes-none}
+use Rattle.core_guard.proofs.OnBody.{OnBody, IsOn}
+use Rattle.core_guard.proofs.Recalled.{Recalls, call-is}
+use Rattle.core_state.specs.Updates.{IsPlacing}
 
 -- ---- box words that are stored
 
@@ -70,20 +52,14 @@ module _ (core : Core) (step : Step) (a : Acts core step) (index side : ℕ) (na
   abbrev new : Store
   new = record { name = BoxWord index side; value = step.first }
 
-  abbrev after-task : Task → Name → View
-  after-task task name = record (side_stored_by task (learned core step) name step.first) {
-    config = step.view.config;
-    role = step.view.role;
-    known = log_after store_side core step;
-    joined = None;
-  }
+  abbrev goes_on : List ℕ → List Load → List Store → Call
+  goes_on target loads stored = record { task = Moving index target; loads = loads; stores = stored ++ new ∷ [] }
 
-  abbrev after-call : Task → List Load → List Store → View
-  after-call task loads stored = record step.view { call = record { task = task; loads = loads; stores = stored ++ new ∷ [] }; known = log_after store_side core step; joined = None }
-
-  stored-view : (target : List ℕ) (loads : List Load) (stored : List Store) → IsUnderWay index step.view.call target loads stored → Last store_side core step ≡ after-call (Moving index target) loads stored
-  stored-view target loads stored (has_begun t e) = (λ i. after-task (e i) (names i)) ∙ (λ i. after-call (e i) step.view.call.loads step.view.call.stores)
-  stored-view target loads stored (begins_now e) = λ i. after-task (e i) (names i)
+  recalls : (target : List ℕ) (loads : List Load) (stored : List Store) → IsUnderWay index step.view.call target loads stored → Recalls store_side core step (goes_on target loads stored)
+  recalls target loads stored (has_begun t e) =
+      (λ i. side_stored_by (e i) (learned core step) (names i) step.first)
+      ∙ (λ i. record (learned core step) { call = record { task = e i; loads = step.view.call.loads; stores = step.view.call.stores ++ new ∷ [] } })
+  recalls target loads stored (begins_now e) = λ i. side_stored_by (e i) (learned core step) (names i) step.first
 
   -- of a body in the broad phase the word is a side of the target
   ready : (y : IsReady core step a index settled) × ((step.first ≡ slice_index y.target side) ⊎ (y.r.phase ≡ Out))
@@ -96,186 +72,72 @@ module _ (core : Core) (step : Step) (a : Acts core step) (index side : ℕ) (na
   abbrev y : IsReady core step a index settled
   y = ready.0
 
-  abbrev nodes : Nodes
-  nodes = a.laws.nodes
-
-  abbrev Was : Sight
-  Was = sight location_scope core
-
-  abbrev Is : Sight
-  Is = sight location_scope (After store_side core step)
-
-  abbrev r : Record
-  r = y.r
-
   abbrev One : Call
   One = record { task = Moving index y.target; loads = y.loads; stores = y.stored }
 
   abbrev Two : Call
-  Two = record { task = Moving index y.target; loads = y.loads; stores = y.stored ++ new ∷ [] }
+  Two = goes_on y.target y.loads y.stored
 
-  o : IsOfMove store_side core step a index Two
-  o = record {
-    stripe = settled.stripe;
-    word = ap is_move_word names;
-    body = λ i e. same_Some i index (sym e ∙ ap body_of names);
-    before = under-task index step.view.call y.target y.loads y.stored y.under;
-    after = refl;
-    view = stored-view y.target y.loads y.stored y.under;
-  }
+  o : OnBody store_side core step index Two
+  o = record { stripe = settled.stripe; before = under-so (IsOn index) index step.view.call y.target y.loads y.stored tt (λ t. refl) y.under; after = refl; recalls = recalls y.target y.loads y.stored y.under }
+
+  unremoves : ¬ Removes Two.task index × ¬ IsPlacing Two.task index
+  unremoves = (λ no. no, λ no. no)
 
   same : (i : ℕ) → record_at (scene_of (After store_side core step)) i ≡ record_at (scene_of core) i
   same i = scene-plain store_side core step (λ value. refl) i
 
-  other : (name : Name) → ((k : ℕ) → name ≢ BoxWord index k) → word_of (After store_side core step) name ≡ word_of core name
-  other name apart = word-step-other store_side core step name (λ e. apart side (e ∙ names))
+  now : record_at (scene_of (After store_side core step)) index ≡ Some y.r
+  now = same index ∙ y.was
 
-  abbrev none : ℕ → Type 0
-  none n = ⊥
+  abbrev Is : Sight
+  Is = sight location_scope (After store_side core step)
 
-  m : Leaves store_side core step nodes nodes none
-  m = leaves-same store_side core step nodes (ap node_in names) (ap layer_of names) (ap (λ (v : View). v.rebuild) o.view)
+  m : Leaves store_side core step a.laws.nodes a.laws.nodes (No_new store_side core step)
+  m = box-leaves core step a index settled store_side Two o side names y unremoves y.r.bounds now
 
-  stands : (n k : ℕ) → IsLocation Was index n k → Stands (nodes.home n)
-  stands = ready-stands core step a index settled store_side Two o y
-
-  unheld : HasBody (scene_of core) index (λ q. q.phase ≢ Held)
-  unheld = record_body (record_at (scene_of core) index) (λ q. q.phase ≢ Held) r y.was (ready-unheld core step a index settled store_side Two o y)
-
-  wide : (n k : ℕ) → IsLocation Was index n k → (length y.target ≡ 6) × Encloses Was n k (sides_of y.target)
-  wide = ready-wide core step a index settled store_side Two o y
-
-  -- ---- locations
-
-  -- a box word is as it was, or the new one
-  word-now : (q : ℕ) → (Is.word (BoxWord index q) ≡ Was.word (BoxWord index q)) ⊎ ((q ≡ side) × (Is.word (BoxWord index q) ≡ step.first))
-  word-now q =
-      elim (cases_eq q side) [
-        | inl one ↦
-            let name : BoxWord index q ≡ step.name = ap (BoxWord index) one ∙ sym names in
-            inr (one, ap (word_of (After store_side core step)) name ∙ word-step store_side core step)
-        | inr apart ↦ inl (word-step-other store_side core step (BoxWord index q) (λ e. apart (ap side_of (e ∙ names))))
-      ]
-    where
-      side_of : Name → ℕ
-      side_of (BoxWord i k) = k
-      side_of _ = 0
-
-  at-now : r.phase ≡ In → (n k : ℕ) → IsLocation Is index n k → IsAt nodes Is index r n k
-  at-now inside n k location =
-      let old = location-back store_side core step a index Two o m index n k location in
-      let was = a.laws.locations.at index r n k y.was inside old in
-      let forth : (box : Sides) → Encloses Was n k box → Encloses Is n k box = λ box h. encloses-forth store_side core step a nodes none m n k box was.stands h in
-      let before = forth (box_in Was index) was.box_words in
-      let after = forth (sides_of y.target) (wide n k old).1 in
-      record {
-        stands = was.stands;
-        entry = m.child n k (stands-in_tree (nodes.home n) was.stands) ∙ was.entry;
-        bounds = forth (sides_of (words_of r.bounds)) was.bounds;
-        box_words = λ b j up q low.
-            let one = before b j up q low in
-            let two = after b j up q low in (
-              elim (word-now q) [ inl e ↦ subst (λ (v : ℕ). Is.word (Bound b j q) ≤ v) (sym e) one.0 | inr t ↦ subst (λ (v : ℕ). Is.word (Bound b j q) ≤ v) (sym (t.1 ∙ (value inside ∙ ap (sides_of y.target) (sym t.0)))) two.0 ],
-              elim (word-now (3 + q)) [ inl e ↦ subst (λ (v : ℕ). v ≤ Is.word (Bound b j (3 + q))) (sym e) one.1 | inr t ↦ subst (λ (v : ℕ). v ≤ Is.word (Bound b j (3 + q))) (sym (t.1 ∙ (value inside ∙ ap (sides_of y.target) (sym t.0)))) two.1 ],
-            );
-      }
-    where
-      out_in : Out ≡ In → ⊥
-      out_in e = absurd cc
-
-      value : r.phase ≡ In → step.first ≡ slice_index y.target side
-      value inside = elim (ready.1) [ inl e ↦ e | inr out ↦ absurd (out_in (sym out ∙ inside)) ]
-
-  LocationsHold-stores : LocationsHold nodes (After store_side core step)
-  LocationsHold-stores =
-      LocationsHold-moves store_side core step a index Two o m (λ i apart. same i)
-      (body_anew (reboxed store_side core step a index Two o r y.was m r.bounds (same index ∙ y.was) at-now))
-      (stores-placed store_side core step a index Two o m (SeenUpdate store_side core step) y.target y.target y.loads y.stored new (ready-placed core step a index settled store_side Two o y) (record {
-        unheld = subst (λ (x : Option Record). IsSomeAnd x (λ q. q.phase ≢ Held)) (sym (same index)) unheld;
+  -- the new box is enclosed at each location still
+  own : PassIsPlaced a.laws.nodes Is Two (SeenUpdate store_side core step)
+  own =
+      stores-placed store_side core step a index m (box-in_place core step a index settled store_side Two o side names y unremoves y.r.bounds now) (SeenUpdate store_side core step) y.target y.target y.loads y.stored new
+      (ready-placed core step a index settled store_side Two o side names y unremoves)
+      (record {
         widened = λ i n k box gives has location.
-            let here : IsLocation Is index n k = subst (λ (j : ℕ). IsLocation Is j n k) (sym gives.0) location in
-            let old = location-back store_side core step a index Two o m index n k here in
-            let t = wide n k old in
-            (t.0, subst (λ (b : Sides). Encloses Is n k b) (sym gives.1) (encloses-forth store_side core step a nodes none m n k (sides_of y.target) (stands n k old) t.1));
+            let old = back core step a index settled store_side Two o side names y unremoves y.r.bounds now n k (subst (λ (j : ℕ). IsLocation Is j n k) (sym gives.0) location) in
+            let t = ready-wide core step a index settled store_side Two o side names y unremoves n k old in
+            let stands = ready-stands core step a index settled store_side Two o side names y unremoves n k old in
+            (t.0, subst (λ (b : Sides). Encloses Is n k b) (sym gives.1) (encloses-forth store_side core step a a.laws.nodes (No_new store_side core step) m n k (sides_of y.target) stands t.1));
         wide = λ n k q value e. absurd (no_side (ap (λ (x : Store). x.name) e));
         way = λ b j q value e. absurd (no_side (ap (λ (z : Store). z.name) e));
-      }))
+      })
     where
       no_side : {n k q : ℕ} → BoxWord index side ≢ Bound n k q
       no_side e = absurd cc
 
-  -- ---- bodies
-
-  BodiesAgree-stores : BodiesAgree (After store_side core step)
-  BodiesAgree-stores =
-      let past = history core.log in
-      let kept = word-kept store_side core step a index Two o past in
-      BodiesAgree-moves store_side core step a index Two o past (step-history store_side core step (λ value. refl)) (only-same core index a.laws.bodies (held-once (record_at (scene_of core) index) unheld))
-      (λ q is.
-      let was = a.laws.bodies.live index q is in
-      record {
-        layer = kept (Layer index) (λ n k p e. absurd cc) (λ k e. absurd cc) ∙ was.layer;
-        user = kept (User index) (λ n k p e. absurd cc) (λ k e. absurd cc) ∙ was.user;
-        user_fits = was.user_fits;
-        bounds = λ whole. absurd (whole step.number between);
-        phase =
-            phase-kept (word_of core (Phase index)) (word_of (After store_side core step) (Phase index)) (λ t. word_of core (Slot q.layer t)) (λ t. word_of (After store_side core step) (Slot q.layer t)) q.phase
-            (kept (Phase index) (λ n k p e. absurd cc) (λ k e. absurd cc)) (λ t. kept (Slot q.layer t) (λ n k p e. absurd cc) (λ k e. absurd cc)) was.phase;
-        slot = subst (λ (n : ℕ). n < 2 + core.config.slots) (sym (kept (Phase index) (λ n k p e. absurd cc) (λ k e. absurd cc))) was.slot;
-      })
-    where
-      between : HasPass (sight body_scope (After store_side core step)) step.number (λ v. IsBetweenBoxes v index)
-      between = seat-has body_scope (λ k v. refl) (After store_side core step) step.number (λ v. IsBetweenBoxes v index) (record {
-        seat = step.seat;
-        view = Last store_side core step;
-        at = view-step store_side core step a.at;
-        pass = a.pass;
-        holds = subst (λ (c : Call). MovesBody c.task index × (has_box_word c.stores ≡ true)) (sym (same-call store_side core step a index Two o)) (refl, box-last y.stored new refl);
-      })
-
-  -- ---- all of them
+  between : HasPass (sight body_scope (After store_side core step)) step.number (λ v. IsBetweenBoxes v index)
+  between = seat-has body_scope (λ k v. refl) (After store_side core step) step.number (λ v. IsBetweenBoxes v index) (record {
+    seat = step.seat;
+    view = Last store_side core step;
+    at = view-step store_side core step a.at;
+    pass = a.pass;
+    holds = subst (λ (c : Call). MovesBody c.task index × (has_box_word c.stores ≡ true)) (sym (call-is store_side core step Two o.recalls)) (refl, box-last y.stored new refl);
+  })
 
   pub Invariants-stores : Invariants (after_step store_side core step)
   Invariants-stores =
-      let scoped : (scope : Scope) → scope.names (BoxWord index side) ≡ false → scope.part (bare_view step.number) (Last store_side core step) ≡ scope.part (bare_view step.number) step.view → (Law : Sight → Type 0) → Law (sight scope core) → Law (sight scope (after_step store_side core step)) =
-      λ scope hidden part Law h. frame scope Law core (after_step store_side core step) (step-same scope store_side core step a.at a.pass (record { name = λ stored. ap scope.names names ∙ hidden; entry = λ reads value. refl; part = part })) h
-      in
-      record {
-        nodes = nodes;
-        locks = LocksAgree-moves store_side core step a index Two o;
-        bodies = BodiesAgree-stores;
-        places = NodesInOnePlace-moves store_side core step a index Two o;
-        trees = scoped tree_scope refl (λ i. record (bare_view step.number) { written = (o.view i).written; rebuild = option_map update_on_trees (o.view i).rebuild }) (TreesSoundIn nodes) a.laws.trees;
-        locations = LocationsHold-stores;
-        cover = scoped cover_scope refl (cover-part store_side core step a index Two o) (BodiesCoveredIn nodes) a.laws.cover;
-        walks = scoped walk_scope refl (λ i. record (bare_view step.number) { walk = (o.view i).walk }) WalksLeadIn a.laws.walks;
-        readers = ReadersCounted-moves store_side core step a index Two o m (record {
-          same = same;
-          stands = stands;
-          targets = λ i q value target. under-target index step.view.call y.target y.loads y.stored y.under i q value target;
-          live = λ n k q l live layer. inl (other (Bound n k q) (λ j e. absurd cc));
-          fresh = λ number view among pass. some-all view.rebuild _ (λ u n k q l home. inl (other (Bound n k q) (λ j e. absurd cc)));
-        });
-      }
+      Invariants-turned store_side core step a index Two
+      (box-turns core step a index settled store_side Two o side names y unremoves y.r.bounds now refl ready.1
+      (λ n k inside location. (a.laws.locations.at index y.r n k y.was inside location).bounds)
+      (λ i apart. same i) (λ i q value target. inl (under-target index step.view.call y.target y.loads y.stored y.under i q value target)) own)
+      (box-agrees core step a index settled store_side Two o side names y unremoves y.r.bounds now (history core.log) (changes-none core index a.laws.bodies y.r y.was) (λ whole. absurd (whole step.number between))
+      (step-history store_side core step (λ value. refl)))
 
 -- ---- kind 37
 
 pub Invariants-store_side : IsKept MayStoreSide store_side
 Invariants-store_side = kept MayStoreSide store_side (λ core step a asked. Invariants-stores core step a asked.index asked.side asked.names asked.settled asked.stores)
 
--- no other pass has a box word of a settled body for itself
-pub box-guarded : (kind : Kind) (core : Core) (step : Step) (a : Acts core step) (index side : ℕ) → step.name ≡ BoxWord index side → IsSettled step.view index → KeepsGuards kind core step
-box-guarded kind core step a index side names settled =
-    let known = settled-still core step a index settled in
-    let unheld : HasBody (scene_of core) index (λ q. q.phase ≢ Held) = subst (λ (x : Option Record). IsSomeAnd x (λ q. q.phase ≢ Held)) (sym known.body) settled.unheld in
-    keeps kind core step (BoxWord index side) names
-    (λ stored seat number view apart found own. (
-      λ holder. elim holder [
-        | inl makes ↦ unmade core step a index (λ gone. none_here (record_at (scene_of core) index) (λ q. q.phase ≢ Held) gone unheld) seat number view apart found own makes
-        | inr mark ↦ unmarked core step a index (held-once (record_at (scene_of core) index) unheld) seat number view apart found own mark
-      ],
-      λ mode holds. absurd (unlocked core step a (λ c. stripe_of c index) settled.stripe seat number view apart found own (mode, holds)),
-    ))
-
 pub GuardsHold-store_side : IsGuarded MayStoreSide store_side
-GuardsHold-store_side = guarded MayStoreSide store_side (λ core step a asked. box-guarded store_side core step a asked.index asked.side asked.names asked.settled)
+GuardsHold-store_side =
+    guarded MayStoreSide store_side
+    (λ core step a asked. stripe-guarded store_side core step a asked.index asked.settled.stripe (settled-unheld core step a asked.index asked.settled) (subst (IsStripeWord asked.index) (sym asked.names) refl))

@@ -12,14 +12,13 @@ use Rattle.core_state.specs.declared.item.Store.{Store}
 use Rattle.core_state.specs.declared.view.Task.{Task}
 use Rattle.core_state.specs.declared.view.Task.TheVariants.{Moving}
 use Rattle.core_state.specs.declared.view.Call.{Call}
-use Rattle.core_state.specs.declared.view.View.{View}
 use Rattle.core_state.specs.Core.{Core}
 use Rattle.core_state.specs.Operation.{Operation, fetch_min, fetch_max, result_of}
-use Rattle.core_state.specs.Kind.{Kind, Step, log_after, learned}
+use Rattle.core_state.specs.Kind.{Kind, Step, learned}
 use Rattle.core_state.specs.Bodies.{is_box_word, has_box_word}
 use Rattle.core_state.specs.Moving.{IsKnownLocation, HasComeTo, at_start, BeginsMove, IsSideOfTarget, an_old, the_next, GoesOnMoving, begins_move, goes_on_moving, MayWiden, target_with, side_in, widened_by}
-use Rattle.core_guard.proofs.Leaving.{Last}
 use Rattle.core_move.proofs.MoveSteps.{IsUnderWay, has_begun, begins_now}
+use Rattle.core_guard.proofs.Recalled.{Recalls}
 
 -- ---- both kinds
 
@@ -98,17 +97,9 @@ module _ (operation : Operation) (index : ℕ) (core : Core) (step : Step) where
     pub under : IsUnderWay index step.view.call target loads stored
     pub come : HasComeTo (record { task = Moving index target; loads = loads; stores = stored }) (IsKnownLocation step.view index) node child
     pub grown : IsGrown target next side step.first
-    pub view : Last kind core step ≡ record step.view { call = record { task = Moving index next; loads = loads; stores = stored ++ new_store ∷ [] }; known = log_after kind core step; joined = None }
+    pub recalls : Recalls kind core step (record { task = Moving index next; loads = loads; stores = stored ++ new_store ∷ [] })
 
   module _ (node child side : ℕ) (names : step.name ≡ Bound node child side) (below : side < 6) where
-    abbrev pub after-task : Task → View
-    after-task task = record (widened_by task index (learned core step) step.name step.first) {
-      config = step.view.config;
-      role = step.view.role;
-      known = log_after kind core step;
-      joined = None;
-    }
-
     begins : BeginsMove step.view index node child side → Goes node child side
     begins b = record {
       target = [];
@@ -122,7 +113,7 @@ module _ (operation : Operation) (index : ℕ) (core : Core) (step : Step) where
         has = subst (λ (q : ℕ). (q < 1) × (slice_index (step.first ∷ []) q ≡ step.first)) (sym b.first) (omega arith, refl);
         whole = λ six. absurd (omega arith);
       };
-      view = ap after-task b.idle;
+      recalls = ap (λ (t : Task). widened_by t index (learned core step) step.name step.first) b.idle;
     }
 
     goes-on : GoesOnMoving step.view index node child side step.first → Goes node child side
@@ -134,12 +125,8 @@ module _ (operation : Operation) (index : ℕ) (core : Core) (step : Step) where
       under = has_begun g.target g.task;
       come = subst (λ (c : Call). HasComeTo c (IsKnownLocation step.view index) node child) (λ i. record { task = g.task i; loads = step.view.call.loads; stores = step.view.call.stores }) g.come;
       grown = target-grown g.target side step.first below g.side;
-      view = ap after-task g.task
-          ∙ (λ i. record step.view {
-            call = record { task = Moving index (target_with g.target (side_in (names i)) step.first); loads = step.view.call.loads; stores = step.view.call.stores ++ new_store ∷ [] };
-            known = log_after kind core step;
-            joined = None;
-          });
+      recalls = ap (λ (t : Task). widened_by t index (learned core step) step.name step.first) g.task
+          ∙ (λ i. record (learned core step) { call = record { task = Moving index (target_with g.target (side_in (names i)) step.first); loads = step.view.call.loads; stores = step.view.call.stores ++ new_store ∷ [] } });
     }
 
     pub goes : MayWiden index step.view node child side step.first → Goes node child side

@@ -212,7 +212,7 @@ fn measure<R: Clock + Print + Wait>(
 }
 
 /// Makes all runs of a table.
-fn figures<R: Clock + Print + Wait>(
+fn all_runs<R: Clock + Print + Wait>(
     table: &Table<R>,
     world: &World,
     pass: &mut Pass,
@@ -268,7 +268,7 @@ fn town<R: Clock + Print + Wait>(table: &Table<R>, bodies: u32, batch: u32) -> i
     for of in [Of::OwnBoxes, Of::AllSpace] {
         let asked = of.boxes(alloc, &boxes)?;
         let what = format!(in alloc; "{} of {bodies} in {batches}", of.name())?;
-        let (least, back) = figures(table, &world, &mut pass, finder, &asked)?;
+        let (least, back) = all_runs(table, &world, &mut pass, finder, &asked)?;
         finder = back;
         rows(table, least, asked.len() as u64, what.as_str())?;
     }

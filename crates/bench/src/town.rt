@@ -77,7 +77,8 @@ pub(crate) fn ids_from(alloc: Global, first: u32, count: u32) -> Result<Vec<Body
 {
     let mut ids = Vec::new(alloc);
     for index in first..first + count {
-        ids.push(BodyId::new(index, 1))?;
+        let id = BodyId::new(index, 1);
+        ids.push(id)?;
     }
     Ok(ids)
 }

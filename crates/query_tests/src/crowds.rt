@@ -155,16 +155,19 @@ fn stream<R: Threads + Wait + Sync>(
     world: &World,
     first: Pass,
     second: Pass,
+    one: BodyId,
+    other: BodyId,
 ) -> (u32, (u32, bool))
     requires first { IsIdle world.now first }
     requires second { IsIdle world.now second }
     requires layers { 0 < world.now.map.layers }
-    requires bodies { 3 ≤ world.now.map.bodies }
+    requires one_below { one.index < world.now.map.bodies }
+    requires other_below { other.index < world.now.map.bodies }
 {
     let ((tried, _pass), added) = join(
         rt,
-        || give_up(rt, alloc, world, first, BodyId::new(1, 1)),
-        || give_up_and_add(rt, alloc, world, second, BodyId::new(2, 1)),
+        || give_up(rt, alloc, world, first, one),
+        || give_up_and_add(rt, alloc, world, second, other),
     );
     (tried, added)
 }
@@ -191,7 +194,17 @@ fn a_query_beside_batches_finds_what_stays_and_nothing_that_is_given_up(
             requires third { IsIdle world third }
             requires bodies { world.map.bodies ≡ 8 }
             requires layers { world.map.layers ≡ 1 }
-        { stream(&rt, alloc, &world, second, third) },
+        {
+            stream(
+                &rt,
+                alloc,
+                &world,
+                second,
+                third,
+                BodyId::new(1, 1),
+                BodyId::new(2, 1),
+            )
+        },
     );
     // A slot is left for each of the two.
     assert!(rt; one == ROUNDS && other == (ROUNDS, true));
@@ -233,17 +246,20 @@ fn two_wander<R: Threads + Wait + Sync>(
     world: &World,
     first: Pass,
     second: Pass,
+    one: BodyId,
+    other: BodyId,
     near: FixBox,
     far: FixBox,
 ) -> (u32, u32)
     requires first { IsIdle world.now first }
     requires second { IsIdle world.now second }
-    requires bodies { 3 ≤ world.now.map.bodies }
+    requires one_below { one.index < world.now.map.bodies }
+    requires other_below { other.index < world.now.map.bodies }
 {
     join(
         rt,
-        || wander(rt, world, first, BodyId::new(1, 1), near, far),
-        || wander(rt, world, second, BodyId::new(2, 1), near, far),
+        || wander(rt, world, first, one, near, far),
+        || wander(rt, world, second, other, near, far),
     )
 }
 
@@ -270,7 +286,18 @@ fn a_query_beside_moves_finds_what_nobody_moves(rt: HostRuntime) -> Result<(), F
             requires second { IsIdle world second }
             requires third { IsIdle world third }
             requires bodies { world.map.bodies ≡ 8 }
-        { two_wander(&rt, &world, second, third, near, far) },
+        {
+            two_wander(
+                &rt,
+                &world,
+                second,
+                third,
+                BodyId::new(1, 1),
+                BodyId::new(2, 1),
+                near,
+                far,
+            )
+        },
     );
     assert!(rt; moved == (ROUNDS, ROUNDS));
     assert!(rt; seen.whole == ROUNDS);

@@ -2,7 +2,7 @@
 ghost use Rattle.std.specs.Prelude.{◌≡◌, ◌<◌, ◌≤◌, All, IfSome, length};
 ghost use Rattle.pass_table.specs.Passes.{IsIdle};
 
-use crate::places::{add, ask, between, go_to, holds, open_two, point, put, sizes};
+use crate::places::{add, add_row, ask, between, go_to, holds, open_two, point, put, sizes};
 use batch_add::{finalize, prepare};
 use body_ident::BodyId;
 use body_lock::{lock_read, lock_write};
@@ -11,7 +11,6 @@ use fixed_box::Shape;
 use pass_table::{Pass, World, drive};
 use remove_body::{RemoveRefused, remove};
 use scene_model::{BodyView, Phase};
-use std::alloc::Global;
 use std::sync::Wait;
 use std::test::Fail;
 use tree_query::Finder;
@@ -45,23 +44,6 @@ fn four_stripes() -> Config
     }
 }
 
-/// Creates 17 bodies a thousand units apart and brings them in as one batch. Its tree has three levels, and the first two
-/// bodies share a node of the deepest one.
-fn add_seventeen<R: Wait>(rt: &R, alloc: Global, world: &World, pass: &mut Pass) -> Option<bool>
-    requires idle { IsIdle world.now pass.old }
-    requires layers { 0 < world.now.map.layers }
-    requires bodies { 17 ≤ world.now.map.bodies }
-    ensures idle { IsIdle world.now pass.new }
-{
-    let mut ids = Vec::new(alloc);
-    for place in 0..17 {
-        let x = place * 1_000;
-        let id = put(rt, world, pass, [x, 0, 0], [x + 10, 10, 10])?;
-        ids.push(id).ok()?;
-    }
-    Some(add(rt, alloc, world, pass, &ids))
-}
-
 #[test]
 fn two_bodies_of_one_node_move_at_once(rt: HostRuntime) -> Result<(), Fail> {
     let alloc = rt.alloc();
@@ -70,7 +52,8 @@ fn two_bodies_of_one_node_move_at_once(rt: HostRuntime) -> Result<(), Fail> {
     };
     let (a, b) = (BodyId::new(0, 1), BodyId::new(1, 1));
     let mut finder = Finder::new(alloc, 32)?;
-    assert!(rt; add_seventeen(&rt, alloc, &world, &mut pass) == Some(true));
+    // The tree over 17 bodies in a row has three levels, and the first two share a node of the deepest one.
+    assert!(rt; add_row(&rt, alloc, &world, &mut pass, 0, 17) == Some(true));
     let (Some(up), Some(near), Some(far)) = (
         between([0, 100_000, 0], [10, 100_010, 10]),
         point([1_005, 50_005, 5]),

@@ -98,6 +98,49 @@ pub(crate) fn add<R: Wait>(
     }
 }
 
+/// Creates so many bodies in a row along an axis, from one coordinate on: boxes 10 units wide, a thousand units apart.
+fn put_row<R: Wait>(
+    rt: &R,
+    alloc: Global,
+    world: &World,
+    pass: &mut Pass,
+    from: i32,
+    count: u32,
+) -> Option<Vec<BodyId>>
+    requires idle { IsIdle world.now pass.old }
+    requires layers { 0 < world.now.map.layers }
+    ensures idle { IsIdle world.now pass.new }
+    ensures below { IfSome result (λ ids. All (λ id. id.index < world.now.map.bodies) ids.items) }
+{
+    let mut ids = Vec::new(alloc);
+    let mut x = from;
+    for _ in 0..count {
+        let id = put(rt, world, pass, [x, 0, 0], [x.wrapping_add(10), 10, 10])?;
+        let Ok(()) = ids.push(id) else {
+            return None;
+        };
+        x = x.wrapping_add(1_000);
+    }
+    Some(ids)
+}
+
+/// Creates such a row and brings it in as one batch. It answers whether all of it came in.
+pub(crate) fn add_row<R: Wait>(
+    rt: &R,
+    alloc: Global,
+    world: &World,
+    pass: &mut Pass,
+    from: i32,
+    count: u32,
+) -> Option<bool>
+    requires idle { IsIdle world.now pass.old }
+    requires layers { 0 < world.now.map.layers }
+    ensures idle { IsIdle world.now pass.new }
+{
+    let ids = put_row(rt, alloc, world, pass, from, count)?;
+    Some(add(rt, alloc, world, pass, &ids))
+}
+
 /// Asks for the bodies of layer 0 that a shape touches.
 pub(crate) fn ask<R: Wait>(
     rt: &R,

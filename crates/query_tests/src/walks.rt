@@ -1,38 +1,10 @@
 //! What queries find in small worlds, and how many words they read.
-ghost use Rattle.std.specs.Prelude.{◌≡◌, ◌<◌, ◌≤◌, ◌+◌, ◌*◌, All, IfSome, length};
-ghost use Rattle.pass_table.specs.Passes.{IsIdle};
 
-use crate::places::{add, ask, between, holds, open_two, point, put, sizes};
+use crate::places::{add, add_row, ask, between, holds, open_two, point, put, sizes};
 use batch_add::{abort, prepare};
 use fixed_box::Shape;
-use pass_table::{Pass, World};
-use std::alloc::Global;
-use std::sync::Wait;
 use std::test::Fail;
 use tree_query::{Finder, collect};
-
-/// Creates bodies beside one another on an axis, a thousand units apart, and brings them in as one batch. It answers whether
-/// all of them came in.
-fn add_row<R: Wait>(
-    rt: &R,
-    alloc: Global,
-    world: &World,
-    pass: &mut Pass,
-    first: i32,
-    count: i32,
-) -> Option<bool>
-    requires idle { IsIdle world.now pass.old }
-    requires layers { 0 < world.now.map.layers }
-    ensures idle { IsIdle world.now pass.new }
-{
-    let mut ids = Vec::new(alloc);
-    for place in first..first + count {
-        let x = place * 1_000;
-        let id = put(rt, world, pass, [x, 0, 0], [x + 10, 10, 10])?;
-        ids.push(id).ok()?;
-    }
-    Some(add(rt, alloc, world, pass, &ids))
-}
 
 #[test]
 fn a_point_beside_all_bodies_costs_59_loads(rt: HostRuntime) -> Result<(), Fail> {
@@ -41,7 +13,7 @@ fn a_point_beside_all_bodies_costs_59_loads(rt: HostRuntime) -> Result<(), Fail>
         panic!(rt; "no world")
     };
     assert!(rt; add_row(&rt, alloc, &world, &mut pass, 0, 500) == Some(true));
-    assert!(rt; add_row(&rt, alloc, &world, &mut pass, 500, 500) == Some(true));
+    assert!(rt; add_row(&rt, alloc, &world, &mut pass, 500_000, 500) == Some(true));
     let Some(shape) = point([-5, 5, 5]) else {
         panic!(rt; "no point")
     };

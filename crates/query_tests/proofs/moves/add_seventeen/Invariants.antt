@@ -1,7 +1,0 @@
-use Rattle.std.proofs.Common.{◌<◌}
-use Rattle.std.specs.Prelude.{All}
-use Rattle.pass_table.specs.Passes.{IsIdle}
-use Rattle.query_tests.proofs.moves.add_seventeen.Given as goal
-
-abbrev pub invariant-loop-place : goal.invariant-loop-place
-invariant-loop-place g l = IsIdle l.world l.pass × All (λ id. id.index < l.world.map.bodies) l.ids.items

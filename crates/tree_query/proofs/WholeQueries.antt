@@ -1,8 +1,7 @@
 -- A query: a walk that collected, and then the check of each candidate.
-use Rattle.std.proofs.Common.{◌≡◌, ℕ, List, ◌++◌, ap, ◌∙◌}
+use Rattle.std.proofs.Common.{◌≡◌, ℕ, ◌++◌, ap, ◌∙◌}
 use Rattle.fixed_box.specs.declared.shape.Shape.{Shape}
 use Rattle.word_map.specs.declared.config.Config.{Config}
-use Rattle.core_state.specs.declared.view.LockStep.{LockStep}
 use Rattle.core_state.specs.declared.view.View.{View}
 use Rattle.pass_table.specs.Work.{HasDone, idle}
 use Rattle.tree_query.specs.declared.finder.Finder.{Finder}

@@ -1,0 +1,12 @@
+use Rattle.pass_table.specs.Passes.{view_of}
+use Rattle.side_by_side.proofs.batches.abort_both.Goals as goal
+
+pub returns-in_err-plain-clause-good : goal.returns-in_err-plain-clause-good
+returns-in_err-plain-clause-good g c =
+    let view = view_of c.args.pass.now in
+    c.abort.ensures.lists c.take-batch.new.self (c.take-batch.ensures.left view c.requires.good) (c.take-batch.ensures.beside view c.requires.good)
+
+pub returns-clause-good : goal.returns-clause-good
+returns-clause-good g c =
+    let view = view_of c.args.pass.now in
+    c.abort.ensures.lists c.take-batch.new.self (c.take-batch.ensures.left view c.requires.good) (c.take-batch.ensures.beside view c.requires.good)

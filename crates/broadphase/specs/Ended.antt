@@ -11,7 +11,7 @@ use Rattle.broadphase.specs.declared.status.Status.{Status}
 use Rattle.broadphase.specs.declared.status.Status.TheVariants as statuses
 use Rattle.broadphase.specs.declared.reading.TheConstants.{MAX_BYTES}
 use Rattle.broadphase.specs.Reading.{GaveCount, GaveAtMost, ScriptRead, FaultRead}
-use Rattle.broadphase.specs.Report.{serial_report}
+use Rattle.script_player.specs.Report.{serial_report}
 
 abbrev pub code_text : Code → List ℕ
 code_text code.Long = codes "long"

@@ -4,23 +4,17 @@
 //! of the top call, `run`: what it wrote is what the plain scene prints for the script that it read.
 #![tactic(auto)]
 
-mod batches;
-mod bodies;
-mod books;
 mod form;
-pub mod laws;
-mod player;
 mod playing;
 mod reading;
 mod room;
 mod status;
 pub mod streams;
-mod taking;
 mod top;
 
 pub use form::Form;
-pub use playing::{PlayFault, play};
 pub use reading::{MAX_BYTES, ParseEnd, run_parse};
 pub use room::Room;
+pub use script_player::PlayFault;
 pub use status::Status;
 pub use top::{run, run_check};

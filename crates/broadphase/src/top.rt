@@ -9,12 +9,13 @@ ghost use Rattle.broadphase.specs.Ended.{Answered, AnsweredPart, Refused, Refuse
 ghost use Rattle.broadphase.specs.declared.reading.TheConstants.{MAX_BYTES};
 
 use crate::form::{Form, form_of};
-use crate::playing::{PlayFault, play};
+use crate::playing::play;
 use crate::reading::{ParseEnd, run_parse};
 use crate::room::Room;
 use crate::status::Status;
 use crate::streams::write_all;
 use itoa::Buffer;
+use script_player::PlayFault;
 use script_text::{Code, Script};
 use std::alloc::{AllocError, Global};
 use world_io::{Gate, Sink, Source};
@@ -53,7 +54,7 @@ fn fault_line(alloc: Global, line: u32, code: Code) -> Result<Vec<u8>, AllocErro
 }
 
 /// Writes the line that tells of a bad line.
-#[tactic(auto, using(crate::proofs::Writing::nothing_written))]
+#[tactic(auto, using(script_player::proofs::Writing::nothing_written))]
 fn refuse<K: Sink>(alloc: Global, line: u32, code: Code, sink: &mut K) -> Result<(), PlayFault>
     ensures ok { OnOk result (Appended (K.contents sink.old) (K.contents sink.new) (fault_text line code)) }
     ensures part { OnErr result (AppendedPart (K.contents sink.old) (K.contents sink.new) (fault_text line code)) }
@@ -67,7 +68,7 @@ fn refuse<K: Sink>(alloc: Global, line: u32, code: Code, sink: &mut K) -> Result
 }
 
 /// Writes `ok`.
-#[tactic(auto, using(crate::proofs::Writing::nothing_written))]
+#[tactic(auto, using(script_player::proofs::Writing::nothing_written))]
 fn tell_ok<K: Sink>(sink: &mut K) -> Result<(), PlayFault>
     ensures ok { OnOk result (Appended (K.contents sink.old) (K.contents sink.new) (codes "ok\n")) }
     ensures part { OnErr result (AppendedPart (K.contents sink.old) (K.contents sink.new) (codes "ok\n")) }

@@ -1,5 +1,0 @@
-use Rattle.broadphase.proofs.Finding.{HasFound}
-use Rattle.broadphase.proofs.books.Books.known_all.Given as goal
-
-abbrev pub invariant-loop-name : goal.invariant-loop-name
-invariant-loop-name l = HasFound l.self l.names l.found.items l.name-index

@@ -1,5 +1,0 @@
-use Rattle.broadphase.proofs.Doing.{made_at}
-use Rattle.broadphase.proofs.laws.done_makes_what_was_asked.Goals as goal
-
-pub returns : goal.returns
-returns c = made_at

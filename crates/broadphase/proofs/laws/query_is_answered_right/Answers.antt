@@ -1,5 +1,0 @@
-use Rattle.broadphase.proofs.Querying.{queries_at}
-use Rattle.broadphase.proofs.laws.query_is_answered_right.Goals as goal
-
-pub returns : goal.returns
-returns c = queries_at

@@ -1,5 +1,0 @@
-use Rattle.broadphase.proofs.Refusing.{answered_at}
-use Rattle.broadphase.proofs.laws.refusal_is_the_first_cause.Goals as goal
-
-pub returns : goal.returns
-returns c = answered_at

@@ -1,5 +1,0 @@
-use Rattle.broadphase.proofs.Undoing.{undone_at}
-use Rattle.broadphase.proofs.laws.refusal_leaves_the_scene.Goals as goal
-
-pub returns : goal.returns
-returns c = undone_at

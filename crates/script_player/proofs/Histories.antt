@@ -16,7 +16,7 @@ use Rattle.script_player.specs.Shown.{shown_table, shown_after}
 use Rattle.script_player.proofs.Projection.{turn-shown, shown_after-turn}
 use Rattle.script_player.proofs.GoingOn.{turn_goes_on}
 use Rattle.script_player.proofs.Possible.{turn_possible}
-use Rattle.script_player.proofs.PlayedSoFar.{under_way_first}
+use Rattle.script_player.proofs.Beginning.{under_way_first}
 
 -- what is possible in a plain scene is so in each scene that it shows
 possible_seen : (scene : Scene) (entries : List Entry) → ArePossible (shown scene) entries → ArePossibleFrom scene entries

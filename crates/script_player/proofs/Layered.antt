@@ -122,8 +122,8 @@ fits_in above (Prepare batch layer names) started fits good =
 fits_in above c started fits good = tt
 
 same_world : (above : Above) (c : Command) → ((above_after above c).started ≡ above.started) × (((above_after above c).layers ≡ above.layers) × ((above_after above c).bodies ≡ above.bodies))
-same_world above (Create name layer bounds user) = (refl, refl, refl)
-same_world above c = (refl, refl, refl)
+same_world above (Create name layer bounds user) = (refl, (refl, refl))
+same_world above c = (refl, (refl, refl))
 
 all_fit_in : (commands : List Command) (above : Above) → above.started ≡ true → all_fit commands ≡ true → AreGood above (map command_words commands)
     → AllFitIn above.layers above.bodies commands

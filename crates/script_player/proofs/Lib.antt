@@ -1,3 +1,4 @@
+pub mod Beginning
 pub mod Finding
 pub mod LargeTrees
 pub mod Marking
@@ -9,6 +10,7 @@ pub mod GoingOn
 pub mod Layers
 pub mod Projection
 pub mod PlayedSoFar
+pub mod Answering
 pub mod Writing
 pub mod Possible
 pub mod Histories

@@ -1,5 +1,5 @@
 -- Command after command, and line after line.
-use Rattle.std.proofs.Common.{◌≡◌, ℕ, ◌+◌, ◌<◌, ◌≤◌, List, [], ◌∷◌, ◌++◌, length, take, drop, get_or, Option, refl, ap, sym, subst, ◌∙◌, append_assoc, add-one, drop-cons, arith}
+use Rattle.std.proofs.Common.{◌≡◌, ℕ, ◌+◌, ◌<◌, ◌≤◌, List, [], ◌∷◌, ◌++◌, length, take, drop, get_or, zero, suc, Option, Result, Ok, Err, OnOk, OnErr, refl, ap, sym, subst, ◌∙◌, append_assoc, add-one, drop-cons, arith}
 use Rattle.std.proofs.lemmas.List.{append-nil, take_more, take-append-drop, take_all}
 use Rattle.world_io.specs.Bytes.{Appended, AppendedPart}
 use Rattle.world_io.proofs.BytesLemmas.{Appended-nothing, Appended-append, AppendedPart-longer, AppendedPart-append}
@@ -29,7 +29,7 @@ world-below table (x ∷ xs) = world-below (table_after table (turn table x)) xs
 
 fits_at : (layers bodies : ℕ) (commands : List Command) (i : ℕ) (d : Command) → AllFitIn layers bodies commands → i < length commands → FitsIn layers bodies (get_or commands i d)
 fits_at layers bodies [] i d fit below = absurd (omega (arith, below))
-fits_at layers bodies (c ∷ commands) 0 d fit below = fit.0
+fits_at layers bodies (c ∷ commands) zero d fit below = fit.0
 fits_at layers bodies (c ∷ commands) (suc i) d fit below = fits_at layers bodies commands i d fit.1 (omega (arith, below))
 
 -- the host is told by the table after the first commands, so many, and their replies are written
@@ -79,17 +79,28 @@ pub all_played : {Host : Type 0} (shows : Host → Table → Type 0) (commands :
 all_played shows commands old new before after i h end = subst (λ cs. Plays shows cs old new before after) (take_all i commands end) h
 
 -- the whole report, and a first part of it
-pub whole_report : {Host : Type 0} (shows : Host → Table → Type 0) (script : Script) (old new : Host) (before middle after : Option (List ℕ)) → shows old (empty_table script.world)
+whole_report : {Host : Type 0} (shows : Host → Table → Type 0) (script : Script) (old new : Host) (before middle after : Option (List ℕ)) → shows old (empty_table script.world)
     → Plays shows script.lines old new before middle → ((table : Table) → shows new table → Appended middle after (end_text table.scene)) → Appended before after (serial_report script)
 whole_report shows script old new before middle after begun played written =
     let table = empty_table script.world in
     Appended-append before middle after _ _ (played.replies table begun) (written (table_below table script.lines) (played.shown table begun))
 
-pub part_to_end : {Host : Type 0} (shows : Host → Table → Type 0) (script : Script) (old new : Host) (before middle after : Option (List ℕ)) → shows old (empty_table script.world)
+part_to_end : {Host : Type 0} (shows : Host → Table → Type 0) (script : Script) (old new : Host) (before middle after : Option (List ℕ)) → shows old (empty_table script.world)
     → Plays shows script.lines old new before middle → ((table : Table) → shows new table → AppendedPart middle after (end_text table.scene)) → AppendedPart before after (serial_report script)
 part_to_end shows script old new before middle after begun played written =
     let table = empty_table script.world in
     AppendedPart-append before middle after _ _ (played.replies table begun) (written (table_below table script.lines) (played.shown table begun))
+
+-- the same of how a call ended
+pub whole_report_ok : {Host T E : Type 0} (shows : Host → Table → Type 0) (script : Script) (old new : Host) (before middle after : Option (List ℕ)) (r : Result T E) → shows old (empty_table script.world)
+    → Plays shows script.lines old new before middle → OnOk r ((table : Table) → shows new table → Appended middle after (end_text table.scene)) → OnOk r (Appended before after (serial_report script))
+whole_report_ok shows script old new before middle after (Ok x) begun played written = whole_report shows script old new before middle after begun played written
+whole_report_ok shows script old new before middle after (Err e) begun played written = written
+
+pub part_to_end_err : {Host T E : Type 0} (shows : Host → Table → Type 0) (script : Script) (old new : Host) (before middle after : Option (List ℕ)) (r : Result T E) → shows old (empty_table script.world)
+    → Plays shows script.lines old new before middle → OnErr r ((table : Table) → shows new table → AppendedPart middle after (end_text table.scene)) → OnErr r (AppendedPart before after (serial_report script))
+part_to_end_err shows script old new before middle after (Ok x) begun played written = written
+part_to_end_err shows script old new before middle after (Err e) begun played written = part_to_end shows script old new before middle after begun played written
 
 pub part_of_replies : {Host : Type 0} (shows : Host → Table → Type 0) (script : Script) (old : Host) (before after : Option (List ℕ)) → shows old (empty_table script.world)
     → PlaysPart shows script.lines old before after → AppendedPart before after (serial_report script)

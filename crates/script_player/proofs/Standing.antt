@@ -18,7 +18,7 @@ use Rattle.script_player.specs.Standing.{made_alone, history_of, scene_below, St
 use Rattle.script_player.specs.UnderWay.{IsUnderWay}
 use Rattle.script_player.specs.Shown.{shown_table}
 use Rattle.script_player.proofs.Histories.{turn_under_way}
-use Rattle.script_player.proofs.PlayedSoFar.{under_way_first}
+use Rattle.script_player.proofs.Beginning.{under_way_first}
 
 pub entries_made-append : (table : Table) (xs ys : List Command) → entries_made table (xs ++ ys) ≡ entries_made table xs ++ entries_made (table_below table xs) ys
 entries_made-append table [] ys = refl

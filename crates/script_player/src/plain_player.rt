@@ -3,11 +3,12 @@ ghost use Rattle.std.specs.Prelude.{◌≡◌, ◌≤◌, ◌^◌, ℕ, Option, 
 ghost use Rattle.scene_model.specs.Query.{hits};
 ghost use Rattle.scene_model.specs.Scene.{next_index};
 ghost use Rattle.shape_test.specs.Touched.{is_touched};
+ghost use Rattle.word_map.specs.Limits.{IsConfig};
 ghost use Rattle.script_player.specs.Table.{empty_table};
 ghost use Rattle.script_player.specs.Attempt.{outcome};
 ghost use Rattle.script_player.specs.Turn.{create_turn, turn};
 ghost use Rattle.script_player.specs.UnderWay.{IsUnderWay};
-ghost use Rattle.script_player.specs.Shown.{Does};
+ghost use Rattle.script_player.specs.Shown.{Does, IsShownBy};
 
 use crate::bodies::Change;
 use crate::books::{Books, Known};
@@ -55,9 +56,10 @@ fn outcome(refusal: Option<Refusal>) -> Reply
 
 impl PlainPlayer {
     /// A player of a script for a world of these sizes, with nothing done yet.
+    #[tactic(auto, using(crate::proofs::Beginning::shown_first))]
     pub fn new(alloc: Global, world: Config) -> Result<PlainPlayer, AllocError>
-        requires { world.bodies ≤ 2 ^ 23 }
-        ensures { IfOk result (λ p. p ≡ empty_table world) }
+        requires { IsConfig world }
+        ensures { IfOk result (λ p. IsShownBy p (empty_table world)) }
     {
         Ok(PlainPlayer {
             alloc,
@@ -142,8 +144,6 @@ impl PlainPlayer {
 }
 
 impl Host for PlainPlayer {
-    ghost use Rattle.script_player.specs.Shown.{IsShownBy};
-
     ghost shows = { IsShownBy };
 
     fn command(&mut self, command: &Command) -> Result<Reply, AllocError> {

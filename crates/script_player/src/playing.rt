@@ -88,7 +88,12 @@ fn end_line(live: u32, inside: u32, line: &mut Vec<u8>) -> Result<(), AllocError
 
 /// Writes the last line of a report.
 #[tactic(auto, using(crate::proofs::Writing::nothing_written))]
-fn write_end<K: Sink>(live: u32, inside: u32, line: &mut Vec<u8>, sink: &mut K) -> Result<(), PlayFault>
+fn write_end<K: Sink>(
+    live: u32,
+    inside: u32,
+    line: &mut Vec<u8>,
+    sink: &mut K,
+) -> Result<(), PlayFault>
     ensures ok { OnOk result (Appended (K.contents sink.old) (K.contents sink.new) (end_text_of live inside)) }
     ensures part { OnErr result (AppendedPart (K.contents sink.old) (K.contents sink.new) (end_text_of live inside)) }
     ensures fault { IsErrOf result PlayFault.Write → Rose (K.faults sink.old) (K.faults sink.new) }

@@ -116,7 +116,7 @@ module _ (kind : Kind) (core : Core) (step : Step) (a : Acts core step) where
       stays = λ n inside. refl;
       depth = λ n inside. refl;
       stood = λ n inside. inl refl;
-      child = λ n k inside. unnamed (Child n k) (λ e. absurd cc);
+      child = λ n k inside. inl (unnamed (Child n k) (λ e. absurd cc));
       parent = λ n inside. unnamed (Parent n) (λ e. absurd cc);
       wide = λ n k q stands. only-widens n k q;
       names = λ name root. (roots name root).0;

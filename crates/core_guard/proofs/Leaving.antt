@@ -28,7 +28,7 @@ use Rattle.core_state.specs.Kind.{Kind, Asking, Step, Steps, gained_by, view_aft
 use Rattle.core_state.specs.Formed.{IsFormed, AreApart}
 use Rattle.core_state.specs.Guards.{GuardsHold}
 use Rattle.core_state.specs.Encoding.{NamesRoot, place, body_child, node_child, phase_join, slot_tree, layer_of, Covers, bound_in, Sides}
-use Rattle.core_state.specs.Nodes.{Nodes, Home, Stands, IsLive, IsInTree, IsPublished, IsOwnedBy, node_in, Above, here, higher, under, made, superseded}
+use Rattle.core_state.specs.Nodes.{Nodes, Home, Stands, IsLive, IsInTree, IsPublished, IsOwnedBy, IsOfLayer, node_in, Above, here, higher, under, made, superseded}
 use Rattle.core_state.specs.Parts.{call_by_task, call_on_places, task_on_cover, task_at_place}
 use Rattle.core_state.specs.Scope.{Scope, Sight, sight, HasPass}
 use Rattle.core_state.specs.TreesSound.{TreesSoundIn, IsChild, nothing, a_body, a_node, IsPlaced, as_root, at_place, IsAsStored}
@@ -39,7 +39,7 @@ use Rattle.core_state.specs.Invariants.{Invariants}
 use Rattle.core_state.proofs.Forming.{pass_role}
 use Rattle.core_state.proofs.Frames.{step-history}
 use Rattle.core_state.proofs.Steps.{word-step-other}
-use Rattle.core_guard.proofs.Seats.{KeepsNumber, seen_of, each-step, has-step}
+use Rattle.core_guard.proofs.Seats.{KeepsNumber, seen_of, each-step, has-step, each-seats}
 use Rattle.core_state.specs.declared.view.Role.{Role}
 use Rattle.core_state.specs.declared.view.Role.TheVariants.{Pass}
 
@@ -181,6 +181,37 @@ stands-in_tree (under name) h = tt
 stands-in_tree (superseded p name) h = tt
 stands-in_tree (made p l) h = tt
 stands-in_tree _ h = absurd h
+
+-- a tree is of one layer
+pub layer-once : (a b : ℕ) (home : Home) → IsLive home → IsOfLayer a home → IsOfLayer b home → a ≡ b
+layer-once a b (under name) live one two = same_Some a b (sym one ∙ two)
+layer-once a b (superseded p name) live one two = same_Some a b (sym one ∙ two)
+layer-once a b _ live one two = absurd live
+
+-- a new one is of one pass, and one layer
+pub made-once : (p q k l : ℕ) → made p k ≡ made q l → (p ≡ q) × (k ≡ l)
+made-once p q k l e = (ap pass_in e, ap layer_in e)
+  where
+    pass_in : Home → ℕ
+    pass_in (made x y) = x
+    pass_in _ = 0
+
+    layer_in : Home → ℕ
+    layer_in (made x y) = y
+    layer_in _ = 0
+
+-- ---- updates
+
+-- what holds of the update of the view in each seat, as a law reads it
+pub updates-at : (scope : Scope) → KeepsNumber scope → (part : Rebuild → Rebuild) → ((bare view : View) → (scope.part bare view).rebuild ≡ option_map part view.rebuild) → (core : Core) (P : ℕ → View → Rebuild → Type 0)
+    → ((seat number : ℕ) (view : View) → IsViewAt core seat view → IsPass view number → (r : Rebuild) → view.rebuild ≡ Some r → P number (seen_of scope number view) (part r)) → EachUpdate (sight scope core) P
+updates-at scope keeps part reads core P h =
+    each-seats scope keeps core (λ number v. IfSome v.rebuild (P number v))
+    (λ seat number view at pass. subst (λ (o : Option Rebuild). IfSome o (P number (seen_of scope number view))) (sym (reads _ view)) (go seat number view at pass view.rebuild refl))
+  where
+    go : (seat number : ℕ) (view : View) → IsViewAt core seat view → IsPass view number → (o : Option Rebuild) → view.rebuild ≡ o → IfSome (option_map part o) (P number (seen_of scope number view))
+    go seat number view at pass None is = tt
+    go seat number view at pass (Some r) is = h seat number view at pass r is
 
 -- ---- the step
 

@@ -48,3 +48,4 @@ pub mod Cleared
 pub mod ClearedPlaces
 pub mod OneUpdate
 pub mod BodyAnew
+pub mod TreeWords

@@ -18,7 +18,16 @@ use Rattle.core_guard.proofs.Leaving.{Acts, After, Last, Leaves, step-goes_on, r
 use Rattle.core_guard.proofs.TreesLeft.{KeepsBoxes, come-none, stored-left, TreesSound-leaves}
 use Rattle.core_guard.proofs.WalksLeft.{WalksLead-leaves}
 
-abbrev side_of : Name → ℕ
+-- the node, the child and the side of a word of a bound
+abbrev pub node_of : Name → ℕ
+node_of (Bound n k q) = n
+node_of _ = 0
+
+abbrev pub child_of : Name → ℕ
+child_of (Bound n k q) = k
+child_of _ = 0
+
+abbrev pub side_of : Name → ℕ
 side_of (Bound n k q) = q
 side_of _ = 0
 
@@ -63,14 +72,6 @@ module _ (kind : Kind) (core : Core) (step : Step) (a : Acts core step) where
               is_widened (ap node_of e) (ap child_of e) (ap side_of e) (ap (word_of core) same) (ap (word_of (After kind core step)) same ∙ word-step kind core step)
           | inr other ↦ as_it_was (word-step-other kind core step (Bound n k q) other)
         ]
-      where
-        node_of : Name → ℕ
-        node_of (Bound x y z) = x
-        node_of _ = 0
-
-        child_of : Name → ℕ
-        child_of (Bound x y z) = y
-        child_of _ = 0
 
     only-widens : (n k q : ℕ) → (q < 3 → word_of (After kind core step) (Bound n k q) ≤ word_of core (Bound n k q)) × (3 ≤ q → word_of core (Bound n k q) ≤ word_of (After kind core step) (Bound n k q))
     only-widens = side-widens kind core step node child side w.names w.wide
@@ -129,18 +130,3 @@ module _ (kind : Kind) (core : Core) (step : Step) (a : Acts core step) where
         roots : (name : Name) (root : ℕ) → (NamesRoot name (word_of core name) root → NamesRoot name (word_of (After kind core step) name) root)
             × (NamesRoot name (word_of (After kind core step) name) root → NamesRoot name (word_of core name) root)
         roots = roots-other kind core step (ap layer_of w.names)
-
-    -- no node that a pass owns apart is the one
-    apart : (n number : ℕ) → a.laws.nodes.home n ≡ owned number → node_in step.name ≢ Some n
-    apart n number home e =
-        let same : node ≡ n = same_Some node n (sym (ap node_in w.names) ∙ e) in
-        subst Stands (ap a.laws.nodes.home same ∙ home) w.stands
-
-    pub TreesSound-widens : (Last kind core step).written ≡ step.view.written → TreesSound a.laws.nodes (After kind core step)
-    TreesSound-widens written =
-        TreesSound-leaves kind core step a a.laws.nodes (λ n. ⊥) widened-leaves (come-none kind core step a.laws.nodes a.laws.nodes) widened-boxes (λ n number other home. (refl, apart n number home))
-        (stored-left kind core step a a.laws.nodes (λ n. ⊥) widened-leaves
-        (λ store among. (subst (λ (l : List Store). Contains l store) written among, λ n of_node home. (refl, apart n step.number home))))
-
-    pub WalksLead-widens : (Last kind core step).walk ≡ step.view.walk → WalksLead (After kind core step)
-    WalksLead-widens walk = WalksLead-leaves kind core step a a.laws.nodes (λ n. ⊥) widened-leaves widened-boxes walk

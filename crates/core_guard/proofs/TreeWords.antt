@@ -1,18 +1,21 @@
 -- A step on a word of a node in a tree, by a pass that does something with one body under its stripe, or nothing: it widens a
 -- bound, or clears an entry that nobody needs. All bodies stay; what is left to show is what the law of locations says of the
 -- pass, and that a side which is another one counts.
-use Rattle.std.proofs.Common.{◌≡◌, ◌≢◌, ◌⊎◌, ◌↔◌, ℕ, true, false, Some, None, refl, ap, sym, ◌∙◌, subst, inl, inr, List}
+use Rattle.std.proofs.Common.{◌≡◌, ◌≢◌, ◌⊎◌, ◌↔◌, ℕ, true, false, Some, None, refl, ap, sym, ◌∙◌, subst, inl, inr, arith, List, Bool}
 use Rattle.std.specs.Prelude.{Contains}
-use Rattle.std.proofs.lemmas.Bool.{cases_eq}
+use Rattle.std.proofs.lemmas.Bool.{cases_eq, false≢true}
 use Rattle.std.proofs.lemmas.Option.{none-some}
 use Rattle.word_map.specs.declared.name.Name.{Name}
-use Rattle.word_map.specs.declared.name.Name.TheVariants.{Child, Bound, Reader}
+use Rattle.word_map.specs.declared.name.Name.TheVariants.{Child, Bound, Parent, Reader}
 use Rattle.core_state.specs.declared.item.Store.{Store}
 use Rattle.core_state.specs.declared.view.Task.{Task}
 use Rattle.core_state.specs.declared.view.Call.{Call}
 use Rattle.core_state.specs.declared.view.View.{View}
 use Rattle.core_state.specs.Core.{Core, word_of}
-use Rattle.core_state.specs.Kind.{Kind, Step, after_step}
+use Rattle.core_state.specs.Kind.{Kind, Step, gained_by, after_step}
+use Rattle.core_state.specs.Log.{history}
+use Rattle.core_state.specs.Encoding.{IsBox, layer_of}
+use Rattle.core_state.proofs.SameNames.{cases_name}
 use Rattle.core_state.specs.Nodes.{Nodes, Stands, IsLive, IsOfLayer, Above, owned, made, node_in}
 use Rattle.core_state.specs.Parts.{call_on_places}
 use Rattle.core_state.specs.Scope.{Sight, sight}
@@ -33,7 +36,7 @@ use Rattle.core_guard.proofs.CoverLeft.{as_it_was, BodiesCovered-leaves}
 use Rattle.core_guard.proofs.Holders.{IsNobodys, keeps}
 use Rattle.core_guard.proofs.Unowned.{stands-unowned}
 use Rattle.core_state.specs.Guards.{KeepsGuards}
-use Rattle.core_guard.proofs.Leaving.{Acts, After, Last, Stays, stays-by, Leaves, LeadsWithin, sound-leads, above-stands, body_of, scene-plain}
+use Rattle.core_guard.proofs.Leaving.{Acts, After, Last, Stays, stays-by, Leaves, LeadsWithin, sound-leads, above-stands, body_of, scene-plain, IsCleared, roots-other, step-goes_on}
 use Rattle.core_guard.proofs.OnBody.{OnBody, climbs-on, on-after, removes-else, places-else, LocksAgree-on, NodesInOnePlace-on}
 use Rattle.core_guard.proofs.PlacesLeft.{SeenUpdate, LocationsHold-stays}
 use Rattle.core_guard.proofs.PlacesStay.{PassIsPlaced}
@@ -151,3 +154,47 @@ module _ (kind : Kind) (core : Core) (step : Step) (a : Acts core step) (index :
               (climbs-on nodes Now index (Last kind core step).call.task (on-after kind core step index call a t.on) climbing) t.live t.fresh)
               (record { reader = λ p. word-step-other kind core step (Reader p) (λ e. subst IsTreeWord (sym e) t.word); walk = walk });
         }
+
+-- ---- a step that clears an entry
+
+abbrev is_child : Name → Bool
+is_child (Child n k) = true
+is_child _ = false
+
+abbrev node_of : Name → ℕ
+node_of (Child n k) = n
+node_of _ = 0
+
+abbrev child_of : Name → ℕ
+child_of (Child n k) = k
+child_of _ = 0
+
+module _ (kind : Kind) (core : Core) (step : Step) (nodes : Nodes) (node child : ℕ) (names : step.name ≡ Child node child) where
+  pub child-other : (name : Name) → is_child name ≡ false → word_of (After kind core step) name ≡ word_of core name
+  child-other name other = word-step-other kind core step name (λ e. false≢true (sym other ∙ ap is_child (e ∙ names)))
+
+  pub cleared-boxes : KeepsBoxes kind core step nodes nodes
+  cleared-boxes n k stands box = subst IsBox (λ j q. sym (child-other (Bound n k q) refl) j) box
+
+  -- the child stays, or was an entry that nobody needs
+  abbrev pub StaysOrCleared : ℕ → ℕ → Type 0
+  StaysOrCleared n k = (word_of (After kind core step) (Child n k) ≡ word_of core (Child n k)) ⊎ IsCleared kind core step nodes n k
+
+  pub cleared-leaves : StaysOrCleared node child → (Last kind core step).rebuild ≡ step.view.rebuild → Leaves kind core step nodes nodes (λ n. ⊥)
+  cleared-leaves here rebuild = record {
+    stays = λ n inside. refl;
+    depth = λ n inside. refl;
+    stood = λ n inside. inl refl;
+    child = λ n k inside.
+        elim (cases_name (Child n k) step.name) [
+          | inl same ↦ subst (λ (m : ℕ). StaysOrCleared m k) (sym (ap node_of (same ∙ names))) (subst (StaysOrCleared node) (sym (ap child_of (same ∙ names))) here)
+          | inr other ↦ inl (word-step-other kind core step (Child n k) other)
+        ];
+    parent = λ n inside. child-other (Parent n) refl;
+    wide = λ n k q stands. let same = child-other (Bound n k q) refl in (λ low. omega arith, λ high. omega arith);
+    names = λ name root. (roots-other kind core step (ap layer_of names) name root).0;
+    named = λ name root h. inl ((roots-other kind core step (ap layer_of names) name root).1 h);
+    more = history (gained_by kind core step);
+    goes_on = step-goes_on kind core step;
+    rebuild = rebuild;
+  }

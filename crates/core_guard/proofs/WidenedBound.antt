@@ -130,3 +130,18 @@ module _ (kind : Kind) (core : Core) (step : Step) (a : Acts core step) where
         roots : (name : Name) (root : ℕ) → (NamesRoot name (word_of core name) root → NamesRoot name (word_of (After kind core step) name) root)
             × (NamesRoot name (word_of (After kind core step) name) root → NamesRoot name (word_of core name) root)
         roots = roots-other kind core step (ap layer_of w.names)
+
+    -- no node that a pass owns apart is the one
+    apart : (n number : ℕ) → a.laws.nodes.home n ≡ owned number → node_in step.name ≢ Some n
+    apart n number home e =
+        let same : node ≡ n = same_Some node n (sym (ap node_in w.names) ∙ e) in
+        subst Stands (ap a.laws.nodes.home same ∙ home) w.stands
+
+    pub TreesSound-widens : (Last kind core step).written ≡ step.view.written → TreesSound a.laws.nodes (After kind core step)
+    TreesSound-widens written =
+        TreesSound-leaves kind core step a a.laws.nodes (λ n. ⊥) widened-leaves (come-none kind core step a.laws.nodes a.laws.nodes) widened-boxes (λ n number other home. (refl, apart n number home))
+        (stored-left kind core step a a.laws.nodes (λ n. ⊥) widened-leaves
+        (λ store among. (subst (λ (l : List Store). Contains l store) written among, λ n of_node home. (refl, apart n step.number home))))
+
+    pub WalksLead-widens : (Last kind core step).walk ≡ step.view.walk → WalksLead (After kind core step)
+    WalksLead-widens walk = WalksLead-leaves kind core step a a.laws.nodes (λ n. ⊥) widened-leaves widened-boxes walk

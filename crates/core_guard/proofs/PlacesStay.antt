@@ -133,10 +133,10 @@ pub gives-handles : (task : Task) (i : ℕ) (box : Sides) → GivesBox task i bo
 gives-handles (Moving index target) i box h = h.0
 gives-handles _ i box h = absurd h
 
-removes-busy : (i : ℕ) (task : Task) → IsIdle task → ¬ Removes task i
+pub removes-busy : (i : ℕ) (task : Task) → IsIdle task → ¬ Removes task i
 removes-busy i task calm h = idle-unhandled task i calm (removes-handles task i h)
 
-places-busy : (i : ℕ) (task : Task) → IsIdle task → ¬ IsPlacing task i
+pub places-busy : (i : ℕ) (task : Task) → IsIdle task → ¬ IsPlacing task i
 places-busy i task calm h = idle-unhandled task i calm (places-handles task i h)
 
 pub handled-seen : (call : Call) (i : ℕ) → IsHandled (call_on_places call).task i → IsHandled call.task i

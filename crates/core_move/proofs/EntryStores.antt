@@ -30,7 +30,7 @@ use Rattle.core_guard.proofs.PlacesStay.{PassIsPlaced, acting, seen-task, places
 use Rattle.core_guard.proofs.ReadersLeft.{some-all}
 use Rattle.core_guard.proofs.Touched.{IsKept, kept}
 use Rattle.core_guard.proofs.TreeWords.{OnTree, IsTreeWord, Invariants-tree, tree-guarded, tree-stays, StaysOrCleared, child-other, cleared-boxes, cleared-leaves}
-use Rattle.core_move.proofs.Removers.{last-or, more-placed, taken, known-location, removes-on, not_in}
+use Rattle.core_move.proofs.Removers.{stored_more, last-or, more-placed, taken, known-location, removes-on, not_in}
 
 -- one store more, of no location
 cleared-more : (stores : List Store) (new : Store) → is_location_store new.name ≡ false → has_cleared_location stores ≡ false → has_cleared_location (stores ++ new ∷ []) ≡ false
@@ -52,14 +52,8 @@ module _ (core : Core) (step : Step) (a : Acts core step) (asked : MayClearEntry
   abbrev Is : Sight
   Is = sight location_scope (After clear_entry core step)
 
-  abbrev new_store : Store
-  new_store = record { name = step.name; value = step.first }
-
-  abbrev new_call : Call
-  new_call = record step.view.call { stores = step.view.call.stores ++ new_store ∷ [] }
-
-  o : OnBody clear_entry core step i new_call
-  o = removes-on clear_entry core step a i asked.task new_call (subst (IsOn i) (sym asked.task) refl) refl
+  o : OnBody clear_entry core step i (stored_more step)
+  o = removes-on clear_entry core step a i asked.task (stored_more step) (subst (IsOn i) (sym asked.task) refl) refl
 
   was : IsTakenOut nodes Was (acting step.view.call (SeenUpdate clear_entry core step)) i
   was = taken clear_entry core step a i asked.task
@@ -79,7 +73,7 @@ module _ (core : Core) (step : Step) (a : Acts core step) (asked : MayClearEntry
       inl (
         second-placed core a.formed nodes a.laws.places a.laws.locations i
             (λ none. elim (location.1) [ inl first ↦ subst IsLive home (was.live asked.node asked.child location.0 first) | inr second ↦ absurd (omega arith) ]) seat number view r found own e,
-        λ places. nobody-does clear_entry core step i new_call a o (λ t. IsPlacing t i) (λ t. places-handles t i) (λ h. subst (λ (t : Task). IsPlacing t i) asked.task h) seat number view found own
+        λ places. nobody-does clear_entry core step i (stored_more step) a o (λ t. IsPlacing t i) (λ t. places-handles t i) (λ h. subst (λ (t : Task). IsPlacing t i) asked.task h) seat number view found own
             (seen-task (λ task. IsPlacing task i) (λ task calm h. idle-unhandled task i calm (places-handles task i h)) view.call places),
       ))
 
@@ -94,7 +88,7 @@ module _ (core : Core) (step : Step) (a : Acts core step) (asked : MayClearEntry
   abbrev m : Leaves clear_entry core step nodes nodes (λ n. ⊥)
   m = cleared-leaves clear_entry core step nodes asked.node asked.child asked.names entry refl
 
-  t : OnTree clear_entry core step a i new_call
+  t : OnTree clear_entry core step a i (stored_more step)
   t = record {
     on = o;
     word = subst IsTreeWord (sym asked.names) tt;
@@ -114,29 +108,29 @@ module _ (core : Core) (step : Step) (a : Acts core step) (asked : MayClearEntry
   -- ---- the pass
 
   -- an entry that stands was not cleared: what is stored is 0
-  uncleared : (n k : ℕ) → word_of (After clear_entry core step) (Child n k) ≡ body_child i → ¬ Contains step.view.call.stores (record { name = Child n k; value = 0 }) → ¬ Contains new_call.stores (record { name = Child n k; value = 0 })
+  uncleared : (n k : ℕ) → word_of (After clear_entry core step) (Child n k) ≡ body_child i → ¬ Contains step.view.call.stores (record { name = Child n k; value = 0 }) → ¬ Contains (stored_more step).stores (record { name = Child n k; value = 0 })
   uncleared n k entry old among =
-      elim (last-or step.view.call.stores new_store (record { name = Child n k; value = 0 }) among) [
+      elim (last-or step.view.call.stores _ (record { name = Child n k; value = 0 }) among) [
         | inl before ↦ old before
         | inr new ↦ let none = ap (λ (s : Store). word_of (After clear_entry core step) s.name) (sym new) ∙ none-after in absurd (omega arith)
       ]
 
-  own-after : PassIsPlaced nodes Is (call_on_places new_call) (SeenUpdate clear_entry core step)
+  own-after : PassIsPlaced nodes Is (call_on_places (stored_more step)) (SeenUpdate clear_entry core step)
   own-after =
-      let still = taken-forth clear_entry core step a nodes (λ n. ⊥) m (SeenUpdate clear_entry core step) step.view.call i (stays-in_place clear_entry core step i (tree-stays clear_entry core step a i new_call t i)) was in
-      more-placed clear_entry core step a i asked.task Is new_store (λ n k q e. bound_child n k q asked.node asked.child (e ∙ asked.names)) (record {
+      let still = taken-forth clear_entry core step a nodes (λ n. ⊥) m (SeenUpdate clear_entry core step) step.view.call i (stays-in_place clear_entry core step i (tree-stays clear_entry core step a i (stored_more step) t i)) was in
+      more-placed clear_entry core step a i asked.task Is (λ n k q e. bound_child n k q asked.node asked.child (e ∙ asked.names)) (record {
         out = still.out;
         cleared = λ n k at.
             let h = still.cleared n k at in
-            (h.0, elim (h.1) [ inl e ↦ inl e | inr e ↦ inr (e.0, cleared-more step.view.call.stores new_store (ap is_location_store asked.names) e.1, uncleared n k e.0 e.2) ]);
+            (h.0, elim (h.1) [ inl e ↦ inl e | inr e ↦ inr (e.0, cleared-more step.view.call.stores _ (ap is_location_store asked.names) e.1, uncleared n k e.0 e.2) ]);
         live = still.live;
       })
 
 -- ---- kind 40
 
 pub Invariants-clear_entry : IsKept MayClearEntry clear_entry
-Invariants-clear_entry = kept MayClearEntry clear_entry (λ core step a asked. Invariants-tree clear_entry core step a asked.index (new_call core step a asked) (t core step a asked) (own-after core step a asked))
+Invariants-clear_entry = kept MayClearEntry clear_entry (λ core step a asked. Invariants-tree clear_entry core step a asked.index (stored_more step) (t core step a asked) (own-after core step a asked))
 
 pub GuardsHold-clear_entry : IsGuarded MayClearEntry clear_entry
 GuardsHold-clear_entry =
-    guarded MayClearEntry clear_entry (λ core step a asked. tree-guarded clear_entry core step a asked.index (new_call core step a asked) (t core step a asked).word (node-stands core step a asked))
+    guarded MayClearEntry clear_entry (λ core step a asked. tree-guarded clear_entry core step a asked.index (stored_more step) (t core step a asked).word (node-stands core step a asked))

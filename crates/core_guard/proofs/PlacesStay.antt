@@ -175,6 +175,13 @@ held-alone nodes core h i held seat number view at pass handled =
     held-unhandled s (call_on_places view.call).task i p.unheld (λ removes. (p.removed i removes).out) held
     (task-seen (λ task. IsHandled task i) (λ task calm. idle-unhandled task i calm) view.call handled)
 
+-- where a first location of a body in the broad phase may be, others may reach it
+pub where-live : (nodes : Nodes) (s : Sight) (i layer n : ℕ) → IsWhere nodes s i layer n → IsLive (nodes.home n)
+where-live nodes s i layer n (in_slot t e home second) = subst IsLive (sym home) tt
+where-live nodes s i layer n (in_main e home second) = subst IsLive (sym home) tt
+where-live nodes s i layer n (in_old number name e second home of_layer) = subst IsLive (sym home) tt
+where-live nodes s i layer n (in_merged number t root e second home has) = subst IsLive (sym home) tt
+
 -- ---- the step
 
 module _ (kind : Kind) (core : Core) (step : Step) (a : Acts core step) (later : Nodes) (New : ℕ → Type 0) (m : Leaves kind core step a.laws.nodes later New) where

@@ -54,22 +54,28 @@ pub stored : (core : Core) (step : Step) (name : Name) → step.first ≡ 0 → 
 stored core step name none names = ap (word_of (After clear_location core step)) (sym names) ∙ (word-step clear_location core step ∙ none)
 
 unfoldable pub clears : (core : Core) (step : Step) (a : Acts core step) → MayClearLocation step.view step.name step.first step.second → (i : ℕ) × Clears core step i
-clears core step a (the_first i names entries none) = (i, record {
-  entries = entries;
-  names = inl names;
-  call = stored_more step;
-  recalls = ap (λ (n : Name). location_cleared (learned core step) n step.first) names ∙ ap (λ (n : Name). with_store (learned core step) n step.first) (sym names);
-  first = stored core step (LocA i) none names;
-  second = inl (word-step-other clear_location core step (LocB i) (subst (λ (n : Name). LocB i ≢ n) (sym names) (λ e. absurd cc)), refl);
-})
-clears core step a (the_second i names entries first none) = (i, record {
-  entries = entries;
-  names = inr names;
-  call = no_call;
-  recalls = ap (λ (n : Name). location_cleared (learned core step) n step.first) names;
-  first = word-step-other clear_location core step (LocA i) (subst (λ (n : Name). LocA i ≢ n) (sym names) (λ e. absurd cc)) ∙ (first-known clear_location core step a i entries.task ∙ first);
-  second = inr (stored core step (LocB i) none names, refl);
-})
+clears core step a (the_first i names entries none) = (
+  i,
+  record {
+    entries = entries;
+    names = inl names;
+    call = stored_more step;
+    recalls = ap (λ (n : Name). location_cleared (learned core step) n step.first) names ∙ ap (λ (n : Name). with_store (learned core step) n step.first) (sym names);
+    first = stored core step (LocA i) none names;
+    second = inl (word-step-other clear_location core step (LocB i) (subst (λ (n : Name). LocB i ≢ n) (sym names) (λ e. absurd cc)), refl);
+  },
+)
+clears core step a (the_second i names entries first none) = (
+  i,
+  record {
+    entries = entries;
+    names = inr names;
+    call = no_call;
+    recalls = ap (λ (n : Name). location_cleared (learned core step) n step.first) names;
+    first = word-step-other clear_location core step (LocA i) (subst (λ (n : Name). LocA i ≢ n) (sym names) (λ e. absurd cc)) ∙ (first-known clear_location core step a i entries.task ∙ first);
+    second = inr (stored core step (LocB i) none names, refl);
+  },
+)
 
 module _ (core : Core) (step : Step) (a : Acts core step) (i : ℕ) (c : Clears core step i) where
   abbrev Is : Sight

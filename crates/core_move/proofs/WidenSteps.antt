@@ -50,7 +50,7 @@ use Rattle.core_guard.proofs.TreeWords.{OnTree, IsTreeWord, Invariants-tree, tre
 use Rattle.core_guard.proofs.Unowned.{stands-unowned}
 use Rattle.core_guard.proofs.WidenedBound.{WidensBound, node_of, child_of, side-widens, widened-leaves, widened-boxes, side-or}
 use Rattle.core_move.proofs.Standing.{IsInLayerAt, in_tree, in_new_tree, in-layer}
-use Rattle.core_move.proofs.MoveSteps.{under-target, IsUnderWay, has_begun, begins_now, above-home, under_way-placed, stores-placed, under-so}
+use Rattle.core_move.proofs.MoveSteps.{Under, has_begun, begins_now, target_of, stores_of, call_under, call_more, under-so, under-target, above-home, under-placed, stores-placed}
 use Rattle.core_move.proofs.Widening.{IsWider, min-wider, max-wider, widening, new_store, Goes, goes, box-more}
 use Rattle.core_guard.proofs.Recalled.{recalled, call-is, task-is, law-unseen}
 use Rattle.core_guard.proofs.OnBody.{OnBody, LocksAgree-on, IsOn, NodesInOnePlace-on}
@@ -75,9 +75,9 @@ low index core step asked = record { node = asked.node; child = asked.child; sid
 high : (index : ℕ) (core : Core) (step : Step) → MayWidenHigh index step.view step.name step.first step.second → Widens fetch_max index core step
 high index core step asked = record { node = asked.node; child = asked.child; side = asked.side; names = asked.names; may = asked.may; wider = max-wider asked.side (found_by core step) step.first step.second asked.is_high }
 
-under-boxes : (index : ℕ) (c : Call) (target : List ℕ) (loads : List Load) (stored : List Store) → IsUnderWay index c target loads stored → MovesBody c.task index → has_box_word c.stores ≡ true → has_box_word stored ≡ true
-under-boxes index c target loads stored (has_begun t e) moves has = has
-under-boxes index c target loads stored (begins_now e) moves has = absurd (subst (λ (task : Task). MovesBody task index) e moves)
+under-boxes : (index : ℕ) (c : Call) (u : Under index c) → MovesBody c.task index → has_box_word c.stores ≡ true → has_box_word (stores_of index c u) ≡ true
+under-boxes index c (has_begun t e) moves has = has
+under-boxes index c (begins_now e) moves has = absurd (subst (λ (task : Task). MovesBody task index) e moves)
 
 module _ (operation : Operation) (index : ℕ) (core : Core) (step : Step) (a : Acts core step) (w : Widens operation index core step) where
   abbrev widens : Kind
@@ -99,10 +99,10 @@ module _ (operation : Operation) (index : ℕ) (core : Core) (step : Step) (a : 
   g = goes operation index core step w.node w.child w.side w.names (subst (IsName core.config) w.names a.named).2 w.may
 
   abbrev One : Call
-  One = record { task = Moving index g.target; loads = g.loads; stores = g.stored }
+  One = call_under index step.view.call g.u
 
   abbrev Two : Call
-  Two = record { task = Moving index g.next; loads = g.loads; stores = g.stored ++ new_store operation index core step ∷ [] }
+  Two = call_more index step.view.call g.u g.next (new_store operation index core step)
 
   known : StandsStill core step.view index
   known = settled-still core step a index w.may.settled
@@ -119,7 +119,7 @@ module _ (operation : Operation) (index : ℕ) (core : Core) (step : Step) (a : 
   -- ---- the place is above a location
 
   own : PassIsPlaced nodes Was One (SeenUpdate widens core step)
-  own = under_way-placed widens core step a index g.target g.loads g.stored g.under (record_body (record_at (scene_of core) index) (λ r. r.phase ≢ Held) body.0 body.1 (λ held. in_held (sym body.2 ∙ held))) stands
+  own = under-placed widens core step a index g.u (record_body (record_at (scene_of core) index) (λ r. r.phase ≢ Held) body.0 body.1 (λ held. in_held (sym body.2 ∙ held))) stands
 
   up : (n : ℕ) × (k : ℕ) × IsLocation Was index n k × Above Was.word n k w.node w.child
   up = come-up nodes Was (SeenUpdate widens core step) One own (IsKnownLocation step.view index) (known-location core step.view index known.loc_a known.loc_b) w.node w.child g.come
@@ -189,25 +189,22 @@ module _ (operation : Operation) (index : ℕ) (core : Core) (step : Step) (a : 
   node-stands : (n : ℕ) → node_in step.name ≡ Some n → Stands (nodes.home n)
   node-stands n e = subst (λ (x : ℕ). Stands (nodes.home x)) (same_Some w.node n (sym (ap node_in w.names) ∙ e)) bound.stands
 
-  no_box : has_box_word Two.stores ≡ has_box_word g.stored
-  no_box = box-more g.stored (new_store operation index core step) (ap is_box_word w.names)
-
-  on-task : (P : Task → Type 0) → P Nothing → ((t : List ℕ) → P (Moving index t)) → P step.view.call.task
-  on-task P idle moves = under-so P index step.view.call g.target g.loads g.stored idle moves g.under
+  no_box : has_box_word Two.stores ≡ has_box_word One.stores
+  no_box = box-more One.stores (new_store operation index core step) (ap is_box_word w.names)
 
   t : OnTree widens core step a index Two
   t = record {
-    on = record { stripe = w.may.settled.stripe; before = on-task (IsOn index) tt (λ t. refl); after = refl; recalls = g.recalls };
+    on = record { stripe = w.may.settled.stripe; before = under-so (IsOn index) index step.view.call tt (λ t. refl) g.u; after = refl; recalls = g.recalls };
     word = subst IsTreeWord (sym w.names) tt;
     node = node-stands;
     plain = λ value. refl;
     leaves = m;
     boxes = widened-boxes widens core step a w.node w.child w.side bound;
-    removes = (λ h. on-task (λ t. ¬ Removes t index) (λ no. no) (λ t no. no) h, λ h. absurd h);
-    places = (λ h. on-task (λ t. ¬ IsPlacing t index) (λ no. no) (λ t no. no) h, λ h. absurd h);
-    between = λ b. (refl, no_box ∙ under-boxes index step.view.call g.target g.loads g.stored g.under b.0 b.1);
+    removes = (under-so (λ t. ¬ Removes t index) index step.view.call (λ no. no) (λ t no. no) g.u, λ h. absurd h);
+    places = (under-so (λ t. ¬ IsPlacing t index) index step.view.call (λ no. no) (λ t no. no) g.u, λ h. absurd h);
+    between = λ b. (refl, no_box ∙ under-boxes index step.view.call g.u b.0 b.1);
     targets = λ i q value target.
-        let t = under-target index step.view.call g.target g.loads g.stored g.under i q value target in
+        let t = under-target index step.view.call g.u i q value target in
         let old = g.grown.old q t.1 in
         (t.0, old.0, old.1 ∙ t.2);
     stand = stands;
@@ -222,15 +219,15 @@ module _ (operation : Operation) (index : ℕ) (core : Core) (step : Step) (a : 
 
   own-after : PassIsPlaced nodes Is Two (SeenUpdate widens core step)
   own-after =
-      stores-placed widens core step a index m (stays-in_place widens core step index (tree-stays widens core step a index Two t index)) (SeenUpdate widens core step) g.target g.next g.loads g.stored
+      stores-placed widens core step a index m (stays-in_place widens core step index (tree-stays widens core step a index Two t index)) (SeenUpdate widens core step) step.view.call g.u g.next
       (new_store operation index core step) own (record {
         widened = λ i n k box gives has place.
             let old = location-back widens core step a nodes (λ n. ⊥) m i (stays-in_place widens core step i (tree-stays widens core step a index Two t i)) n k place in
-            let was = own.widened i n k (sides_of g.target) (gives.0, refl) (sym no_box ∙ has) old in
+            let was = own.widened i n k (sides_of (target_of index step.view.call g.u)) (gives.0, refl) (sym no_box ∙ has) old in
             let whole = g.grown.whole was.0 in (
               ap length whole ∙ was.0,
               subst (λ (box : Sides). Encloses Is n k box) (ap sides_of (sym whole) ∙ sym gives.1)
-                  (encloses-forth widens core step a nodes (λ n. ⊥) m n k (sides_of g.target) (stands n k (subst (λ (j : ℕ). IsLocation Was j n k) (sym gives.0) old)) was.1),
+                  (encloses-forth widens core step a nodes (λ n. ⊥) m n k (sides_of (target_of index step.view.call g.u)) (stands n k (subst (λ (j : ℕ). IsLocation Was j n k) (sym gives.0) old)) was.1),
             );
         wide = λ n k q value e.
             let name : Bound w.node w.child w.side ≡ Bound n k q = sym w.names ∙ ap (λ (x : Store). x.name) e in

@@ -495,20 +495,30 @@ module _ (kind : Kind) (core : Core) (step : Step) (a : Acts core step) (later :
   had-now : (index : ℕ) (P : Record → Type 0) → HasBody (scene_of (After kind core step)) index P → HasBody (point core.config.bodies Now.history (length Now.history)) index P
   had-now index P h = subst (λ (s : Scene). HasBody s index P) (sym (last_point (After kind core step))) h
 
+  -- what the own pass is to give is on its way
+  pub coming-now : (index q side : ℕ) → IsTarget (Last kind core step).call.task index q side → IsComing Now index q side
+  coming-now index q side target = (
+    step.number,
+    seat-has reader_scope (λ k v. refl) (After kind core step) step.number (λ v. IsTarget v.call.task index q side) (record {
+      seat = step.seat;
+      view = Last kind core step;
+      at = view-step kind core step a.at;
+      pass = a.pass;
+      holds = target-seen (Last kind core step).call.task index q side target;
+    }),
+  )
+
   coming-left : KeepsTargets → (index q side : ℕ) → IsComing Old index q side → IsComing Now index q side ⊎ HasSide index q side
   coming-left t index q side h =
       let from = has-seat reader_scope (λ k v. refl) core h.0 (λ v. IsTarget v.call.task index q side) h.1 in
       elim (seat-before reader_scope (λ k v. refl) kind core step a.at a.pass from.seat h.0 from.view from.at from.pass) [
         | steps_now same one two ↦
             elim (t.targets index q side (target-was step.view.call.task index q side (subst (λ (v : View). IsTarget (task_at_place v.call.task) index q side) (sym one) from.holds))) [
-              | inl target ↦ inl (comes step.number (record { seat = step.seat; view = Last kind core step; at = view-step kind core step a.at; pass = a.pass; holds = target-seen (Last kind core step).call.task index q side target }))
+              | inl target ↦ inl (coming-now index q side target)
               | inr has ↦ inr has
             ]
-        | stays apart new ↦ inl (comes h.0 (record { seat = from.seat; view = from.view; at = new; pass = from.pass; holds = from.holds }))
+        | stays apart new ↦ inl (h.0, seat-has reader_scope (λ k v. refl) (After kind core step) h.0 (λ v. IsTarget v.call.task index q side) (record { seat = from.seat; view = from.view; at = new; pass = from.pass; holds = from.holds }))
       ]
-    where
-      comes : (number : ℕ) → HasSeat reader_scope (λ k v. refl) (After kind core step) number (λ v. IsTarget v.call.task index q side) → IsComing Now index q side
-      comes number seat = (number, seat-has reader_scope (λ k v. refl) (After kind core step) number (λ v. IsTarget v.call.task index q side) seat)
 
   coming-keeps : KeepsTargets → (index q side : ℕ) → IsComing Old index q side → KeepsLayer index
   coming-keeps t index q side h =

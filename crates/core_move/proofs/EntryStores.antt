@@ -3,6 +3,7 @@ use Rattle.std.proofs.Common.{◌≡◌, ◌≢◌, ℕ, List, [], ◌∷◌, �
 use Rattle.std.specs.Prelude.{Contains}
 use Rattle.std.proofs.lemmas.List.Folds.{list_any-append}
 use Rattle.std.proofs.lemmas.Option.{same_Some}
+use Rattle.word_map.specs.declared.name.Name.{Name}
 use Rattle.word_map.specs.declared.name.Name.TheVariants.{Child, Bound}
 use Rattle.core_state.specs.declared.item.Store.{Store}
 use Rattle.core_state.specs.declared.view.Task.{Task}
@@ -35,9 +36,6 @@ use Rattle.core_move.proofs.Removers.{stored_more, last-or, more-placed, taken, 
 -- one store more, of no location
 cleared-more : (stores : List Store) (new : Store) → is_location_store new.name ≡ false → has_cleared_location stores ≡ false → has_cleared_location (stores ++ new ∷ []) ≡ false
 cleared-more stores new none h = list_any-append (λ (s : Store). is_location_store s.name) stores (new ∷ []) ∙ rw (h, none) refl
-
-bound_child : (n k q m j : ℕ) → Bound n k q ≢ Child m j
-bound_child n k q m j e = absurd cc
 
 module _ (core : Core) (step : Step) (a : Acts core step) (asked : MayClearEntry step.view step.name step.first step.second) where
   abbrev i : ℕ
@@ -118,7 +116,7 @@ module _ (core : Core) (step : Step) (a : Acts core step) (asked : MayClearEntry
   own-after : PassIsPlaced nodes Is (call_on_places (stored_more step)) (SeenUpdate clear_entry core step)
   own-after =
       let still = taken-forth clear_entry core step a nodes (λ n. ⊥) m (SeenUpdate clear_entry core step) step.view.call i (stays-in_place clear_entry core step i (tree-stays clear_entry core step a i (stored_more step) t i)) was in
-      more-placed clear_entry core step a i asked.task Is (λ n k q e. bound_child n k q asked.node asked.child (e ∙ asked.names)) (record {
+      more-placed clear_entry core step a i asked.task Is (λ n k q. subst (λ (name : Name). Bound n k q ≢ name) (sym asked.names) (λ e. absurd cc)) (record {
         out = still.out;
         cleared = λ n k at.
             let h = still.cleared n k at in

@@ -17,7 +17,7 @@ use Rattle.core_state.specs.Core.{Core, word_of, scene_of}
 use Rattle.core_state.specs.Kind.{Step, learned, after_step}
 use Rattle.core_state.specs.Removing.{HasClearedEntries, MayClearLocation, the_first, the_second, clear_location, location_cleared}
 use Rattle.core_state.specs.Moving.{with_store}
-use Rattle.core_state.specs.Encoding.{place}
+use Rattle.core_state.specs.Guards.{KeepsGuards}
 use Rattle.core_state.specs.Nodes.{Nodes}
 use Rattle.core_state.specs.Parts.{call_on_places}
 use Rattle.core_state.specs.Scope.{Sight, sight}
@@ -42,7 +42,8 @@ use Rattle.core_guard.proofs.Touched.{IsKept, kept}
 use Rattle.core_move.proofs.Removers.{stored_more, more-placed, taken, first-known, location-known, removes-on, not-held, not_in, known-stripe}
 
 -- afterwards the first location is 0, and the second one is as it was while the pass goes on, or 0 where it has done
-pub record Clears (core : Core) (step : Step) (i : ℕ) : Type 0 where
+pub record Clears (core : Core) (step : Step) : Type 0 where
+  pub i : ℕ
   entries : HasClearedEntries step.view i
   names : (step.name ≡ LocA i) ⊎ (step.name ≡ LocB i)
   pub call : Call
@@ -53,31 +54,30 @@ pub record Clears (core : Core) (step : Step) (i : ℕ) : Type 0 where
 pub stored : (core : Core) (step : Step) (name : Name) → step.first ≡ 0 → step.name ≡ name → word_of (After clear_location core step) name ≡ 0
 stored core step name none names = ap (word_of (After clear_location core step)) (sym names) ∙ (word-step clear_location core step ∙ none)
 
-unfoldable pub clears : (core : Core) (step : Step) (a : Acts core step) → MayClearLocation step.view step.name step.first step.second → (i : ℕ) × Clears core step i
-clears core step a (the_first i names entries none) = (
-  i,
-  record {
-    entries = entries;
-    names = inl names;
-    call = stored_more step;
-    recalls = ap (λ (n : Name). location_cleared (learned core step) n step.first) names ∙ ap (λ (n : Name). with_store (learned core step) n step.first) (sym names);
-    first = stored core step (LocA i) none names;
-    second = inl (word-step-other clear_location core step (LocB i) (subst (λ (n : Name). LocB i ≢ n) (sym names) (λ e. absurd cc)), refl);
-  },
-)
-clears core step a (the_second i names entries first none) = (
-  i,
-  record {
-    entries = entries;
-    names = inr names;
-    call = no_call;
-    recalls = ap (λ (n : Name). location_cleared (learned core step) n step.first) names;
-    first = word-step-other clear_location core step (LocA i) (subst (λ (n : Name). LocA i ≢ n) (sym names) (λ e. absurd cc)) ∙ (first-known clear_location core step a i entries.task ∙ first);
-    second = inr (stored core step (LocB i) none names, refl);
-  },
-)
+unfoldable pub clears : (core : Core) (step : Step) (a : Acts core step) → MayClearLocation step.view step.name step.first step.second → Clears core step
+clears core step a (the_first i names entries none) = record {
+  i = i;
+  entries = entries;
+  names = inl names;
+  call = stored_more step;
+  recalls = ap (λ (n : Name). location_cleared (learned core step) n step.first) names ∙ ap (λ (n : Name). with_store (learned core step) n step.first) (sym names);
+  first = stored core step (LocA i) none names;
+  second = inl (word-step-other clear_location core step (LocB i) (subst (λ (n : Name). LocB i ≢ n) (sym names) (λ e. absurd cc)), refl);
+}
+clears core step a (the_second i names entries first none) = record {
+  i = i;
+  entries = entries;
+  names = inr names;
+  call = no_call;
+  recalls = ap (λ (n : Name). location_cleared (learned core step) n step.first) names;
+  first = word-step-other clear_location core step (LocA i) (subst (λ (n : Name). LocA i ≢ n) (sym names) (λ e. absurd cc)) ∙ (first-known clear_location core step a i entries.task ∙ first);
+  second = inr (stored core step (LocB i) none names, refl);
+}
 
-module _ (core : Core) (step : Step) (a : Acts core step) (i : ℕ) (c : Clears core step i) where
+module _ (core : Core) (step : Step) (a : Acts core step) (c : Clears core step) where
+  abbrev i : ℕ
+  i = c.i
+
   abbrev Is : Sight
   Is = sight location_scope (After clear_location core step)
 
@@ -134,13 +134,13 @@ module _ (core : Core) (step : Step) (a : Acts core step) (i : ℕ) (c : Clears 
   Invariants-cleared : Invariants (after_step clear_location core step)
   Invariants-cleared = Invariants-left_out clear_location core step a i c.call left own-after
 
+  guarded-cleared : KeepsGuards clear_location core step
+  guarded-cleared = stripe-guarded clear_location core step a i (known-stripe clear_location core step a i c.entries.task) (not-held clear_location core step a i c.entries.task) (on-name (IsStripeWord i) refl refl)
+
 -- ---- kind 41
 
 pub Invariants-clear_location : IsKept MayClearLocation clear_location
-Invariants-clear_location = kept MayClearLocation clear_location (λ core step a asked. let c = clears core step a asked in Invariants-cleared core step a c.0 c.1)
+Invariants-clear_location = kept MayClearLocation clear_location (λ core step a asked. Invariants-cleared core step a (clears core step a asked))
 
 pub GuardsHold-clear_location : IsGuarded MayClearLocation clear_location
-GuardsHold-clear_location = guarded MayClearLocation clear_location (λ core step a asked.
-    let c = clears core step a asked in
-    let task = c.1.entries.task in
-    stripe-guarded clear_location core step a c.0 (known-stripe clear_location core step a c.0 task) (not-held clear_location core step a c.0 task) (on-name core step a c.0 c.1 (IsStripeWord c.0) refl refl))
+GuardsHold-clear_location = guarded MayClearLocation clear_location (λ core step a asked. guarded-cleared core step a (clears core step a asked))

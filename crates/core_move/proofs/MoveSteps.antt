@@ -1,5 +1,5 @@
 -- What the steps of a move leave: locks, the places of nodes, all other bodies, and what the move itself has done so far.
-use Rattle.std.proofs.Common.{◌≡◌, ◌≢◌, ℕ, ◌<◌, ◌≤◌, List, [], ◌∷◌, ◌++◌, Option, refl, ap, sym, ◌∙◌, subst, inl, inr}
+use Rattle.std.proofs.Common.{length, true, ◌≡◌, ◌≢◌, ℕ, ◌<◌, ◌≤◌, List, [], ◌∷◌, ◌++◌, Option, refl, ap, sym, ◌∙◌, subst, inl, inr}
 use Rattle.std.proofs.lemmas.List.Elements.{Contains-append_cases}
 use Rattle.scene_model.specs.declared.body_view.Phase.TheVariants.{Held}
 use Rattle.scene_model.specs.Step.{HasBody}
@@ -17,11 +17,13 @@ use Rattle.core_state.specs.Nodes.{Nodes, Stands, Above, here, higher}
 use Rattle.core_state.specs.Parts.{call_by_task, call_on_places}
 use Rattle.core_state.specs.Scope.{Sight, sight}
 use Rattle.core_state.specs.Space.{IsTarget}
-use Rattle.core_state.specs.LocationsHold.{location_scope, IsLocation, IsWidened}
+use Rattle.core_state.specs.LocationsHold.{location_scope, IsLocation, Encloses}
+use Rattle.core_state.specs.Bodies.{has_box_word}
+use Rattle.core_state.specs.Encoding.{Sides, sides_of}
 use Rattle.core_state.proofs.Opening.{only}
 use Rattle.core_guard.proofs.Leaving.{Acts, After, Leaves, LeadsWithin}
 use Rattle.core_guard.proofs.PlacesLeft.{SeenUpdate}
-use Rattle.core_guard.proofs.PlacesStay.{PassIsPlaced, acting, pass-placed, up-forth, begun-placed, pass-forth, location-forth}
+use Rattle.core_guard.proofs.PlacesStay.{PassIsPlaced, pass-placed, up-forth, encloses-forth, begun-placed, pass-forth, location-forth, location-back}
 use Rattle.core_guard.proofs.Seats.{each-seat}
 use Rattle.core_guard.proofs.InPlace.{InPlace}
 
@@ -91,9 +93,10 @@ module _ (kind : Kind) (core : Core) (step : Step) (a : Acts core step) (index :
     abbrev Two : Call
     Two = call_more index c u next new
 
-    -- of what is stored last, it is to be shown that it is as wide, and at a place on the way
+    -- it is to be shown that all bounds above contain the target once box words are stored, and of what is stored last that it
+    -- is as wide, and at a place on the way
     pub record StoresOn : Type 0 where
-      pub widened : IsWidened Is (acting Two r)
+      pub enclosed : has_box_word Two.stores ≡ true → (n k : ℕ) → IsLocation Was index n k → (length next ≡ 6) × Encloses Was n k (sides_of next)
       pub wide : (n k q value : ℕ) → new ≡ record { name = Bound n k q; value = value } → (q < 3 → Is.word (Bound n k q) ≤ value) × (3 ≤ q → value ≤ Is.word (Bound n k q))
       pub way : (x y q value : ℕ) → new ≡ record { name = Bound x y q; value = value } → (n : ℕ) × (k : ℕ) × IsLocation Was index n k × Above Was.word n k x y
 
@@ -103,7 +106,10 @@ module _ (kind : Kind) (core : Core) (step : Step) (a : Acts core step) (index :
         record {
           removed = λ i removes. absurd removes;
           unheld = was.unheld;
-          widened = on.widened;
+          widened = λ i n k box gives has location.
+              let at = location-back kind core step a nodes (λ n. ⊥) m index b n k (subst (λ (j : ℕ). IsLocation Is j n k) (sym gives.0) location) in
+              let t = on.enclosed has n k at in
+              (t.0, subst (λ (box : Sides). Encloses Is n k box) (sym gives.1) (encloses-forth kind core step a nodes (λ n. ⊥) m n k (sides_of next) (p.climbs_from n k at) t.1));
           still_wide = λ n k q value among.
               elim (Contains-append_cases (stores_of index c u) (new ∷ []) (record { name = Bound n k q; value = value }) among) [
                 | inl old ↦ was.still_wide n k q value old

@@ -126,8 +126,8 @@ ends-nowhere : (core : Core) (step : Step) (a : Acts core step) (i : ℕ) → st
     → (word_of (After clear_location core step) (LocA i) ≡ 0) × (word_of (After clear_location core step) (LocB i) ≡ 0) × HasBody (scene_of (After clear_location core step)) i (λ r. r.phase ≡ Out)
 unfolding clears
 ends-nowhere core step a i names entries first none =
-    let c = (clears core step a (the_second i names entries first none)).1 in
-    (c.first, stored core step (LocB i) none names, out-after clear_location core step a i c.call (left core step a i c))
+    let c = clears core step a (the_second i names entries first none) in
+    (c.first, stored core step (LocB i) none names, out-after clear_location core step a i c.call (left core step a c))
 
 first_second : (i index : ℕ) → LocA i ≢ LocB index
 first_second i index e = absurd cc

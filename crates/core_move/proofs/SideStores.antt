@@ -2,6 +2,7 @@
 -- box, and contained the old one; one that is out stands in no tree.
 use Rattle.std.proofs.Common.{◌≡◌, ◌≢◌, ◌⊎◌, ℕ, ◌||◌, List, [], ◌∷◌, ◌++◌, Bool, true, false, refl, ap, sym, ◌∙◌, subst, inl, inr, Some}
 use Rattle.std.specs.Prelude.{slice_index}
+use Rattle.std.proofs.lemmas.List.Folds.{list_any-append}
 use Rattle.scene_model.specs.declared.body_view.Phase.TheVariants.{Out}
 use Rattle.scene_model.specs.Scene.{record_at}
 use Rattle.word_map.specs.declared.name.Name.TheVariants.{BoxWord, Bound}
@@ -37,13 +38,12 @@ use Rattle.core_state.specs.Updates.{IsPlacing}
 
 -- ---- box words that are stored
 
-or-true : (first later : Bool) → later ≡ true → (first || later) ≡ true
-or-true true later e = refl
-or-true false later e = e
-
 box-last : (stored : List Store) (new : Store) → is_box_word new.name ≡ true → has_box_word (stored ++ new ∷ []) ≡ true
-box-last [] new is = rw is refl
-box-last (first ∷ rest) new is = or-true (is_box_word first.name) (has_box_word (rest ++ new ∷ [])) (box-last rest new is)
+box-last stored new is = list_any-append (λ (s : Store). is_box_word s.name) stored (new ∷ []) ∙ rw is (or-true (has_box_word stored))
+  where
+    or-true : (t : Bool) → (t || true) ≡ true
+    or-true true = refl
+    or-true false = refl
 
 -- ---- the step goes on with a move, or begins one
 
@@ -99,25 +99,16 @@ module _ (core : Core) (step : Step) (a : Acts core step) (asked : MayStoreSide 
   changes : Changes core index (history core.log) b.y.r
   changes = changes-none core index a.laws.bodies b.y.r b.y.was
 
-  -- the new box is enclosed at each location still
+  -- the target is enclosed at each location still
   own : PassIsPlaced a.laws.nodes Is Two (SeenUpdate store_side core step)
   own =
       stores-placed store_side core step a index (box-leaves store_side core step a index b) (box-in_place store_side core step a index b b.y.r.bounds (history core.log) changes past) (SeenUpdate store_side core step) step.view.call u target new
       (ready-placed store_side core step a index b)
       (record {
-        widened = λ i n k box gives has location.
-            let old = back store_side core step a index b b.y.r.bounds (history core.log) changes past n k (subst (λ (j : ℕ). IsLocation Is j n k) (sym gives.0) location) in
-            let t = ready-wide store_side core step a index b n k old in (
-              t.0,
-              subst (λ (b : Sides). Encloses Is n k b) (sym gives.1)
-                  (encloses-forth store_side core step a a.laws.nodes (No_new store_side core step) (box-leaves store_side core step a index b) n k (sides_of target) (ready-stands store_side core step a index b n k old) t.1),
-            );
-        wide = λ n k q value e. absurd (no_side (ap (λ (x : Store). x.name) e));
-        way = λ x j q value e. absurd (no_side (ap (λ (z : Store). z.name) e));
+        enclosed = λ has n k at. ready-wide store_side core step a index b n k at;
+        wide = λ n k q value e. let name : BoxWord index asked.side ≡ Bound n k q = ap (λ (x : Store). x.name) e in absurd cc;
+        way = λ x j q value e. let name : BoxWord index asked.side ≡ Bound x j q = ap (λ (z : Store). z.name) e in absurd cc;
       })
-    where
-      no_side : {n k q : ℕ} → BoxWord index asked.side ≢ Bound n k q
-      no_side e = absurd cc
 
   between : HasPass (sight body_scope (After store_side core step)) step.number (λ v. IsBetweenBoxes v index)
   between = seat-has body_scope (λ k v. refl) (After store_side core step) step.number (λ v. IsBetweenBoxes v index) (record {

@@ -41,8 +41,8 @@ use Rattle.core_guard.proofs.Holders.{keeps, IsGuarded, guarded}
 use Rattle.core_guard.proofs.Touched.{IsKept, kept}
 use Rattle.core_guard.proofs.Leaving.{Acts, After, Last, Leaves, sound-leads, scene-plain, in_held, LeadsWithin, above-forth, layer-once, made-once, updates-at}
 use Rattle.core_guard.proofs.PlacesLeft.{SeenUpdate, LocationsHold-stays}
-use Rattle.core_guard.proofs.PlacesStay.{PassIsPlaced, encloses-forth, location-back}
-use Rattle.core_guard.proofs.ReadersLeft.{TightSide, climb-forth, ReadersCounted-leaves, counts-stay}
+use Rattle.core_guard.proofs.PlacesStay.{PassIsPlaced}
+use Rattle.core_guard.proofs.ReadersLeft.{TightSide, coming-now}
 use Rattle.core_guard.proofs.Seats.{each-seats, seat-has}
 use Rattle.core_guard.proofs.Settled.{StandsStill, settled-still, known-location}
 use Rattle.core_guard.proofs.Owners.{same-view}
@@ -144,16 +144,7 @@ module _ (operation : Operation) (index : ℕ) (core : Core) (step : Step) (a : 
   -- ---- the side counts
 
   coming : IsComing Now index w.side step.first
-  coming = (
-    step.number,
-    seat-has reader_scope (λ k v. refl) (After widens core step) step.number (λ v. IsTarget v.call.task index w.side step.first) (record {
-      seat = step.seat;
-      view = Last widens core step;
-      at = view-step widens core step a.at;
-      pass = a.pass;
-      holds = subst (λ (c : Call). IsTarget (task_at_place c.task) index w.side step.first) (sym (call-is widens core step Two g.recalls)) (refl, g.grown.has.0, g.grown.has.1);
-    }),
-  )
+  coming = coming-now widens core step a nodes (λ n. ⊥) m index w.side step.first (subst (λ (c : Call). IsTarget c.task index w.side step.first) (sym (call-is widens core step Two g.recalls)) (refl, g.grown.has.0, g.grown.has.1))
 
   -- for the layer of a tree that others may reach
   counts-live : (l : ℕ) → IsLive (nodes.home w.node) → IsOfLayer l (nodes.home w.node) → IsInLayer Now l w.side step.first
@@ -221,14 +212,10 @@ module _ (operation : Operation) (index : ℕ) (core : Core) (step : Step) (a : 
   own-after =
       stores-placed widens core step a index m (stays-in_place widens core step index (tree-stays widens core step a index Two t index)) (SeenUpdate widens core step) step.view.call g.u g.next
       (new_store operation index core step) own (record {
-        widened = λ i n k box gives has place.
-            let old = location-back widens core step a nodes (λ n. ⊥) m i (stays-in_place widens core step i (tree-stays widens core step a index Two t i)) n k place in
-            let was = own.widened i n k (sides_of (target_of index step.view.call g.u)) (gives.0, refl) (sym no_box ∙ has) old in
-            let whole = g.grown.whole was.0 in (
-              ap length whole ∙ was.0,
-              subst (λ (box : Sides). Encloses Is n k box) (ap sides_of (sym whole) ∙ sym gives.1)
-                  (encloses-forth widens core step a nodes (λ n. ⊥) m n k (sides_of (target_of index step.view.call g.u)) (stands n k (subst (λ (j : ℕ). IsLocation Was j n k) (sym gives.0) old)) was.1),
-            );
+        enclosed = λ has n k at.
+            let was = own.widened index n k (sides_of (target_of index step.view.call g.u)) (refl, refl) (sym no_box ∙ has) at in
+            let whole = g.grown.whole was.0 in
+            (ap length whole ∙ was.0, subst (λ (t : List ℕ). Encloses Was n k (sides_of t)) (sym whole) was.1);
         wide = λ n k q value e.
             let name : Bound w.node w.child w.side ≡ Bound n k q = sym w.names ∙ ap (λ (x : Store). x.name) e in
             let first : step.first ≡ value = ap (λ (x : Store). x.value) e in

@@ -38,9 +38,6 @@ cleared-more : (stores : List Store) (new : Store) → is_location_store new.nam
 cleared-more stores new none h = list_any-append (λ (s : Store). is_location_store s.name) stores (new ∷ []) ∙ rw (h, none) refl
 
 module _ (core : Core) (step : Step) (a : Acts core step) (asked : MayClearEntry step.view step.name step.first step.second) where
-  abbrev i : ℕ
-  i = asked.index
-
   abbrev nodes : Nodes
   nodes = a.laws.nodes
 
@@ -50,14 +47,14 @@ module _ (core : Core) (step : Step) (a : Acts core step) (asked : MayClearEntry
   abbrev Is : Sight
   Is = sight location_scope (After clear_entry core step)
 
-  o : OnBody clear_entry core step i (stored_more step)
-  o = removes-on clear_entry core step a i asked.task (stored_more step) (subst (IsOn i) (sym asked.task) refl) refl
+  o : OnBody clear_entry core step asked.index (stored_more step)
+  o = removes-on clear_entry core step a asked.index asked.task (stored_more step) (subst (IsOn asked.index) (sym asked.task) refl) refl
 
-  was : IsTakenOut nodes Was (acting step.view.call (SeenUpdate clear_entry core step)) i
-  was = taken clear_entry core step a i asked.task
+  was : IsTakenOut nodes Was (acting step.view.call (SeenUpdate clear_entry core step)) asked.index
+  was = taken clear_entry core step a asked.index asked.task
 
-  location : IsLocation Was i asked.node asked.child
-  location = known-location clear_entry core step a i asked.task asked.node asked.child asked.location
+  location : IsLocation Was asked.index asked.node asked.child
+  location = known-location clear_entry core step a asked.index asked.task asked.node asked.child asked.location
 
   node-stands : (n : ℕ) → node_in step.name ≡ Some n → Stands (nodes.home n)
   node-stands n e = subst (λ (x : ℕ). Stands (nodes.home x)) (same_Some asked.node n (sym (ap node_in asked.names) ∙ e)) (was.cleared asked.node asked.child location).0
@@ -66,13 +63,13 @@ module _ (core : Core) (step : Step) (a : Acts core step) (asked : MayClearEntry
   none-after = word-step clear_entry core step ∙ asked.none
 
   -- an entry that an update planned is at the second location, so the update has placed the body; and nobody places it now
-  done : EachUpdate Was (λ number view r. (noted : Noted) → Contains r.noted noted → noted.index ≡ i → noted.place ≡ place asked.node asked.child → nodes.home asked.node ≡ made number noted.layer → IsDone view r i)
+  done : EachUpdate Was (λ number view r. (noted : Noted) → Contains r.noted noted → noted.index ≡ asked.index → noted.place ≡ place asked.node asked.child → nodes.home asked.node ≡ made number noted.layer → IsDone view r asked.index)
   done = updates-at location_scope (λ k v. refl) update_on_places (λ b v. refl) core _ (λ seat number view found own r e noted among same at home.
       inl (
-        second-placed core a.formed nodes a.laws.places a.laws.locations i
+        second-placed core a.formed nodes a.laws.places a.laws.locations asked.index
             (λ none. elim (location.1) [ inl first ↦ subst IsLive home (was.live asked.node asked.child location.0 first) | inr second ↦ absurd (omega arith) ]) seat number view r found own e,
-        λ places. nobody-does clear_entry core step i (stored_more step) a o (λ t. IsPlacing t i) (λ t. places-handles t i) (λ h. subst (λ (t : Task). IsPlacing t i) asked.task h) seat number view found own
-            (seen-task (λ task. IsPlacing task i) (λ task calm h. idle-unhandled task i calm (places-handles task i h)) view.call places),
+        λ places. nobody-does clear_entry core step asked.index (stored_more step) a o (λ t. IsPlacing t asked.index) (λ t. places-handles t asked.index) (λ h. subst (λ (t : Task). IsPlacing t asked.index) asked.task h) seat number view found own
+            (seen-task (λ task. IsPlacing task asked.index) (λ task calm h. idle-unhandled task asked.index calm (places-handles task asked.index h)) view.call places),
       ))
 
   entry : StaysOrCleared clear_entry core step nodes asked.node asked.child asked.names asked.node asked.child
@@ -80,13 +77,13 @@ module _ (core : Core) (step : Step) (a : Acts core step) (asked : MayClearEntry
       let none = ap (word_of (After clear_entry core step)) (sym asked.names) ∙ none-after in
       elim ((was.cleared asked.node asked.child location).1) [
         | inl e ↦ inl (none ∙ sym e)
-        | inr e ↦ inr (record { none = none; index = i; was = e.0; left = not_in clear_entry core step a i asked.task; done = done })
+        | inr e ↦ inr (record { none = none; index = asked.index; was = e.0; left = not_in clear_entry core step a asked.index asked.task; done = done })
       ]
 
   abbrev m : Leaves clear_entry core step nodes nodes (λ n. ⊥)
   m = cleared-leaves clear_entry core step nodes asked.node asked.child asked.names entry refl
 
-  t : OnTree clear_entry core step a i (stored_more step)
+  t : OnTree clear_entry core step a asked.index (stored_more step)
   t = record {
     on = o;
     word = subst IsTreeWord (sym asked.names) tt;
@@ -96,7 +93,7 @@ module _ (core : Core) (step : Step) (a : Acts core step) (asked : MayClearEntry
     boxes = cleared-boxes clear_entry core step nodes asked.node asked.child asked.names;
     removes = (λ h. h, λ h. h);
     places = (λ h. h, λ h. h);
-    between = λ between. absurd (subst (λ (t : Task). MovesBody t i) asked.task between.0);
+    between = λ between. absurd (subst (λ (t : Task). MovesBody t asked.index) asked.task between.0);
     targets = λ j q side target. target;
     stand = λ n k h. (was.cleared n k h).0;
     live = λ n k q l live layer. inl (child-other clear_entry core step nodes asked.node asked.child asked.names (Bound n k q) refl);
@@ -106,7 +103,7 @@ module _ (core : Core) (step : Step) (a : Acts core step) (asked : MayClearEntry
   -- ---- the pass
 
   -- an entry that stands was not cleared: what is stored is 0
-  uncleared : (n k : ℕ) → word_of (After clear_entry core step) (Child n k) ≡ body_child i → ¬ Contains step.view.call.stores (record { name = Child n k; value = 0 }) → ¬ Contains (stored_more step).stores (record { name = Child n k; value = 0 })
+  uncleared : (n k : ℕ) → word_of (After clear_entry core step) (Child n k) ≡ body_child asked.index → ¬ Contains step.view.call.stores (record { name = Child n k; value = 0 }) → ¬ Contains (stored_more step).stores (record { name = Child n k; value = 0 })
   uncleared n k entry old among =
       elim (last-or step.view.call.stores _ (record { name = Child n k; value = 0 }) among) [
         | inl before ↦ old before
@@ -115,8 +112,8 @@ module _ (core : Core) (step : Step) (a : Acts core step) (asked : MayClearEntry
 
   own-after : PassIsPlaced nodes Is (call_on_places (stored_more step)) (SeenUpdate clear_entry core step)
   own-after =
-      let still = taken-forth clear_entry core step a nodes (λ n. ⊥) m (SeenUpdate clear_entry core step) step.view.call i (stays-in_place clear_entry core step i (tree-stays clear_entry core step a i (stored_more step) t i)) was in
-      more-placed clear_entry core step a i asked.task Is (λ n k q. subst (λ (name : Name). Bound n k q ≢ name) (sym asked.names) (λ e. absurd cc)) (record {
+      let still = taken-forth clear_entry core step a nodes (λ n. ⊥) m (SeenUpdate clear_entry core step) step.view.call asked.index (stays-in_place clear_entry core step asked.index (tree-stays clear_entry core step a asked.index (stored_more step) t asked.index)) was in
+      more-placed clear_entry core step a asked.index asked.task Is (λ n k q. subst (λ (name : Name). Bound n k q ≢ name) (sym asked.names) (λ e. absurd cc)) (record {
         out = still.out;
         cleared = λ n k at.
             let h = still.cleared n k at in

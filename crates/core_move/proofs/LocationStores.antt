@@ -39,7 +39,7 @@ use Rattle.core_guard.proofs.PlacesLeft.{SeenUpdate}
 use Rattle.core_guard.proofs.PlacesStay.{PassIsPlaced, acting, begun-placed, task-seen, removes-busy}
 use Rattle.core_guard.proofs.Recalled.{Recalls, task-is}
 use Rattle.core_guard.proofs.Touched.{IsKept, kept}
-use Rattle.core_move.proofs.Removers.{stored_more, more-placed, taken, first-known, location-known, removes-on, not-held, not_in, known-stripe}
+use Rattle.core_move.proofs.Removers.{stored_more, more-placed, taken, body_out, first-known, location-known, removes-on, not-held, not_in, known-stripe}
 
 -- afterwards the first location is 0, and the second one is as it was while the pass goes on, or 0 where it has done
 pub record Clears (core : Core) (step : Step) : Type 0 where
@@ -75,31 +75,25 @@ clears core step a (the_second i names entries first none) = record {
 }
 
 module _ (core : Core) (step : Step) (a : Acts core step) (c : Clears core step) where
-  abbrev i : ℕ
-  i = c.i
-
   abbrev Is : Sight
   Is = sight location_scope (After clear_location core step)
 
   -- what is so of both names, and of the task that goes on and of none
-  on-name : (P : Name → Type 0) → P (LocA i) → P (LocB i) → P step.name
+  on-name : (P : Name → Type 0) → P (LocA c.i) → P (LocB c.i) → P step.name
   on-name P one two = elim (c.names) [ inl e ↦ subst P (sym e) one | inr e ↦ subst P (sym e) two ]
 
-  on-task : (P : Task → Type 0) → P (Removing i) → P Nothing → P c.call.task
+  on-task : (P : Task → Type 0) → P (Removing c.i) → P Nothing → P c.call.task
   on-task P one two = elim (c.second) [ inl t ↦ subst (λ (d : Call). P d.task) (sym t.1) (subst P (sym c.entries.task) one) | inr t ↦ subst (λ (d : Call). P d.task) (sym t.1) two ]
 
-  was : IsTakenOut a.laws.nodes (sight location_scope core) (acting step.view.call (SeenUpdate clear_location core step)) i
-  was = taken clear_location core step a i c.entries.task
-
-  pub left : IsLeftOut clear_location core step a i c.call
+  pub left : IsLeftOut clear_location core step a c.i c.call
   left = record {
-    on = removes-on clear_location core step a i c.entries.task c.call (on-task (IsOn i) refl tt) c.recalls;
-    of_body = on-name (λ n. body_of n ≡ Some i) refl refl;
+    on = removes-on clear_location core step a c.i c.entries.task c.call (on-task (IsOn c.i) refl tt) c.recalls;
+    of_body = on-name (λ n. body_of n ≡ Some c.i) refl refl;
     unread = on-name (λ n. body_scope.names n ≡ false) refl refl;
     plain = λ value. refl;
-    out = was.out;
-    stand = λ n k at. (was.cleared n k at).0;
-    empty = λ n k at. elim ((was.cleared n k at).1) [ inl e ↦ e | inr e ↦ absurd (e.2 (c.entries.cleared n k (location-known clear_location core step a i c.entries.task n k at))) ];
+    out = body_out clear_location core step a c.i c.entries.task;
+    stand = λ n k at. ((taken clear_location core step a c.i c.entries.task).cleared n k at).0;
+    empty = λ n k at. elim (((taken clear_location core step a c.i c.entries.task).cleared n k at).1) [ inl e ↦ e | inr e ↦ absurd (e.2 (c.entries.cleared n k (location-known clear_location core step a c.i c.entries.task n k at))) ];
     first = c.first;
     second = elim (c.second) [ inl t ↦ inl t.0 | inr t ↦ inr t.0 ];
     -- while the pass goes on the body is one that is removed
@@ -107,11 +101,11 @@ module _ (core : Core) (step : Step) (a : Acts core step) (c : Clears core step)
         elim (c.second) [
           | inl t ↦
               let now = task-is clear_location core step c.call c.recalls ∙ (ap (λ (d : Call). d.task) t.1 ∙ c.entries.task) in
-              absurd (none (removed-now clear_location core step i a location_scope (λ k v. refl) (task-seen (λ t. Removes t i) (removes-busy i) (Last clear_location core step).call) (subst (λ (t : Task). Removes t i) (sym now) refl)))
+              absurd (none (removed-now clear_location core step c.i a location_scope (λ k v. refl) (task-seen (λ t. Removes t c.i) (removes-busy c.i) (Last clear_location core step).call) (subst (λ (t : Task). Removes t c.i) (sym now) refl)))
           | inr t ↦ t.0
         ];
-    unplaced = (λ h. subst (λ (t : Task). IsPlacing t i) c.entries.task h, on-task (λ t. ¬ IsPlacing t i) (λ no. no) (λ no. no));
-    unmoved = (λ j q side target. subst (λ (t : Task). IsTarget t j q side) c.entries.task target, λ moves. subst (λ (t : Task). MovesBody t i) c.entries.task moves);
+    unplaced = (λ h. subst (λ (t : Task). IsPlacing t c.i) c.entries.task h, on-task (λ t. ¬ IsPlacing t c.i) (λ no. no) (λ no. no));
+    unmoved = (λ j q side target. subst (λ (t : Task). IsTarget t j q side) c.entries.task target, λ moves. subst (λ (t : Task). MovesBody t c.i) c.entries.task moves);
   }
 
   own-after : PassIsPlaced a.laws.nodes Is (call_on_places c.call) (SeenUpdate clear_location core step)
@@ -119,12 +113,12 @@ module _ (core : Core) (step : Step) (a : Acts core step) (c : Clears core step)
       elim (c.second) [
         | inl t ↦
             subst (λ (d : Call). PassIsPlaced a.laws.nodes Is (call_on_places d) (SeenUpdate clear_location core step)) (sym t.1)
-            (more-placed clear_location core step a i c.entries.task Is (λ n k q. on-name (λ name. Bound n k q ≢ name) (λ e. absurd cc) (λ e. absurd cc)) (record {
-              out = out-after clear_location core step a i c.call left;
+            (more-placed clear_location core step a c.i c.entries.task Is (λ n k q. on-name (λ name. Bound n k q ≢ name) (λ e. absurd cc) (λ e. absurd cc)) (record {
+              out = out-after clear_location core step a c.i c.call left;
               cleared = λ n k at.
-                  let old = location-was clear_location core step a i c.call left n k at in
-                  ((was.cleared n k old).0, inl (other-word clear_location core step a i c.call left (Child n k) refl ∙ left.empty n k old));
-              live = λ n k below e. absurd (first-off clear_location core step a i c.call left n k e);
+                  let old = location-was clear_location core step a c.i c.call left n k at in
+                  (left.stand n k old, inl (other-word clear_location core step a c.i c.call left (Child n k) refl ∙ left.empty n k old));
+              live = λ n k below e. absurd (first-off clear_location core step a c.i c.call left n k e);
             }))
         | inr t ↦
             subst (λ (d : Call). PassIsPlaced a.laws.nodes Is (call_on_places d) (SeenUpdate clear_location core step)) (sym t.1)
@@ -132,10 +126,10 @@ module _ (core : Core) (step : Step) (a : Acts core step) (c : Clears core step)
       ]
 
   Invariants-cleared : Invariants (after_step clear_location core step)
-  Invariants-cleared = Invariants-left_out clear_location core step a i c.call left own-after
+  Invariants-cleared = Invariants-left_out clear_location core step a c.i c.call left own-after
 
   guarded-cleared : KeepsGuards clear_location core step
-  guarded-cleared = stripe-guarded clear_location core step a i (known-stripe clear_location core step a i c.entries.task) (not-held clear_location core step a i c.entries.task) (on-name (IsStripeWord i) refl refl)
+  guarded-cleared = stripe-guarded clear_location core step a c.i (known-stripe clear_location core step a c.i c.entries.task) (not-held clear_location core step a c.i c.entries.task) (on-name (IsStripeWord c.i) refl refl)
 
 -- ---- kind 41
 

@@ -102,7 +102,6 @@ module _ (core : Core) (step : Step) (a : Acts core step) (asked : MayRemove ste
     live = λ n k below e. where-live a.laws.nodes (sight location_scope core) asked.index body.0.layer n (a.laws.locations.first asked.index body.0 n k body.1 body.2 below (sym (word-same (LocA asked.index) refl) ∙ e));
   }
 
-  -- all that is to be shown
   turns : TurnsBody remove core step a.laws.nodes asked.index new_call
   turns = record {
     on = o;

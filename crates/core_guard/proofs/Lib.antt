@@ -45,7 +45,6 @@ pub mod CallsAgree
 pub mod AgreeOn
 pub mod PhaseAgree
 pub mod Cleared
-pub mod ClearedPlaces
 pub mod OneUpdate
 pub mod BodyAnew
 pub mod TreeWords

@@ -21,7 +21,7 @@ use Rattle.core_state.specs.Space.{IsTarget}
 use Rattle.core_state.specs.Bodies.{all_batches}
 use Rattle.core_state.specs.LocationsHold.{LocationsHold, location_scope, IsPlannedIn, IsLocation}
 use Rattle.core_state.specs.BodiesCovered.{BodiesCovered}
-use Rattle.core_state.specs.ReadersCounted.{reader_scope, ClimbsInTrees}
+use Rattle.core_state.specs.ReadersCounted.{reader_scope}
 use Rattle.core_guard.proofs.BodyTouch.{other-word}
 use Rattle.core_guard.proofs.CoverLeft.{IsFresh, BodyAfter, as_it_was, BodiesCovered-leaves}
 use Rattle.core_guard.proofs.Leaving.{Acts, IsHandled, After, Last, Stays, Leaves, leaves-same, LeadsWithin, sound-leads, above-stands, above-back, some_and_map, held-once, body_of, body-no_node, stays-by}
@@ -31,8 +31,6 @@ use Rattle.core_guard.proofs.ReadersLeft.{some-all, Counts, KeepsTargets, KeepsL
 use Rattle.core_guard.proofs.WalksLeft.{WalksLead-leaves}
 use Rattle.fixed_box.specs.FixBox.{words_of}
 use Rattle.core_state.specs.declared.view.Call.{Call}
-use Rattle.core_state.specs.declared.view.Task.{Task}
-use Rattle.core_state.specs.declared.view.Task.TheVariants.{Moving, Removing}
 use Rattle.core_state.specs.TreesSound.{TreesSoundIn, tree_scope}
 use Rattle.core_state.specs.BodiesAgree.{BodiesAgree}
 use Rattle.core_state.specs.Invariants.{Invariants}

@@ -49,3 +49,4 @@ pub mod OneUpdate
 pub mod BodyAnew
 pub mod TreeWords
 pub mod OutBody
+pub mod Standing

@@ -33,7 +33,7 @@ use Rattle.core_state.specs.Walking.{Query, Spot, resting, at_child, at_bound, P
 use Rattle.core_state.specs.ReadersCounted.{ReadersCounted, reader_scope, ReachesByChild, ReachesBySpot, the_node, the_node_of_bound, by_child, by_next_child, by_part, Reaches, by_stack, by_spot, layer_at_hand, waiting_at, AreApart, IsWalkedAt, WalkStays, ReadsInSpace, AvoidsSuperseded, HasSeenOff, ClimbsInTrees, IsPlannedBelow, IsSideOf, IsTight}
 use Rattle.core_state.proofs.Beginning.{body_record, record_body, cases_cons, last_point}
 use Rattle.core_state.proofs.Steps.{view-step}
-use Rattle.core_guard.proofs.Seats.{each-seat, each-seats, has-seat, each-step, has-step, has-unstep, seat-has, HasSeat, seat-before, steps_now, stays}
+use Rattle.core_guard.proofs.Seats.{each-seat, each-seats, has-seat, each-step, has-step, has-unstep, seat-has, seat-before, steps_now, stays}
 use Rattle.core_guard.proofs.Growing.{point-grown, length-grown, had_in_layer-grown}
 use Rattle.core_guard.proofs.Leaving.{Acts, if_some_map, if_some_both, some_and_map, IsHandled, IsIdle, LeadsWithin, sound-leads, stands-in_tree, After, Last, Stays, Leaves, Touches, above-forth, above-back, each_update, live-stands, other-number, none-kept, child-back}
 use Rattle.core_guard.proofs.InPlace.{InPlace, stays-in_place, creation-forth}

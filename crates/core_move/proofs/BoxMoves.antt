@@ -1,19 +1,17 @@
 -- A move that stores box words, as far as it is: of a body in the broad phase every bound from its locations up contains the
 -- target, which is whole; one that is out stands in no tree.
-use Rattle.std.proofs.Common.{◌≡◌, ◌≢◌, ◌⊎◌, ℕ, List, [], length, Option, Some, refl, sym, ◌∙◌, subst, inl, inr, ◌<◌, ◌+◌, ◌-◌, ◌≤◌, ◌↔◌, ap, false, arith}
+use Rattle.std.proofs.Common.{◌≡◌, ◌≢◌, ◌⊎◌, ℕ, List, [], length, Option, Some, refl, sym, ◌∙◌, subst, inl, inr, ◌<◌, ◌+◌, ◌-◌, ◌≤◌, ◌↔◌, ap, false}
 use Rattle.std.specs.Prelude.{IsSomeAnd, slice_index}
 use Rattle.scene_model.specs.declared.body_view.Phase.TheVariants.{Out, Held, In}
 use Rattle.scene_model.specs.Scene.{Record, record_at}
-use Rattle.core_state.specs.declared.item.Load.{Load}
-use Rattle.core_state.specs.declared.item.Store.{Store}
 use Rattle.core_state.specs.declared.view.Task.{Task}
 use Rattle.core_state.specs.declared.view.Task.TheVariants.{Nothing, Moving}
 use Rattle.core_state.specs.declared.view.Call.{Call}
-use Rattle.core_state.specs.Core.{Core, scene_of, word_of, IsViewAt}
+use Rattle.core_state.specs.Core.{Core, scene_of, word_of}
 use Rattle.core_state.specs.Kind.{Kind, Step, left_by, log_after, after_step}
 use Rattle.core_state.specs.Encoding.{sides_of, Sides}
 use Rattle.core_state.specs.LocationsHold.{location_scope, IsLocation, Encloses, Removes, IsRemoved, box_in}
-use Rattle.core_state.specs.Moving.{IsSettled, IsKnownLocation, HasClimbed, IsWidenedFor, IsOutToMove}
+use Rattle.core_state.specs.Moving.{IsSettled, HasClimbed, IsWidenedFor, IsOutToMove}
 use Rattle.core_state.specs.Nodes.{Stands, Nodes}
 use Rattle.core_state.specs.Scope.{Sight, sight, scene_in}
 use Rattle.core_state.proofs.Beginning.{body_record, record_body}
@@ -30,15 +28,13 @@ use Rattle.fixed_box.specs.declared.fix_box.FixBox.{FixBox}
 use Rattle.scene_model.specs.declared.entry.Made.{Made}
 use Rattle.scene_model.specs.Step.{HasBody}
 use Rattle.word_map.specs.declared.name.Name.{Name}
-use Rattle.word_map.specs.declared.name.Name.TheVariants.{BoxWord, LocA, LocB, State, Layer, User, Phase, Slot, Bound}
+use Rattle.word_map.specs.declared.name.Name.TheVariants.{BoxWord, LocA, LocB, State, Layer, Phase, Slot, Bound}
 use Rattle.core_state.specs.declared.view.View.{View}
 use Rattle.core_state.specs.Log.{history}
 use Rattle.core_state.specs.Bodies.{is_box_word, phase_by, HasWholeBox}
-use Rattle.core_state.specs.Parts.{call_by_task, call_on_places}
+use Rattle.core_state.specs.Parts.{call_on_places}
 use Rattle.core_state.specs.Space.{IsTarget}
 use Rattle.core_state.specs.Updates.{IsPlacing}
-use Rattle.core_state.specs.BodiesAgree.{body_scope}
-use Rattle.core_state.proofs.Lookups.{at_one}
 use Rattle.core_state.proofs.Steps.{word-step, word-step-other}
 use Rattle.core_guard.proofs.AgreeOn.{is_turned, BodiesAgree-turned}
 use Rattle.core_guard.proofs.BodiesStep.{new_sight}

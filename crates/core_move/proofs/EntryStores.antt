@@ -7,7 +7,6 @@ use Rattle.word_map.specs.declared.name.Name.{Name}
 use Rattle.word_map.specs.declared.name.Name.TheVariants.{Child, Bound}
 use Rattle.core_state.specs.declared.item.Store.{Store}
 use Rattle.core_state.specs.declared.view.Task.{Task}
-use Rattle.core_state.specs.declared.view.Call.{Call}
 use Rattle.core_state.specs.declared.view.Noted.{Noted}
 use Rattle.core_state.specs.Core.{Core, word_of}
 use Rattle.core_state.specs.Kind.{Step}
@@ -17,7 +16,6 @@ use Rattle.core_state.specs.Nodes.{Nodes, made, node_in, IsLive, Stands}
 use Rattle.core_state.specs.Parts.{call_on_places, update_on_places}
 use Rattle.core_state.specs.Scope.{Sight, sight}
 use Rattle.core_state.specs.Bodies.{MovesBody}
-use Rattle.core_state.specs.Space.{IsTarget}
 use Rattle.core_state.specs.Updates.{EachUpdate, IsPlacing, IsDone}
 use Rattle.core_state.specs.LocationsHold.{location_scope, IsLocation, IsTakenOut, is_location_store, has_cleared_location}
 use Rattle.core_state.proofs.Steps.{word-step}

@@ -1,6 +1,6 @@
 -- Storing the last box word ends a move: the body has the box that its words say, and all bounds from its locations up contain
 -- it. The side that the move was about to give counts for the layer from then on as one that the body had.
-use Rattle.std.proofs.Common.{◌≡◌, ◌≢◌, ◌⊎◌, ℕ, ◌<◌, List, [], ◌∷◌, ◌++◌, length, option_map, Some, refl, ap, sym, ◌∙◌, subst, inl, inr, arith, eq-eqb}
+use Rattle.std.proofs.Common.{◌≡◌, ◌⊎◌, ℕ, ◌<◌, List, [], ◌∷◌, ◌++◌, length, option_map, refl, ap, sym, ◌∙◌, subst, inl, inr, arith, eq-eqb}
 use Rattle.std.specs.Prelude.{slice_index}
 use Rattle.std.proofs.lemmas.Bool.{cases_eq, ne_eqb}
 use Rattle.fixed_box.specs.FixBox.{words_of}
@@ -8,21 +8,20 @@ use Rattle.fixed_box.specs.declared.fix_box.FixBox.{FixBox}
 use Rattle.scene_model.specs.declared.body_view.Phase.TheVariants.{Out, In}
 use Rattle.scene_model.specs.declared.entry.Entry.TheVariants.{Move}
 use Rattle.scene_model.specs.declared.entry.Made.{Made}
-use Rattle.scene_model.specs.Scene.{Place, record_at}
+use Rattle.scene_model.specs.Scene.{record_at}
 use Rattle.scene_model.specs.Step.{HasBody}
-use Rattle.scene_model.specs.History.{scene_after}
 use Rattle.word_map.specs.declared.name.Name.{Name}
 use Rattle.word_map.specs.declared.name.Name.TheVariants.{BoxWord}
 use Rattle.core_state.specs.declared.view.Task.TheVariants.{Nothing}
 use Rattle.core_state.specs.View.{known_word, no_call}
 use Rattle.core_state.specs.Log.{history}
 use Rattle.core_state.specs.Core.{Core, word_of, scene_of}
-use Rattle.core_state.specs.Kind.{Kind, Step, log_after, after_step}
+use Rattle.core_state.specs.Kind.{Step, log_after, after_step}
 use Rattle.core_state.specs.Encoding.{sides_of}
-use Rattle.core_state.specs.Moving.{IsSettled, StoresBox, as_target, as_body_out, box_with_last, move_of, MayStoreLastSide, store_last_side}
+use Rattle.core_state.specs.Moving.{as_target, as_body_out, box_with_last, move_of, MayStoreLastSide, store_last_side}
 use Rattle.core_state.specs.Scope.{sight}
 use Rattle.core_state.specs.Space.{IsTarget}
-use Rattle.core_state.specs.LocationsHold.{location_scope, IsLocation, Encloses, Removes}
+use Rattle.core_state.specs.LocationsHold.{location_scope, IsLocation, Encloses}
 use Rattle.core_state.specs.Invariants.{Invariants}
 use Rattle.core_state.proofs.Beginning.{record_body}
 use Rattle.core_state.proofs.Boxes.{box_of-words}
@@ -38,7 +37,6 @@ use Rattle.core_move.proofs.MoveSteps.{target_of, under-target, under-so}
 use Rattle.core_guard.proofs.BodyAnew.{No_new}
 use Rattle.core_guard.proofs.Changed.{Changes, changes-made, record-after}
 use Rattle.core_guard.proofs.OnBody.{IsOn}
-use Rattle.core_state.specs.Updates.{IsPlacing}
 
 module _ (core : Core) (step : Step) (a : Acts core step) (asked : MayStoreLastSide step.view step.name step.first step.second) where
   abbrev index : ℕ

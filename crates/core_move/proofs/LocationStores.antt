@@ -1,33 +1,25 @@
 -- Clearing a location of a body that is taken out: its entries are cleared, so nothing leads to the location, and nothing
 -- stands at it. The first location is cleared before the second, with which the removal ends.
-use Rattle.std.proofs.Common.{◌≡◌, ◌≢◌, ◌⊎◌, ℕ, [], ◌∷◌, ◌++◌, Option, Some, false, true, IsSomeAnd, refl, ap, sym, ◌∙◌, subst, inl, inr, arith}
-use Rattle.std.proofs.lemmas.Bool.{false≢true}
-use Rattle.scene_model.specs.declared.body_view.Phase.TheVariants.{Out, In}
-use Rattle.scene_model.specs.Scene.{Record, record_at}
-use Rattle.scene_model.specs.Step.{HasBody}
+use Rattle.std.proofs.Common.{◌≡◌, ◌≢◌, ◌⊎◌, ℕ, Some, false, refl, ap, sym, ◌∙◌, subst, inl, inr}
 use Rattle.word_map.specs.declared.name.Name.{Name}
-use Rattle.word_map.specs.declared.name.Name.TheVariants.{Phase, LocA, LocB, Child, Bound}
-use Rattle.core_state.specs.declared.item.Store.{Store}
+use Rattle.word_map.specs.declared.name.Name.TheVariants.{LocA, LocB, Child, Bound}
 use Rattle.core_state.specs.declared.view.Task.{Task}
 use Rattle.core_state.specs.declared.view.Task.TheVariants.{Nothing, Removing}
 use Rattle.core_state.specs.declared.view.Call.{Call}
-use Rattle.core_state.specs.declared.view.View.{View}
-use Rattle.core_state.specs.View.{known_word, no_call}
-use Rattle.core_state.specs.Core.{Core, word_of, scene_of}
+use Rattle.core_state.specs.View.{no_call}
+use Rattle.core_state.specs.Core.{Core, word_of}
 use Rattle.core_state.specs.Kind.{Step, learned, after_step}
 use Rattle.core_state.specs.Removing.{HasClearedEntries, MayClearLocation, the_first, the_second, clear_location, location_cleared}
 use Rattle.core_state.specs.Moving.{with_store}
 use Rattle.core_state.specs.Guards.{KeepsGuards}
-use Rattle.core_state.specs.Nodes.{Nodes}
 use Rattle.core_state.specs.Parts.{call_on_places}
 use Rattle.core_state.specs.Scope.{Sight, sight}
 use Rattle.core_state.specs.Bodies.{MovesBody}
 use Rattle.core_state.specs.BodiesAgree.{body_scope}
 use Rattle.core_state.specs.Updates.{IsPlacing}
-use Rattle.core_state.specs.LocationsHold.{location_scope, IsLocation, IsTakenOut, Removes, is_location_store}
+use Rattle.core_state.specs.LocationsHold.{location_scope, Removes}
 use Rattle.core_state.specs.Invariants.{Invariants}
 use Rattle.core_state.specs.Space.{IsTarget}
-use Rattle.core_state.proofs.Beginning.{record_body}
 use Rattle.core_state.proofs.Steps.{word-step, word-step-other}
 use Rattle.core_guard.proofs.Holders.{IsGuarded, guarded}
 use Rattle.core_guard.proofs.InPlace.{removed-now}
@@ -36,10 +28,10 @@ use Rattle.core_guard.proofs.LivesGuarded.{IsStripeWord, stripe-guarded}
 use Rattle.core_guard.proofs.OnBody.{IsOn}
 use Rattle.core_guard.proofs.OutBody.{IsLeftOut, Invariants-left_out, out-after, location-was, other-word, first-off}
 use Rattle.core_guard.proofs.PlacesLeft.{SeenUpdate}
-use Rattle.core_guard.proofs.PlacesStay.{PassIsPlaced, acting, begun-placed, task-seen, removes-busy}
+use Rattle.core_guard.proofs.PlacesStay.{PassIsPlaced, begun-placed, task-seen, removes-busy}
 use Rattle.core_guard.proofs.Recalled.{Recalls, task-is}
 use Rattle.core_guard.proofs.Touched.{IsKept, kept}
-use Rattle.core_move.proofs.Removers.{stored_more, more-placed, taken, body_out, first-known, location-known, removes-on, not-held, not_in, known-stripe}
+use Rattle.core_move.proofs.Removers.{stored_more, more-placed, taken, body_out, first-known, location-known, removes-on, not-held, known-stripe}
 
 -- afterwards the first location is 0, and the second one is as it was while the pass goes on, or 0 where it has done
 pub record Clears (core : Core) (step : Step) : Type 0 where

@@ -7,20 +7,18 @@ use Rattle.scene_model.specs.declared.entry.Entry.TheVariants.{Remove}
 use Rattle.scene_model.specs.Scene.{Record, record_at}
 use Rattle.scene_model.specs.Step.{HasBody, in_phase}
 use Rattle.word_map.specs.declared.name.Name.{Name}
-use Rattle.word_map.specs.declared.name.Name.TheVariants.{State, Phase, Layer, LocA, LocB, Child, Slot, User, BoxWord}
+use Rattle.word_map.specs.declared.name.Name.TheVariants.{State, Phase, Layer, LocA, LocB, Child, Slot, BoxWord}
 use Rattle.core_state.specs.declared.view.Task.{Task}
 use Rattle.core_state.specs.declared.view.Task.TheVariants.{Removing}
 use Rattle.core_state.specs.declared.view.Call.{Call}
 use Rattle.core_state.specs.Core.{Core, word_of, scene_of}
 use Rattle.core_state.specs.Kind.{Step, learned, after_step, log_after}
 use Rattle.core_state.specs.Removing.{MayRemove, remove, removing_by, removal_of}
-use Rattle.core_state.specs.Nodes.{Nodes, IsLive}
 use Rattle.core_state.specs.Invariants.{Invariants}
 use Rattle.core_state.specs.Scope.{sight}
 use Rattle.core_state.specs.Bodies.{phase_by, MovesBody}
-use Rattle.core_state.specs.BodiesAgree.{BodiesAgree}
 use Rattle.core_state.specs.Updates.{IsPlacing}
-use Rattle.core_state.specs.LocationsHold.{location_scope, IsLocation, IsAt, IsWhere, in_slot, in_main, in_old, in_merged, IsTakenOut, Removes}
+use Rattle.core_state.specs.LocationsHold.{location_scope, IsLocation, IsAt, IsTakenOut, Removes}
 use Rattle.core_state.specs.Space.{IsTarget}
 use Rattle.core_state.proofs.Beginning.{body_record, record_body}
 use Rattle.core_state.proofs.Opening.{none_in}
@@ -29,7 +27,7 @@ use Rattle.core_guard.proofs.BodyAnew.{TurnsBody, Invariants-turned}
 use Rattle.core_guard.proofs.BodiesStep.{whole-back}
 use Rattle.core_guard.proofs.CoverLeft.{in_place}
 use Rattle.core_guard.proofs.Holders.{IsGuarded, guarded}
-use Rattle.core_guard.proofs.Leaving.{Acts, After, Last, held-once, body_of, in_held, out_held, out_in}
+use Rattle.core_guard.proofs.Leaving.{Acts, After, body_of, in_held, out_held, out_in}
 use Rattle.core_guard.proofs.PhaseAgree.{is_phase}
 use Rattle.core_guard.proofs.PlacesLeft.{SeenUpdate, body_in_place}
 use Rattle.core_guard.proofs.PlacesStay.{acting, begun-placed, where-live}

@@ -1,40 +1,34 @@
 -- Storing a box word in a move keeps all laws: of a body in the broad phase every bound from its locations up contains the new
 -- box, and contained the old one; one that is out stands in no tree.
-use Rattle.std.proofs.Common.{◌≡◌, ◌≢◌, ◌⊎◌, ℕ, ◌||◌, List, [], ◌∷◌, ◌++◌, Bool, true, false, refl, ap, sym, ◌∙◌, subst, inl, inr, Some}
+use Rattle.std.proofs.Common.{◌≡◌, ◌⊎◌, ℕ, ◌||◌, List, [], ◌∷◌, ◌++◌, Bool, true, false, refl, ap, sym, ◌∙◌, subst, inl, inr}
 use Rattle.std.specs.Prelude.{slice_index}
 use Rattle.std.proofs.lemmas.List.Folds.{list_any-append}
 use Rattle.scene_model.specs.declared.body_view.Phase.TheVariants.{Out}
-use Rattle.scene_model.specs.Scene.{record_at}
 use Rattle.word_map.specs.declared.name.Name.TheVariants.{BoxWord, Bound}
-use Rattle.core_state.specs.declared.item.Load.{Load}
 use Rattle.core_state.specs.declared.item.Store.{Store}
-use Rattle.core_state.specs.declared.view.Task.TheVariants.{Moving}
 use Rattle.core_state.specs.declared.view.Call.{Call}
 use Rattle.core_state.specs.Log.{history}
-use Rattle.core_state.specs.Core.{Core, scene_of}
+use Rattle.core_state.specs.Core.{Core}
 use Rattle.core_state.specs.Kind.{Step, learned, log_after, after_step}
-use Rattle.core_state.specs.Encoding.{Sides, sides_of}
 use Rattle.core_state.specs.Bodies.{is_box_word, has_box_word, MovesBody, IsBetweenBoxes}
 use Rattle.core_state.specs.Moving.{of_target, of_body_out, MayStoreSide, side_stored_by, store_side}
 use Rattle.core_state.specs.Scope.{Sight, sight, HasPass}
-use Rattle.core_state.specs.LocationsHold.{location_scope, IsLocation, Encloses, Removes}
+use Rattle.core_state.specs.LocationsHold.{location_scope}
 use Rattle.core_state.specs.BodiesAgree.{body_scope}
 use Rattle.core_state.specs.Invariants.{Invariants}
 use Rattle.core_state.proofs.Frames.{step-history}
 use Rattle.core_state.proofs.Steps.{view-step}
 use Rattle.core_guard.proofs.Leaving.{Acts, After, Last}
 use Rattle.core_guard.proofs.PlacesLeft.{SeenUpdate}
-use Rattle.core_guard.proofs.PlacesStay.{encloses-forth, PassIsPlaced}
+use Rattle.core_guard.proofs.PlacesStay.{PassIsPlaced}
 use Rattle.core_guard.proofs.Seats.{seat-has}
 use Rattle.core_guard.proofs.Touched.{IsKept, kept}
 use Rattle.core_guard.proofs.Holders.{IsGuarded, guarded}
-use Rattle.core_move.proofs.BoxMoves.{IsReady, ready-in, ready-out, BoxStep, ready-stands, ready-placed, ready-wide, box-leaves, box-in_place, back, Invariants-box, GuardsHold-box}
+use Rattle.core_move.proofs.BoxMoves.{IsReady, ready-in, ready-out, BoxStep, ready-placed, ready-wide, box-leaves, box-in_place, Invariants-box, GuardsHold-box}
 use Rattle.core_move.proofs.MoveSteps.{Under, has_begun, begins_now, target_of, stores_of, call_more, under-so, under-target, stores-placed}
-use Rattle.core_guard.proofs.BodyAnew.{No_new}
 use Rattle.core_guard.proofs.Changed.{Changes, changes-none}
 use Rattle.core_guard.proofs.OnBody.{IsOn}
 use Rattle.core_guard.proofs.Recalled.{Recalls, call-is}
-use Rattle.core_state.specs.Updates.{IsPlacing}
 
 -- ---- box words that are stored
 

@@ -1,64 +1,53 @@
 -- Widening a side of a bound in a move keeps all laws: the bound is above a location of the body, so its new side, which the
 -- body is to have, counts for the layer, or for the new tree in which the body is planned.
-use Rattle.std.proofs.Common.{◌≡◌, ◌≢◌, ◌⊎◌, ℕ, ◌<◌, List, [], ◌∷◌, ◌++◌, true, length, Option, Some, None, refl, ap, sym, ◌∙◌, subst, inl, inr, arith, ◌↔◌}
-use Rattle.std.specs.Prelude.{IsSomeAnd, IfSome, option_map}
-use Rattle.std.proofs.lemmas.Option.{same_Some, none-some}
+use Rattle.std.proofs.Common.{◌≡◌, ◌≢◌, ℕ, List, true, length, Option, Some, refl, ap, sym, ◌∙◌, subst, inl, inr, arith}
+use Rattle.std.specs.Prelude.{IsSomeAnd}
+use Rattle.std.proofs.lemmas.Option.{same_Some}
 use Rattle.scene_model.specs.declared.body_view.Phase.TheVariants.{Held, In}
 use Rattle.scene_model.specs.Scene.{Record, record_at}
-use Rattle.scene_model.specs.Step.{HasBody}
-use Rattle.word_map.specs.declared.name.Name.{Name}
-use Rattle.word_map.specs.declared.name.Name.TheVariants.{Bound, Reader}
+use Rattle.word_map.specs.declared.name.Name.TheVariants.{Bound}
 use Rattle.word_map.specs.Names.{IsName}
-use Rattle.core_state.specs.declared.item.Load.{Load}
 use Rattle.core_state.specs.declared.item.Store.{Store}
 use Rattle.core_state.specs.declared.view.Task.{Task}
-use Rattle.core_state.specs.declared.view.Task.TheVariants.{Moving, Nothing}
 use Rattle.core_state.specs.declared.view.Call.{Call}
 use Rattle.core_state.specs.declared.view.Rebuild.{Rebuild}
 use Rattle.core_state.specs.declared.view.View.{View}
 use Rattle.core_state.specs.View.{IsPass}
 use Rattle.core_state.specs.Core.{Core, word_of, scene_of, IsViewAt}
 use Rattle.core_state.specs.Operation.{Operation, fetch_min, fetch_max}
-use Rattle.core_state.specs.Kind.{Kind, Step, Steps, found_by, left_by, after_step, log_after}
-use Rattle.core_state.specs.Encoding.{place, Sides, sides_of}
+use Rattle.core_state.specs.Kind.{Kind, Step, Steps, found_by, left_by, after_step}
+use Rattle.core_state.specs.Encoding.{place, sides_of}
 use Rattle.core_state.specs.Guards.{KeepsGuards}
 use Rattle.core_state.specs.Bodies.{is_box_word, has_box_word, MovesBody}
 use Rattle.core_state.specs.Moving.{IsKnownLocation, side_in, MayWiden, MayWidenLow, MayWidenHigh, widen_low, widen_high}
-use Rattle.core_state.specs.Nodes.{Nodes, Home, made, under, superseded, IsLive, Stands, IsOfLayer, Above, node_in}
-use Rattle.core_state.specs.Parts.{task_at_place, update_on_readers, call_on_places, call_at, update_on_cover, task_on_cover}
-use Rattle.core_state.specs.Scope.{Sight, sight, bare_view}
+use Rattle.core_state.specs.Nodes.{Nodes, made, IsLive, Stands, IsOfLayer, Above, node_in}
+use Rattle.core_state.specs.Parts.{update_on_readers}
+use Rattle.core_state.specs.Scope.{Sight, sight}
 use Rattle.core_state.specs.Space.{IsTarget, IsComing, IsInLayer}
 use Rattle.core_state.specs.Updates.{IsNoted, IsSameBody, IsPlacing}
 use Rattle.core_state.specs.TreesSound.{BoundsOnlyWiden, tree_scope}
-use Rattle.core_state.specs.LocationsHold.{LocationsHold, location_scope, IsLocation, Encloses, Removes}
-use Rattle.core_state.specs.BodiesAgree.{body_scope}
-use Rattle.core_state.specs.BodiesCovered.{BodiesCoveredIn, cover_scope}
-use Rattle.core_state.specs.ReadersCounted.{ReadersCounted, reader_scope, ClimbsInTrees}
+use Rattle.core_state.specs.LocationsHold.{location_scope, IsLocation, Encloses, Removes}
+use Rattle.core_state.specs.ReadersCounted.{reader_scope}
 use Rattle.core_state.specs.Invariants.{Invariants}
 use Rattle.core_state.proofs.Beginning.{body_record, record_body}
-use Rattle.core_state.proofs.Steps.{word-step, word-step-other, view-step}
-use Rattle.core_guard.proofs.Holders.{keeps, IsGuarded, guarded}
+use Rattle.core_state.proofs.Steps.{word-step}
+use Rattle.core_guard.proofs.Holders.{IsGuarded, guarded}
 use Rattle.core_guard.proofs.Touched.{IsKept, kept}
-use Rattle.core_guard.proofs.Leaving.{Acts, After, Last, Leaves, sound-leads, scene-plain, in_held, LeadsWithin, above-forth, layer-once, made-once, updates-at}
-use Rattle.core_guard.proofs.PlacesLeft.{SeenUpdate, LocationsHold-stays}
+use Rattle.core_guard.proofs.Leaving.{Acts, After, Leaves, sound-leads, scene-plain, in_held, LeadsWithin, above-forth, layer-once, made-once, updates-at}
+use Rattle.core_guard.proofs.PlacesLeft.{SeenUpdate}
 use Rattle.core_guard.proofs.PlacesStay.{PassIsPlaced}
 use Rattle.core_guard.proofs.ReadersLeft.{TightSide, coming-now}
-use Rattle.core_guard.proofs.Seats.{each-seats, seat-has}
 use Rattle.core_guard.proofs.Settled.{StandsStill, settled-still, known-location}
 use Rattle.core_guard.proofs.Owners.{same-view}
 use Rattle.core_guard.proofs.TreeWords.{OnTree, IsTreeWord, Invariants-tree, tree-guarded, tree-stays}
-use Rattle.core_guard.proofs.Unowned.{stands-unowned}
 use Rattle.core_guard.proofs.WidenedBound.{WidensBound, node_of, child_of, side-widens, widened-leaves, widened-boxes, side-or}
-use Rattle.core_move.proofs.Standing.{IsInLayerAt, in_tree, in_new_tree, in-layer}
+use Rattle.core_guard.proofs.Standing.{in_tree, in_new_tree, in-layer}
 use Rattle.core_move.proofs.MoveSteps.{Under, has_begun, begins_now, target_of, stores_of, call_under, call_more, under-so, under-target, above-home, under-placed, stores-placed}
 use Rattle.core_move.proofs.Widening.{IsWider, min-wider, max-wider, widening, new_store, Goes, goes, box-more}
-use Rattle.core_guard.proofs.Recalled.{recalled, call-is, task-is, law-unseen}
-use Rattle.core_guard.proofs.OnBody.{OnBody, LocksAgree-on, IsOn, NodesInOnePlace-on}
-use Rattle.core_guard.proofs.InPlace.{InPlace, stays-in_place}
+use Rattle.core_guard.proofs.Recalled.{recalled, call-is}
+use Rattle.core_guard.proofs.OnBody.{IsOn}
+use Rattle.core_guard.proofs.InPlace.{stays-in_place}
 use Rattle.core_guard.proofs.Still.{come-up}
-use Rattle.core_state.specs.LocksAgree.{lock_scope}
-use Rattle.core_state.specs.NodesInOnePlace.{node_scope}
-use Rattle.core_guard.proofs.CallsAgree.{BodiesAgree-beside}
 
 -- what the two kinds ask, and what they do to the word
 record Widens (operation : Operation) (index : ℕ) (core : Core) (step : Step) : Type 0 where

@@ -51,7 +51,7 @@ module _ (core : Core) (a : Attaching core) (formed : IsFormed core) (h : Invari
           | attached_node among home depth ↦ inr among
           | other_node outside home depth ↦ inl home
         ];
-    child = λ n k inside. word-other core a (Child n k) (λ e. absurd cc);
+    child = λ n k inside. inl (word-other core a (Child n k) (λ e. absurd cc));
     parent = λ n inside. word-other core a (Parent n) (λ e. absurd cc);
     wide = λ n k q stands.
         let same : word_of (core_after core a) (Bound n k q) ≡ word_of core (Bound n k q) = word-other core a (Bound n k q) (λ e. absurd cc) in

@@ -1,8 +1,8 @@
 -- The bodies agree after a step on a word of a body that is live and that no batch holds, before and after: what is left to
 -- show is what its own words say.
-use Rattle.std.proofs.Common.{◌≡◌, ◌≢◌, ℕ, List, Option, Some, refl, ap, sym, ◌∙◌, subst, inl, inr, ◌<◌}
-use Rattle.std.specs.Prelude.{IsNone, IsSomeAnd}
-use Rattle.std.proofs.lemmas.Bool.{cases_eq}
+use Rattle.std.proofs.Common.{◌≡◌, ◌≢◌, ℕ, List, Option, Some, Bool, true, false, refl, ap, sym, ◌∙◌, subst, inl, inr, ◌<◌, ◌+◌, ◌-◌, ◌^◌}
+use Rattle.std.specs.Prelude.{IsNone, IsSomeAnd, slice_index}
+use Rattle.std.proofs.lemmas.Bool.{cases_eq, false≢true}
 use Rattle.std.proofs.lemmas.Option.{none-some, same_Some}
 use Rattle.scene_model.specs.declared.body_view.Phase.TheVariants.{Held}
 use Rattle.scene_model.specs.declared.entry.Made.{Made}
@@ -15,14 +15,16 @@ use Rattle.core_state.specs.declared.view.Batch.{Batch}
 use Rattle.core_state.specs.declared.view.Call.{Call}
 use Rattle.core_state.specs.declared.view.View.{View}
 use Rattle.core_state.specs.Log.{history}
-use Rattle.core_state.specs.Core.{Core, scene_of}
+use Rattle.core_state.specs.Core.{Core, word_of, scene_of}
 use Rattle.core_state.specs.Kind.{Kind, Step, log_after, after_step}
 use Rattle.core_state.specs.Scope.{Sight, sight, scene_in}
-use Rattle.core_state.specs.Bodies.{state_word, IsBetweenBoxes}
+use Rattle.core_state.specs.Bodies.{state_word, phase_by, IsBetweenBoxes, HasWholeBox}
 use Rattle.core_state.specs.BodiesAgree.{BodiesAgree, body_scope, HasWordsOf, IsHeldFor}
 use Rattle.core_state.proofs.Beginning.{record_body}
+use Rattle.core_state.proofs.Steps.{word-step-other}
+use Rattle.fixed_box.specs.FixBox.{words_of}
 use Rattle.core_guard.proofs.BodiesStep.{new_sight, unstored, bodies-agree, together, words-kept, list-left, unlisted, stripe-part, batch-left}
-use Rattle.core_guard.proofs.Leaving.{Acts, Last, some_and_map, held-once, body_of}
+use Rattle.core_guard.proofs.Leaving.{Acts, After, Last, some_and_map, held-once, body_of}
 use Rattle.core_guard.proofs.OnBody.{OnBody, on-moves, on-lists, on-stripe, on-after, stripe-after}
 use Rattle.core_guard.proofs.Recalled.{recalled}
 use Rattle.core_guard.proofs.Scenes.{none_here}
@@ -103,3 +105,50 @@ module _ (kind : Kind) (core : Core) (step : Step) (a : Acts core step) (index :
         (stripe-part kind core step a.at a.pass past h (λ was. on-stripe New (Last kind core step) index (Last kind core step).call.task task (stripe-after kind core step index call a o)))
         (batch-left kind core step a.at a.pass past h (ap (λ (v : View). v.batches) (recalled kind core step call o.recalls)) (λ l t. other (Slot l t) (none-some index)) marks
         (λ i held. subst (λ (x : Option Record). IsSomeAnd x (λ q. q.phase ≡ Held)) (same i (held-is i held)) held)))
+
+-- ---- a step on the phase word or a box word of the body
+
+abbrev pub is_turned : Name → Bool
+is_turned (Phase i) = true
+is_turned (BoxWord i k) = true
+is_turned _ = false
+
+module _ (kind : Kind) (core : Core) (step : Step) (a : Acts core step) (index : ℕ) (call : Call) (o : OnBody kind core step index call) (past : List Made) where
+  -- what is to be shown: the body is of the layer that it was and has the user number that it had, and its phase and its box
+  -- words say what the history says
+  pub record Turned (q r : Record) : Type 0 where
+    pub of_body : body_of step.name ≡ Some index
+    pub turned : is_turned step.name ≡ true
+    pub was : record_at (scene_of core) index ≡ Some q
+    pub changes : Changes core index past r
+    pub made : history (log_after kind core step) ≡ past
+    pub unheld : q.phase ≢ Held
+    pub unheld_now : r.phase ≢ Held
+    pub layer : q.layer ≡ r.layer
+    pub user : q.user ≡ r.user
+    pub bounds : HasWholeBox (new_sight kind core step a.at a.pass past) index → (k : ℕ) → k < 6 → word_of (After kind core step) (BoxWord index k) ≡ slice_index (words_of r.bounds) k
+    pub phase : phase_by (word_of (After kind core step) (Phase index)) (word_of core (Slot r.layer (word_of (After kind core step) (Phase index) - 2))) ≡ Some r.phase
+    pub fits : word_of (After kind core step) (Phase index) < 2 + core.config.slots
+
+  pub BodiesAgree-turned : (q r : Record) → Turned q r → BodiesAgree (after_step kind core step)
+  BodiesAgree-turned q r t =
+      let was = a.laws.bodies.live index q t.was in
+      BodiesAgree-on kind core step a index call o t.of_body past r
+      (record {
+        changes = t.changes;
+        unheld = held-once (record_at (scene_of core) index) (record_body (record_at (scene_of core) index) (λ x. x.phase ≢ Held) q t.was t.unheld);
+        unheld_now = t.unheld_now;
+        state = kept (State index) refl;
+        words = record {
+          layer = kept (Layer index) refl ∙ (was.layer ∙ t.layer);
+          user = kept (User index) refl ∙ (was.user ∙ t.user);
+          user_fits = subst (λ (n : ℕ). n < 2 ^ 32) t.user was.user_fits;
+          bounds = t.bounds;
+          phase = ap (phase_by (word_of (After kind core step) (Phase index))) (kept (Slot r.layer (word_of (After kind core step) (Phase index) - 2)) refl) ∙ t.phase;
+          slot = t.fits;
+        };
+      })
+      t.made
+    where
+      kept : (name : Name) → is_turned name ≡ false → word_of (After kind core step) name ≡ word_of core name
+      kept name other = word-step-other kind core step name (λ e. false≢true (sym other ∙ (ap is_turned e ∙ t.turned)))

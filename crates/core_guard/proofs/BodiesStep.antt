@@ -1,9 +1,9 @@
 -- What a step owes for the bodies to agree afterwards, where its pass keeps its locks and batches.
-use Rattle.std.proofs.Common.{◌≡◌, ◌≢◌, ◌↔◌, ℕ, suc, ◌+◌, ◌-◌, ◌<◌, List, ◌∷◌, Some, Contains, AllPairs, IsNone, refl, ap, sym, ◌∙◌, subst}
-use Rattle.std.specs.Prelude.{⊤, flat_map}
+use Rattle.std.proofs.Common.{◌≡◌, ◌≢◌, ◌↔◌, ℕ, zero, suc, Bool, true, false, cond, ◌+◌, ◌-◌, ◌<◌, List, ◌∷◌, Some, Contains, AllPairs, IsNone, refl, ap, sym, ◌∙◌, subst}
+use Rattle.std.specs.Prelude.{⊤, flat_map, nat_lt}
 use Rattle.std.proofs.lemmas.Option.{none-some, same_Some}
 use Rattle.scene_model.specs.declared.body_view.Phase.{Phase as BodyPhase}
-use Rattle.scene_model.specs.declared.body_view.Phase.TheVariants.{Out, Held}
+use Rattle.scene_model.specs.declared.body_view.Phase.TheVariants.{Out, Held, In}
 use Rattle.scene_model.specs.declared.entry.Made.{Made}
 use Rattle.scene_model.specs.Scene.{Record, place_at, record_at}
 use Rattle.scene_model.specs.Step.{HasBody}
@@ -23,7 +23,7 @@ use Rattle.core_state.specs.declared.view.Batch.{Batch}
 use Rattle.core_state.specs.declared.view.View.{View}
 use Rattle.core_state.specs.Log.{word}
 use Rattle.core_state.specs.View.{number_in, known_word, IsPass, Holds, HoldsNot}
-use Rattle.core_state.specs.Core.{Core, word_of, IsViewAt}
+use Rattle.core_state.specs.Core.{Core, word_of, scene_of, IsViewAt}
 use Rattle.core_state.specs.Kind.{Kind, Step, view_after, after_step, learned}
 use Rattle.core_state.specs.Formed.{IsFormed, IsSoundView}
 use Rattle.core_state.specs.Guards.{Owns, GuardsHold}
@@ -116,6 +116,22 @@ phase-kept old new before after phase same slots h = (λ i. phase_by (same i) (s
 -- a body whose phase word is 0 is out
 pub out_phase : (value slot : ℕ) (phase : BodyPhase) → value ≡ phase_out → phase_by value slot ≡ Some phase → Out ≡ phase
 out_phase value slot phase out h = same_Some Out phase (sym (ap (λ (n : ℕ). phase_by n slot) out) ∙ h)
+
+zero_phase : (word slot : ℕ) → phase_by word slot ≡ Some Out → word ≡ 0
+zero_phase zero slot e = refl
+zero_phase (suc zero) slot e = absurd cc
+zero_phase (suc (suc t)) zero e = absurd cc
+zero_phase (suc (suc t)) (suc w) e = absurd (held_or_in (nat_lt (suc w) 1024) e)
+  where
+    held_or_in : (test : Bool) → cond test (Some Held) (Some In) ≢ Some Out
+    held_or_in true e = absurd cc
+    held_or_in false e = absurd cc
+
+-- and that of a body that is out is 0
+pub zero-out : (core : Core) → BodiesAgree core → (i : ℕ) → HasBody (scene_of core) i (λ r. r.phase ≡ Out) → word_of core (Phase i) ≡ 0
+zero-out core h i out =
+    let t = body_record (record_at (scene_of core) i) (λ r. r.phase ≡ Out) out in
+    zero_phase (word_of core (Phase i)) _ ((h.live i t.0 t.1).phase ∙ ap Some t.2)
 
 -- ---- a step
 

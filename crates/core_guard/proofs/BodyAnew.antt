@@ -21,7 +21,7 @@ use Rattle.core_state.specs.Space.{IsTarget}
 use Rattle.core_state.specs.Bodies.{all_batches}
 use Rattle.core_state.specs.LocationsHold.{LocationsHold, location_scope, IsPlannedIn, IsLocation}
 use Rattle.core_state.specs.BodiesCovered.{BodiesCovered}
-use Rattle.core_state.specs.ReadersCounted.{reader_scope, ClimbsInTrees}
+use Rattle.core_state.specs.ReadersCounted.{reader_scope}
 use Rattle.core_guard.proofs.BodyTouch.{other-word}
 use Rattle.core_guard.proofs.CoverLeft.{IsFresh, BodyAfter, as_it_was, BodiesCovered-leaves}
 use Rattle.core_guard.proofs.Leaving.{Acts, IsHandled, After, Last, Stays, Leaves, leaves-same, LeadsWithin, sound-leads, above-stands, above-back, some_and_map, held-once, body_of, body-no_node, stays-by}
@@ -31,12 +31,10 @@ use Rattle.core_guard.proofs.ReadersLeft.{some-all, Counts, KeepsTargets, KeepsL
 use Rattle.core_guard.proofs.WalksLeft.{WalksLead-leaves}
 use Rattle.fixed_box.specs.FixBox.{words_of}
 use Rattle.core_state.specs.declared.view.Call.{Call}
-use Rattle.core_state.specs.declared.view.Task.{Task}
-use Rattle.core_state.specs.declared.view.Task.TheVariants.{Moving, Removing}
 use Rattle.core_state.specs.TreesSound.{TreesSoundIn, tree_scope}
 use Rattle.core_state.specs.BodiesAgree.{BodiesAgree}
 use Rattle.core_state.specs.Invariants.{Invariants}
-use Rattle.core_guard.proofs.OnBody.{OnBody, IsOn, body-unread, others-else, removes-else, places-else, on-after, LocksAgree-on, NodesInOnePlace-on}
+use Rattle.core_guard.proofs.OnBody.{OnBody, climbs-on, body-unread, others-else, removes-else, places-else, on-after, LocksAgree-on, NodesInOnePlace-on}
 use Rattle.core_guard.proofs.Recalled.{call-is, recalled, law-unseen}
 use Rattle.core_guard.proofs.Alone.{marked-held}
 use Rattle.core_guard.proofs.Seats.{flat-step, seen_at}
@@ -51,7 +49,7 @@ module _ (kind : Kind) (core : Core) (step : Step) where
   pub turn-leaves : (nodes : Nodes) (index : ℕ) → body_of step.name ≡ Some index → (Last kind core step).rebuild ≡ step.view.rebuild → Leaves kind core step nodes nodes No_new
   turn-leaves nodes index of_body rebuild = let none = body-no_node step.name index of_body in leaves-same kind core step nodes none.0 none.1 rebuild
 
-  none-fresh : (nodes : Nodes) → IsFresh kind core step nodes No_new
+  pub none-fresh : (nodes : Nodes) → IsFresh kind core step nodes No_new
   none-fresh nodes = record { unreplaced = λ number view among pass. some-all view.rebuild _ (λ r n new. absurd new); seen = λ n number name new. absurd new }
 
   -- what is to be shown
@@ -159,17 +157,12 @@ module _ (kind : Kind) (core : Core) (step : Step) where
         above-stands kind core step a nodes nodes No_new leaves old.word Now.word leads leaves.parent n k x y stands
         (above-back kind core step a nodes nodes No_new leaves old.word Now.word leads leaves.parent n k x y stands up)
 
-    climbs : (task : Task) → IsOn index task → ClimbsInTrees nodes Now task
-    climbs (Moving i target) on = subst (λ (j : ℕ). ClimbsInTrees nodes Now (Moving j target)) (sym on) above-stand
-    climbs (Removing i) on = subst (λ (j : ℕ). ClimbsInTrees nodes Now (Removing j)) (sym on) above-stand
-    climbs _ on = tt
-
     counts : Counts kind core step a nodes No_new leaves
     counts = record {
       places = λ seat number view apart found is i handled.
           let s = stays i (λ same. others-else kind core step index call a t.on seat number view apart found is (subst (IsHandled view.call.task) same handled)) in
           (s.loc_a, s.loc_b);
-      climbs = climbs (Last kind core step).call.task (on-after kind core step index call a t.on);
+      climbs = climbs-on nodes Now index (Last kind core step).call.task (on-after kind core step index call a t.on) above-stand;
       layers = layers-kept kind core step a nodes No_new leaves targets;
       gives = gives-kept kind core step a nodes No_new leaves targets;
       live = λ n k q l live layer. inl (bound-same n k q);

@@ -29,6 +29,13 @@ alike-forth o p (a_body r q g l) P h = subst (λ (x : ℕ). P x q.layer) (sym g)
 pub alike-of : (o p : Option Record) (r q : Record) → o ≡ Some r → p ≡ Some q → q.generation ≡ r.generation → q.layer ≡ r.layer → IsAlike o p
 alike-of o p r q was is generation layer = subst (λ (x : Option Record). IsAlike x p) (sym was) (subst (IsAlike (Some r)) (sym is) (a_body r q generation layer))
 
+pub alike-same : (o p : Option Record) → p ≡ o → IsAlike o p
+alike-same o p e = subst (IsAlike o) (sym e) (go o)
+  where
+    go : (o : Option Record) → IsAlike o o
+    go None = no_body
+    go (Some r) = a_body r r refl refl
+
 module _ (kind : Kind) (core : Core) (step : Step) where
   abbrev Was : ℕ → Option Record
   Was i = record_at (scene_of core) i

@@ -14,6 +14,7 @@ use Rattle.word_map.specs.declared.name.Name.{Name}
 use Rattle.word_map.specs.declared.name.Name.TheVariants.{State, Phase, Layer, User, BoxWord, LocA, LocB, Child, Bound, Parent, Main, Slot, Reader}
 use Rattle.core_state.specs.declared.item.Store.{Store}
 use Rattle.core_state.specs.declared.view.Marked.{Marked}
+use Rattle.core_state.specs.declared.view.Noted.{Noted}
 use Rattle.core_state.specs.declared.view.Batch.{Batch}
 use Rattle.core_state.specs.declared.view.Task.{Task}
 use Rattle.core_state.specs.declared.view.Task.TheVariants.{Nothing, Moving, Removing, Placing}
@@ -26,19 +27,19 @@ use Rattle.core_state.specs.Core.{Core, word_of, scene_of, IsViewAt}
 use Rattle.core_state.specs.Kind.{Kind, Asking, Step, Steps, gained_by, view_after, after_step}
 use Rattle.core_state.specs.Formed.{IsFormed, AreApart}
 use Rattle.core_state.specs.Guards.{GuardsHold}
-use Rattle.core_state.specs.Encoding.{NamesRoot, place, node_child, phase_join, slot_tree, layer_of, Covers, bound_in, Sides}
-use Rattle.core_state.specs.Nodes.{Nodes, Home, Stands, IsLive, IsInTree, IsPublished, IsOwnedBy, node_in, Above, here, higher, under, made, superseded}
+use Rattle.core_state.specs.Encoding.{NamesRoot, place, body_child, node_child, phase_join, slot_tree, layer_of, Covers, bound_in, Sides}
+use Rattle.core_state.specs.Nodes.{Nodes, Home, Stands, IsLive, IsInTree, IsPublished, IsOwnedBy, IsOfLayer, node_in, Above, here, higher, under, made, superseded}
 use Rattle.core_state.specs.Parts.{call_by_task, call_on_places, task_on_cover, task_at_place}
 use Rattle.core_state.specs.Scope.{Scope, Sight, sight, HasPass}
 use Rattle.core_state.specs.TreesSound.{TreesSoundIn, IsChild, nothing, a_body, a_node, IsPlaced, as_root, at_place, IsAsStored}
-use Rattle.core_state.specs.Updates.{EachUpdate, HasUpdate, IsOldTree, IsPlacing}
+use Rattle.core_state.specs.Updates.{EachUpdate, HasUpdate, IsOldTree, IsPlacing, IsDone}
 use Rattle.core_state.specs.Bodies.{all_batches}
 use Rattle.core_state.specs.LocationsHold.{Removes, location_scope, IsPlannedIn}
 use Rattle.core_state.specs.Invariants.{Invariants}
 use Rattle.core_state.proofs.Forming.{pass_role}
 use Rattle.core_state.proofs.Frames.{step-history}
 use Rattle.core_state.proofs.Steps.{word-step-other}
-use Rattle.core_guard.proofs.Seats.{KeepsNumber, seen_of, each-step, has-step}
+use Rattle.core_guard.proofs.Seats.{KeepsNumber, seen_of, each-step, has-step, each-seats}
 use Rattle.core_state.specs.declared.view.Role.{Role}
 use Rattle.core_state.specs.declared.view.Role.TheVariants.{Pass}
 
@@ -181,6 +182,37 @@ stands-in_tree (superseded p name) h = tt
 stands-in_tree (made p l) h = tt
 stands-in_tree _ h = absurd h
 
+-- a tree is of one layer
+pub layer-once : (a b : ℕ) (home : Home) → IsLive home → IsOfLayer a home → IsOfLayer b home → a ≡ b
+layer-once a b (under name) live one two = same_Some a b (sym one ∙ two)
+layer-once a b (superseded p name) live one two = same_Some a b (sym one ∙ two)
+layer-once a b _ live one two = absurd live
+
+-- a new one is of one pass, and one layer
+pub made-once : (p q k l : ℕ) → made p k ≡ made q l → (p ≡ q) × (k ≡ l)
+made-once p q k l e = (ap pass_in e, ap layer_in e)
+  where
+    pass_in : Home → ℕ
+    pass_in (made x y) = x
+    pass_in _ = 0
+
+    layer_in : Home → ℕ
+    layer_in (made x y) = y
+    layer_in _ = 0
+
+-- ---- updates
+
+-- what holds of the update of the view in each seat, as a law reads it
+pub updates-at : (scope : Scope) → KeepsNumber scope → (part : Rebuild → Rebuild) → ((bare view : View) → (scope.part bare view).rebuild ≡ option_map part view.rebuild) → (core : Core) (P : ℕ → View → Rebuild → Type 0)
+    → ((seat number : ℕ) (view : View) → IsViewAt core seat view → IsPass view number → (r : Rebuild) → view.rebuild ≡ Some r → P number (seen_of scope number view) (part r)) → EachUpdate (sight scope core) P
+updates-at scope keeps part reads core P h =
+    each-seats scope keeps core (λ number v. IfSome v.rebuild (P number v))
+    (λ seat number view at pass. subst (λ (o : Option Rebuild). IfSome o (P number (seen_of scope number view))) (sym (reads _ view)) (go seat number view at pass view.rebuild refl))
+  where
+    go : (seat number : ℕ) (view : View) → IsViewAt core seat view → IsPass view number → (o : Option Rebuild) → view.rebuild ≡ o → IfSome (option_map part o) (P number (seen_of scope number view))
+    go seat number view at pass None is = tt
+    go seat number view at pass (Some r) is = h seat number view at pass r is
+
 -- ---- the step
 
 -- a body is as it was, but for its user number
@@ -274,13 +306,23 @@ module _ (kind : Kind) (core : Core) (step : Step) where
 
   -- ---- nodes
 
-  -- Nodes in trees keep homes, depths, children and parents, and bounds only widen. A node that comes to stand is a new
-  -- one; the same roots are named, and new ones of new nodes. The history goes on, and the update is the same
+  -- a child is 0 that was the entry of a body which nobody needs any more: it is in no layer's broad phase, and an update
+  -- that planned the entry has done with the body
+  pub record IsCleared (nodes : Nodes) (n k : ℕ) : Type 0 where
+    pub none : word_of After (Child n k) ≡ 0
+    pub index : ℕ
+    pub was : word_of core (Child n k) ≡ body_child index
+    pub left : ¬ HasBody (scene_of core) index (λ r. r.phase ≡ In)
+    pub done : EachUpdate (sight location_scope core) (λ number view r. (noted : Noted) → Contains r.noted noted → noted.index ≡ index → noted.place ≡ place n k → nodes.home n ≡ made number noted.layer → IsDone view r index)
+
+  -- Nodes in trees keep homes, depths and parents, and children but for entries that nobody needs; bounds only widen. A node
+  -- that comes to stand is a new one; the same roots are named, and new ones of new nodes. The history goes on, and the
+  -- update is the same
   pub record Leaves (nodes later : Nodes) (New : ℕ → Type 0) : Type 0 where
     pub stays : (n : ℕ) → IsInTree (nodes.home n) → later.home n ≡ nodes.home n
     pub depth : (n : ℕ) → IsInTree (nodes.home n) → later.depth n ≡ nodes.depth n
     pub stood : (n : ℕ) → IsInTree (later.home n) → (later.home n ≡ nodes.home n) ⊎ New n
-    pub child : (n k : ℕ) → IsInTree (nodes.home n) → word_of After (Child n k) ≡ word_of core (Child n k)
+    pub child : (n k : ℕ) → IsInTree (nodes.home n) → (word_of After (Child n k) ≡ word_of core (Child n k)) ⊎ IsCleared nodes n k
     pub parent : (n : ℕ) → IsInTree (nodes.home n) → word_of After (Parent n) ≡ word_of core (Parent n)
     pub wide : (n k q : ℕ) → Stands (nodes.home n) → (q < 3 → word_of After (Bound n k q) ≤ word_of core (Bound n k q)) × (3 ≤ q → word_of core (Bound n k q) ≤ word_of After (Bound n k q))
     pub names : (name : Name) (root : ℕ) → NamesRoot name (word_of core name) root → NamesRoot name (word_of After name) root
@@ -295,6 +337,25 @@ module _ (kind : Kind) (core : Core) (step : Step) where
 
     pub home-back : (n : ℕ) (home : Home) → IsInTree home → later.home n ≡ home → (nodes.home n ≡ home) ⊎ New n
     home-back n home inside e = elim (m.stood n (subst IsInTree (sym e) inside)) [ inl same ↦ inl (sym same ∙ e) | inr new ↦ inr new ]
+
+    -- a child that is a node stays, and so does the entry of a body in the broad phase; and none is new
+    pub none-kept : (n k : ℕ) → IsInTree (nodes.home n) → word_of core (Child n k) ≡ 0 → word_of After (Child n k) ≡ 0
+    none-kept n k inside e = elim (m.child n k inside) [ inl same ↦ same ∙ e | inr c ↦ c.none ]
+
+    pub node-kept : (n k x : ℕ) → IsInTree (nodes.home n) → word_of core (Child n k) ≡ node_child x → word_of After (Child n k) ≡ node_child x
+    node-kept n k x inside e = elim (m.child n k inside) [ inl same ↦ same ∙ e | inr c ↦ let was = c.was in absurd (omega arith) ]
+
+    pub entry-kept : (n k i : ℕ) → IsInTree (nodes.home n) → HasBody (scene_of core) i (λ r. r.phase ≡ In) → word_of core (Child n k) ≡ body_child i → word_of After (Child n k) ≡ body_child i
+    entry-kept n k i inside is_in e =
+        elim (m.child n k inside) [
+          | inl same ↦ same ∙ e
+          | inr c ↦
+              let one : i ≡ c.index = let was = c.was in omega arith in
+              absurd (c.left (subst (λ (j : ℕ). HasBody (scene_of core) j (λ r. r.phase ≡ In)) one is_in))
+        ]
+
+    pub child-back : (n k x : ℕ) → IsInTree (nodes.home n) → 0 < x → word_of After (Child n k) ≡ x → word_of core (Child n k) ≡ x
+    child-back n k x inside some e = elim (m.child n k inside) [ inl same ↦ sym same ∙ e | inr c ↦ let none = c.none in absurd (omega arith) ]
 
     pub stands-later : (n : ℕ) → Stands (nodes.home n) → Stands (later.home n)
     stands-later n stands = subst Stands (sym (m.stays n (stands-in_tree (nodes.home n) stands))) stands
@@ -373,7 +434,7 @@ module _ (kind : Kind) (core : Core) (step : Step) where
         stays = stays;
         depth = depth;
         stood = λ n inside. inl (stood n inside);
-        child = λ n k inside. word (Child n k) n refl inside;
+        child = λ n k inside. inl (word (Child n k) n refl inside);
         parent = λ n inside. word (Parent n) n refl inside;
         wide = λ n k q stands.
             let same = word (Bound n k q) n refl (stands-in_tree (nodes.home n) stands) in

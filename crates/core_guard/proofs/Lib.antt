@@ -45,6 +45,8 @@ pub mod CallsAgree
 pub mod AgreeOn
 pub mod PhaseAgree
 pub mod Cleared
-pub mod ClearedPlaces
 pub mod OneUpdate
 pub mod BodyAnew
+pub mod TreeWords
+pub mod OutBody
+pub mod Standing

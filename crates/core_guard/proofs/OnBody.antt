@@ -23,7 +23,9 @@ use Rattle.core_state.specs.LocksAgree.{LocksAgree, lock_scope}
 use Rattle.core_state.specs.BodiesAgree.{ChangesList, IsUnderStripe}
 use Rattle.core_state.specs.NodesInOnePlace.{NodesInOnePlace, node_scope}
 use Rattle.core_state.specs.TreesSound.{tree_scope}
-use Rattle.core_state.specs.LocationsHold.{Removes}
+use Rattle.core_state.specs.Nodes.{Nodes, Stands, Above}
+use Rattle.core_state.specs.LocationsHold.{Removes, IsLocation}
+use Rattle.core_state.specs.ReadersCounted.{ClimbsInTrees}
 use Rattle.core_guard.proofs.BodyTouch.{stripe-others}
 use Rattle.core_guard.proofs.Leaving.{Acts, IsHandled, Last, body_of}
 use Rattle.core_guard.proofs.PlacesStay.{removes-handles, places-handles}
@@ -71,6 +73,12 @@ on-stripe s view index (Moving j target) on holds = subst (λ (k : ℕ). Holds v
 on-stripe s view index (Removing j) on holds = subst (λ (k : ℕ). Holds view (stripe_of s.config k) Write) (sym on) holds
 on-stripe s view index (Placing j) on holds = subst (λ (k : ℕ). Holds view (stripe_of s.config k) Write) (sym on) holds
 on-stripe s view index _ on holds = tt
+
+-- and it climbs from that body alone
+pub climbs-on : (nodes : Nodes) (s : Sight) (index : ℕ) (task : Task) → IsOn index task → ((n k x y : ℕ) → IsLocation s index n k → Above s.word n k x y → Stands (nodes.home x)) → ClimbsInTrees nodes s task
+climbs-on nodes s index (Moving i target) on stand = subst (λ (j : ℕ). ClimbsInTrees nodes s (Moving j target)) (sym on) stand
+climbs-on nodes s index (Removing i) on stand = subst (λ (j : ℕ). ClimbsInTrees nodes s (Removing j)) (sym on) stand
+climbs-on nodes s index _ on stand = tt
 
 -- ---- words
 

@@ -1,6 +1,6 @@
 -- The locations hold after a step of which it is shown only what they say of the bodies, the nodes and the pass that it
 -- touches.
-use Rattle.std.proofs.Common.{◌≡◌, ◌≢◌, ◌↔◌, ℕ, ◌<◌, ◌≤◌, true, Option, Some, refl, ap, sym, ◌∙◌, subst, inl, inr, arith, List}
+use Rattle.std.proofs.Common.{None, Some, IfSome, ◌≡◌, ◌≢◌, ◌↔◌, ℕ, ◌<◌, ◌≤◌, true, Option, refl, ap, sym, ◌∙◌, subst, inl, inr, arith, List}
 use Rattle.std.specs.Prelude.{Contains, length, option_map}
 use Rattle.word_map.specs.declared.name.Name.TheVariants.{LocA, LocB, Child}
 use Rattle.core_state.specs.declared.view.Marked.{Marked}
@@ -16,12 +16,12 @@ use Rattle.core_state.specs.Encoding.{body_child, place, sides_of}
 use Rattle.core_state.specs.Parts.{call_on_places, update_on_places}
 use Rattle.core_state.specs.Nodes.{Nodes, made, Stands, IsInTree, IsPublished}
 use Rattle.core_state.specs.Scope.{Sight, sight, HasPass, scene_in}
-use Rattle.core_state.specs.Updates.{HasUpdate, IsNoted, IsPlacing}
+use Rattle.core_state.specs.Updates.{EachUpdate, IsDone, HasUpdate, IsNoted, IsPlacing}
 use Rattle.core_state.specs.Bodies.{all_batches}
 use Rattle.core_state.specs.LocationsHold.{LocationsHold, location_scope, IsLocation, IsPlannedIn, IsPlannedAt, IsPublishedAt, Encloses, box_in}
-use Rattle.core_guard.proofs.PlacesStay.{BodyIsPlaced, PassIsPlaced, EachPlaced, acting, taken-out, body-placed, pass-placed, places-handles, handled-seen, places-seen, placed-forth, apart-placed, apart-nowhere, location-forth, pass-forth, planned-forth, published-forth, update-forth, stays-enclosed}
+use Rattle.core_guard.proofs.PlacesStay.{HasDone, BodyIsPlaced, PassIsPlaced, EachPlaced, acting, taken-out, body-placed, pass-placed, places-handles, handled-seen, places-seen, placed-forth, apart-placed, apart-nowhere, location-forth, pass-forth, planned-forth, published-forth, update-forth, stays-enclosed}
 use Rattle.core_guard.proofs.Seats.{seen_of, each-step, flat-step}
-use Rattle.core_guard.proofs.Leaving.{Acts, IsHandled, idle-places, published-stands, After, Last, Stays, IsApart, Leaves, Touches, home-back, each_update, stands-in_tree}
+use Rattle.core_guard.proofs.Leaving.{Acts, IsHandled, idle-places, published-stands, After, Last, Stays, IsApart, Leaves, Touches, home-back, each_update, stands-in_tree, IsCleared, child-back}
 use Rattle.core_guard.proofs.InPlace.{InPlace, stays-in_place}
 use Rattle.fixed_box.specs.FixBox.{words_of}
 use Rattle.scene_model.specs.declared.body_view.Phase.TheVariants.{In}
@@ -166,9 +166,9 @@ module _ (kind : Kind) (core : Core) (step : Step) (a : Acts core step) (later :
 
     -- the pass places what it placed, unless it is shown anew
     planned-own : (r : Rebuild) (noted : Noted) → option_map update_on_places step.view.rebuild ≡ Some r → Contains r.noted noted
-        → IsPlannedAt nodes Was step.number (seen_of location_scope step.number step.view) r noted
+        → HasDone kind core step a later New m step.number (seen_of location_scope step.number step.view) r noted → IsPlannedAt nodes Was step.number (seen_of location_scope step.number step.view) r noted
         → IsPlannedAt later Is step.number (seen_of location_scope step.number (Last kind core step)) r noted
-    planned-own r noted some among h = go (shown.bodies noted.index)
+    planned-own r noted some among finished h = go (shown.bodies noted.index)
       where
         one : Call
         one = step.view.call
@@ -179,7 +179,7 @@ module _ (kind : Kind) (core : Core) (step : Step) (a : Acts core step) (later :
         forth : IsPlacing one.task noted.index ↔ IsPlacing other.task noted.index → IsPlannedAt later Is step.number (seen_of location_scope step.number (Last kind core step)) r noted
         forth t =
             planned-forth kind core step a later New m step.number (seen_of location_scope step.number step.view) (seen_of location_scope step.number (Last kind core step)) r noted
-            (places-seen one other noted.index t.0, places-seen other one noted.index t.1) (second-kept noted.index) h
+            (places-seen one other noted.index t.0, places-seen other one noted.index t.1) (second-kept noted.index) finished h
 
         go : BodyLeft kind core step nodes later noted.index → IsPlannedAt later Is step.number (seen_of location_scope step.number (Last kind core step)) r noted
         go (body_stays b) = forth b.places
@@ -190,6 +190,19 @@ module _ (kind : Kind) (core : Core) (step : Step) (a : Acts core step) (later :
               λ places. absurd (b.alone_after (places-handles other.task noted.index places)),
             )
         go (body_anew b) = forth b.places
+
+    -- what an update says of its notes, and that it has done with those whose entry is cleared
+    abbrev Plans : ℕ → View → Rebuild → Noted → Type 0
+    Plans number view r noted = (r.is_planned ≡ true → length r.swapped ≤ noted.layer → IsPlannedAt nodes Was number view r noted) × HasDone kind core step a later New m number view r noted
+
+    plans : EachUpdate Was (λ number view r. (noted : Noted) → Contains r.noted noted → Plans number view r noted)
+    plans number view among pass = go view.rebuild (places.planned number view among pass) (λ n k c. c.done number view among pass)
+      where
+        go : (o : Option Rebuild) → IfSome o (λ r. (noted : Noted) → Contains r.noted noted → r.is_planned ≡ true → length r.swapped ≤ noted.layer → IsPlannedAt nodes Was number view r noted)
+            → ((n k : ℕ) (c : IsCleared kind core step nodes n k) → IfSome o (λ r. (noted : Noted) → Contains r.noted noted → noted.index ≡ c.index → noted.place ≡ place n k → nodes.home n ≡ made number noted.layer → IsDone view r c.index))
+            → IfSome o (λ r. (noted : Noted) → Contains r.noted noted → Plans number view r noted)
+        go None planned done = tt
+        go (Some r) planned done = λ noted among. (planned noted among, λ n k c one at home. subst (IsDone view r) (sym one) (done n k c noted among one at home))
 
     pub LocationsHold-leaves : LocationsHold later (After kind core step)
     LocationsHold-leaves = record {
@@ -202,7 +215,7 @@ module _ (kind : Kind) (core : Core) (step : Step) (a : Acts core step) (later :
           elim (m.stood n (stands-in_tree (later.home n) (published-stands (later.home n) published))) [
             | inl same ↦
                 let old : IsPublished (nodes.home n) = subst IsPublished same published in
-                let was = sym (m.child n k (stands-in_tree (nodes.home n) (published-stands (nodes.home n) old))) ∙ entry in
+                let was = child-back kind core step a nodes later New m n k (body_child i) (stands-in_tree (nodes.home n) (published-stands (nodes.home n) old)) (omega arith) entry in
                 location-kept i n k old was (places.entries i n k old below was)
             | inr new ↦ shown.entries i n k new published below entry
           ];
@@ -210,15 +223,16 @@ module _ (kind : Kind) (core : Core) (step : Step) (a : Acts core step) (later :
           elim (home-back kind core step a nodes later New m n (made number l) tt home) [
             | inl old ↦
                 update-forth kind core step a later New m number (NotedAt i n k l) (NotedAt i n k l) (λ r e. e)
-                (places.made_entries i n k number l old below (sym (m.child n k (subst IsInTree (sym old) tt)) ∙ entry))
+                (places.made_entries i n k number l old below (child-back kind core step a nodes later New m n k (body_child i) (subst IsInTree (sym old) tt) (omega arith) entry))
             | inr new ↦ shown.made_entries i n k number l new home below entry
           ];
       planned =
           each_update kind core step a nodes later New m location_scope (λ k v. refl) update_on_places (λ bare v. refl)
-          (λ number view r. (noted : Noted) → Contains r.noted noted → r.is_planned ≡ true → length r.swapped ≤ noted.layer → IsPlannedAt nodes Was number view r noted)
-          (λ number view r. (noted : Noted) → Contains r.noted noted → r.is_planned ≡ true → length r.swapped ≤ noted.layer → IsPlannedAt later Is number view r noted) places.planned
-          (λ number view r planned noted among made swapped. planned-forth kind core step a later New m number _ _ r noted (λ t. t, λ t. t) (second-kept noted.index) (planned noted among made swapped))
-          (λ r some planned noted among made swapped. planned-own r noted some among (planned noted among made swapped));
+          (λ number view r. (noted : Noted) → Contains r.noted noted → Plans number view r noted)
+          (λ number view r. (noted : Noted) → Contains r.noted noted → r.is_planned ≡ true → length r.swapped ≤ noted.layer → IsPlannedAt later Is number view r noted) plans
+          (λ number view r h noted among made swapped.
+          planned-forth kind core step a later New m number _ _ r noted (λ t. t, λ t. t) (second-kept noted.index) (h noted among).1 ((h noted among).0 made swapped))
+          (λ r some h noted among made swapped. planned-own r noted some among (h noted among).1 ((h noted among).0 made swapped));
       published =
           each_update kind core step a nodes later New m location_scope (λ k v. refl) update_on_places (λ bare v. refl)
           (λ number view r. (noted : Noted) → Contains r.noted noted → IsPublishedAt nodes r noted)

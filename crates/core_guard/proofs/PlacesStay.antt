@@ -18,7 +18,7 @@ use Rattle.core_state.specs.Core.{Core, scene_of, IsViewAt}
 use Rattle.core_state.specs.Kind.{Kind, Step}
 use Rattle.core_state.specs.Encoding.{body_child, place, Sides, sides_of, bound_in}
 use Rattle.core_state.specs.Parts.{call_by_task, call_on_places, update_on_places}
-use Rattle.core_state.specs.Nodes.{Nodes, Home, IsLive, Stands, IsInTree, Above}
+use Rattle.core_state.specs.Nodes.{Nodes, Home, made, IsLive, Stands, IsInTree, Above}
 use Rattle.core_state.specs.Scope.{Sight, sight, scene_in, bare_view, HasPass, EachPass}
 use Rattle.core_state.specs.TreesSound.{tree_scope}
 use Rattle.core_state.specs.Updates.{HasUpdate, IsStillMerged, IsPlacing, IsDone}
@@ -26,7 +26,7 @@ use Rattle.core_state.specs.LocationsHold.{LocationsHold, LocationsHoldIn, locat
 use Rattle.core_state.proofs.Beginning.{record_body}
 use Rattle.core_guard.proofs.Seats.{each-seat, has-step}
 use Rattle.core_guard.proofs.InPlace.{InPlace, stays-in_place, none-was, phase-back, phase-forth, in-stays, in-was, unremoved-stays, IsAlike, alike-forth}
-use Rattle.core_guard.proofs.Leaving.{Acts, IsHandled, IsIdle, idle-unhandled, LeadsWithin, sound-leads, After, Last, Stays, IsApart, Leaves, home-forth, stands-later, wider, above-stands, above-forth, above-back, has_update, record-back, stands-in_tree, held-once, live-stands, covers-more, out_held}
+use Rattle.core_guard.proofs.Leaving.{Acts, IsHandled, IsIdle, idle-unhandled, LeadsWithin, sound-leads, After, Last, Stays, IsApart, Leaves, home-forth, stands-later, wider, above-stands, above-forth, above-back, has_update, record-back, stands-in_tree, held-once, live-stands, covers-more, out_held, IsCleared, entry-kept}
 use Rattle.std.proofs.lemmas.Bool.{false≢true}
 use Rattle.core_state.proofs.Opening.{none_in}
 
@@ -133,10 +133,10 @@ pub gives-handles : (task : Task) (i : ℕ) (box : Sides) → GivesBox task i bo
 gives-handles (Moving index target) i box h = h.0
 gives-handles _ i box h = absurd h
 
-removes-busy : (i : ℕ) (task : Task) → IsIdle task → ¬ Removes task i
+pub removes-busy : (i : ℕ) (task : Task) → IsIdle task → ¬ Removes task i
 removes-busy i task calm h = idle-unhandled task i calm (removes-handles task i h)
 
-places-busy : (i : ℕ) (task : Task) → IsIdle task → ¬ IsPlacing task i
+pub places-busy : (i : ℕ) (task : Task) → IsIdle task → ¬ IsPlacing task i
 places-busy i task calm h = idle-unhandled task i calm (places-handles task i h)
 
 pub handled-seen : (call : Call) (i : ℕ) → IsHandled (call_on_places call).task i → IsHandled call.task i
@@ -175,6 +175,13 @@ held-alone nodes core h i held seat number view at pass handled =
     held-unhandled s (call_on_places view.call).task i p.unheld (λ removes. (p.removed i removes).out) held
     (task-seen (λ task. IsHandled task i) (λ task calm. idle-unhandled task i calm) view.call handled)
 
+-- where a first location of a body in the broad phase may be, others may reach it
+pub where-live : (nodes : Nodes) (s : Sight) (i layer n : ℕ) → IsWhere nodes s i layer n → IsLive (nodes.home n)
+where-live nodes s i layer n (in_slot t e home second) = subst IsLive (sym home) tt
+where-live nodes s i layer n (in_main e home second) = subst IsLive (sym home) tt
+where-live nodes s i layer n (in_old number name e second home of_layer) = subst IsLive (sym home) tt
+where-live nodes s i layer n (in_merged number t root e second home has) = subst IsLive (sym home) tt
+
 -- ---- the step
 
 module _ (kind : Kind) (core : Core) (step : Step) (a : Acts core step) (later : Nodes) (New : ℕ → Type 0) (m : Leaves kind core step a.laws.nodes later New) where
@@ -195,6 +202,9 @@ module _ (kind : Kind) (core : Core) (step : Step) (a : Acts core step) (later :
 
   pub home_forth : (n : ℕ) (home : Home) → IsInTree home → nodes.home n ≡ home → later.home n ≡ home
   home_forth = home-forth kind core step a nodes later New m
+
+  entry_kept : (n k i : ℕ) → Stands (nodes.home n) → HasBody (scene_of core) i (λ r. r.phase ≡ In) → Was.word (Child n k) ≡ body_child i → Is.word (Child n k) ≡ body_child i
+  entry_kept n k i stands = entry-kept kind core step a nodes later New m n k i (stands-in_tree (nodes.home n) stands)
 
   -- ---- ways up
 
@@ -273,7 +283,7 @@ module _ (kind : Kind) (core : Core) (step : Step) (a : Acts core step) (later :
           let old = in-was kind core step i b q e inside in
           let was = h.at old.0 n k old.1 old.2 (location-back n k location) in
           let box = enclosed q n k e inside location in
-          record { stands = later_stands n was.stands; entry = m.child n k (stands-in_tree (nodes.home n) was.stands) ∙ was.entry; bounds = box.0; box_words = box.1 };
+          record { stands = later_stands n was.stands; entry = entry_kept n k i was.stands (record_body (record_at (scene_of core) i) (λ x. x.phase ≡ In) old.0 old.1 old.2) was.entry; bounds = box.0; box_words = box.1 };
       first = λ q n k e inside below location.
           let old = in-was kind core step i b q e inside in
           where-forth q.layer n (in-stays kind core step i b q e inside).word (subst (λ (l : ℕ). IsWhere nodes Was i l n) (sym old.3) (h.first old.0 n k old.1 old.2 below (sym b.loc_a ∙ location)));
@@ -336,7 +346,7 @@ module _ (kind : Kind) (core : Core) (step : Step) (a : Acts core step) (later :
       cleared = λ n k location.
           let t = h.cleared n k (location-back i b n k location) in
           let child = m.child n k (stands-in_tree (nodes.home n) t.0) in
-          (later_stands n t.0, elim (t.1) [ inl e ↦ inl (child ∙ e) | inr e ↦ inr (child ∙ e.0, e.1, e.2) ]);
+          (later_stands n t.0, elim child [ inl same ↦ elim (t.1) [ inl e ↦ inl (same ∙ e) | inr e ↦ inr (same ∙ e.0, e.1, e.2) ] | inr c ↦ inl c.none ]);
       live = λ n k below e.
           let live = h.live n k below (sym b.loc_a ∙ e) in
           subst IsLive (sym (m.stays n (stands-in_tree (nodes.home n) (live-stands (nodes.home n) live)))) live;
@@ -370,11 +380,15 @@ module _ (kind : Kind) (core : Core) (step : Step) (a : Acts core step) (later :
 
   -- ---- what an update plans
 
+  -- what the step clears of an update's plan, the update has done with
+  abbrev pub HasDone : ℕ → View → Rebuild → Noted → Type 0
+  HasDone number v r noted = (n k : ℕ) (c : IsCleared kind core step nodes n k) → noted.index ≡ c.index → noted.place ≡ place n k → nodes.home n ≡ made number noted.layer → IsDone v r noted.index
+
   -- a view that is done with the same bodies
   pub planned-forth : (number : ℕ) (v w : View) (r : Rebuild) (noted : Noted) → (IsPlacing v.call.task noted.index ↔ IsPlacing w.call.task noted.index)
       → ((n k : ℕ) → Stands (nodes.home n) → k < 4 → Was.word (Child n k) ≡ body_child noted.index → Was.word (LocB noted.index) ≡ place n k → Is.word (LocB noted.index) ≡ place n k)
-      → IsPlannedAt nodes Was number v r noted → IsPlannedAt later Is number w r noted
-  planned-forth number v w r noted placing second h =
+      → HasDone number v r noted → IsPlannedAt nodes Was number v r noted → IsPlannedAt later Is number w r noted
+  planned-forth number v w r noted placing second finished h =
       let stands : Stands (nodes.home h.node) = subst Stands (sym h.made_for) tt in
       let child = m.child h.node h.child (stands-in_tree (nodes.home h.node) stands) in
       let back : IsDone w r noted.index → IsDone v r noted.index = λ done. elim done [ inl t ↦ inl (t.0, λ places. t.1 (placing.0 places)) | inr given ↦ inr given ] in
@@ -385,9 +399,18 @@ module _ (kind : Kind) (core : Core) (step : Step) (a : Acts core step) (later :
         below = h.below;
         at = h.at;
         made_for = home_forth h.node _ tt h.made_for;
-        entry = elim (h.entry) [ inl e ↦ inl (child ∙ e) | inr e ↦ inr (child ∙ e) ];
-        undone = λ undone. child ∙ h.undone (λ was. undone (forth was));
-        of_done = λ done e. let was = sym child ∙ e in second h.node h.child stands h.below was (h.of_done (back done) was ∙ h.at) ∙ sym h.at;
+        entry = elim child [ inl same ↦ elim (h.entry) [ inl e ↦ inl (same ∙ e) | inr e ↦ inr (same ∙ e) ] | inr c ↦ inr c.none ];
+        undone = λ undone.
+            let e = h.undone (λ was. undone (forth was)) in
+            elim child [
+              | inl same ↦ same ∙ e
+              | inr c ↦ let one : noted.index ≡ c.index = let was = c.was in omega arith in absurd (undone (forth (finished h.node h.child c one h.at h.made_for)))
+            ];
+        of_done = λ done e.
+            elim child [
+              | inl same ↦ let was = sym same ∙ e in second h.node h.child stands h.below was (h.of_done (back done) was ∙ h.at) ∙ sym h.at
+              | inr c ↦ let none = c.none in absurd (omega arith)
+            ];
       }
 
   pub published-forth : (r : Rebuild) (noted : Noted) → IsPublishedAt nodes r noted → IsPublishedAt later r noted

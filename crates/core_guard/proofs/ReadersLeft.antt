@@ -33,9 +33,9 @@ use Rattle.core_state.specs.Walking.{Query, Spot, resting, at_child, at_bound, P
 use Rattle.core_state.specs.ReadersCounted.{ReadersCounted, reader_scope, ReachesByChild, ReachesBySpot, the_node, the_node_of_bound, by_child, by_next_child, by_part, Reaches, by_stack, by_spot, layer_at_hand, waiting_at, AreApart, IsWalkedAt, WalkStays, ReadsInSpace, AvoidsSuperseded, HasSeenOff, ClimbsInTrees, IsPlannedBelow, IsSideOf, IsTight}
 use Rattle.core_state.proofs.Beginning.{body_record, record_body, cases_cons, last_point}
 use Rattle.core_state.proofs.Steps.{view-step}
-use Rattle.core_guard.proofs.Seats.{each-seat, each-seats, has-seat, each-step, has-step, has-unstep, seat-has, HasSeat, seat-before, steps_now, stays}
+use Rattle.core_guard.proofs.Seats.{each-seat, each-seats, has-seat, each-step, has-step, has-unstep, seat-has, seat-before, steps_now, stays}
 use Rattle.core_guard.proofs.Growing.{point-grown, length-grown, had_in_layer-grown}
-use Rattle.core_guard.proofs.Leaving.{Acts, if_some_map, if_some_both, some_and_map, IsHandled, IsIdle, LeadsWithin, sound-leads, stands-in_tree, After, Last, Stays, Leaves, Touches, above-forth, above-back, each_update, live-stands, other-number}
+use Rattle.core_guard.proofs.Leaving.{Acts, if_some_map, if_some_both, some_and_map, IsHandled, IsIdle, LeadsWithin, sound-leads, stands-in_tree, After, Last, Stays, Leaves, Touches, above-forth, above-back, each_update, live-stands, other-number, none-kept, child-back}
 use Rattle.core_guard.proofs.InPlace.{InPlace, stays-in_place, creation-forth}
 use Rattle.core_state.specs.BodiesCovered.{cover_scope}
 use Rattle.scene_model.specs.History.{point}
@@ -232,8 +232,11 @@ module _ (kind : Kind) (core : Core) (step : Step) (a : Acts core step) (later :
   leads : LeadsWithin Before Old.word
   leads = let t = sound-leads Before (sight tree_scope core) a.laws.trees in record { up = t.up; down = t.down }
 
-  child : (n k : ℕ) → Stands (Before.home n) → Now.word (Child n k) ≡ Old.word (Child n k)
-  child n k stands = m.child n k (stands-in_tree (Before.home n) stands)
+  node-back : (n k x : ℕ) → Stands (Before.home n) → Now.word (Child n k) ≡ node_child x → Old.word (Child n k) ≡ node_child x
+  node-back n k x stands e = child-back kind core step a Before later New m n k (node_child x) (stands-in_tree (Before.home n) stands) (omega arith) e
+
+  none-forth : (n k : ℕ) → Stands (Before.home n) → Old.word (Child n k) ≡ 0 → Now.word (Child n k) ≡ 0
+  none-forth n k stands e = none-kept kind core step a Before later New m n k (stands-in_tree (Before.home n) stands) e
 
   stay : (n : ℕ) → Stands (Before.home n) → later.home n ≡ Before.home n
   stay n stands = m.stays n (stands-in_tree (Before.home n) stands)
@@ -246,7 +249,7 @@ module _ (kind : Kind) (core : Core) (step : Step) (a : Acts core step) (later :
   below-back : (n x : ℕ) → Stands (Before.home n) → Below Now.word n x → Below Old.word n x
   below-back n x stands (itself y) = itself y
   below-back n x stands (lower y k z w below e rest) =
-      let old : Old.word (Child n k) ≡ node_child z = sym (child n k stands) ∙ e in
+      let old = node-back n k z stands e in
       lower n k z x below old (below-back z x (below-stands n k z stands below old) rest)
 
   module _ (loads : List Load) (at : Position) (was : WalkStays Before Old.word loads at) where
@@ -258,7 +261,7 @@ module _ (kind : Kind) (core : Core) (step : Step) (a : Acts core step) (later :
 
     reach_child-back : (n from x : ℕ) → Stands (Before.home n) → ReachesByChild Now.word n from x → ReachesByChild Old.word n from x
     reach_child-back n from x stands h =
-        let old = sym (child n h.0 stands) ∙ h.4 in
+        let old = node-back n h.0 h.1 stands h.4 in
         (h.0, h.1, h.2, h.3, old, below-back h.1 x (below-stands n h.0 h.1 stands h.3 old) h.5)
 
     spot-back : (x : ℕ) (spot : Spot) → ((y : ℕ) → ReachesBySpot Old.word y spot → Stands (Before.home y)) → ReachesBySpot Now.word x spot → ReachesBySpot Old.word x spot
@@ -375,7 +378,7 @@ module _ (kind : Kind) (core : Core) (step : Step) (a : Acts core step) (later :
             let stands : Stands (Before.home n) = subst Stands (sym old) tt in
             hull-by (TightSide Old r n k) (TightSide Now r n k) (bound_in Old.word n k) (bound_in Now.word n k)
             (λ q side counts. (counts.0, counts.1, planned-forth r counts.0 n k plans counts.1 counts.2, gives counts.0 q side counts.1 counts.3)) (λ q. fresh n k q l old)
-            (tight n k l old below (λ none. full (child n k stands ∙ none)))
+            (tight n k l old below (λ none. full (none-forth n k stands none)))
         | inr new ↦ absurd (unmade n number l new home)
       ]
 
@@ -420,7 +423,7 @@ module _ (kind : Kind) (core : Core) (step : Step) (a : Acts core step) (later :
                   let was = subst IsLive home live in
                   let of = subst (IsOfLayer l) home layer in
                   hull-by (IsInLayer Old l) (IsInLayer Now l) (bound_in Old.word n k) (bound_in Now.word n k) (c.layers l) (λ q. c.live n k q l was of)
-                  (h.space n k l was of below (λ none. full (child n k (live-stands (Before.home n) was) ∙ none)))
+                  (h.space n k l was of below (λ none. full (none-forth n k (live-stands (Before.home n) was) none)))
               | inr new ↦ c.new n k l new live layer below full
             ];
         tight =
@@ -492,20 +495,30 @@ module _ (kind : Kind) (core : Core) (step : Step) (a : Acts core step) (later :
   had-now : (index : ℕ) (P : Record → Type 0) → HasBody (scene_of (After kind core step)) index P → HasBody (point core.config.bodies Now.history (length Now.history)) index P
   had-now index P h = subst (λ (s : Scene). HasBody s index P) (sym (last_point (After kind core step))) h
 
+  -- what the own pass is to give is on its way
+  pub coming-now : (index q side : ℕ) → IsTarget (Last kind core step).call.task index q side → IsComing Now index q side
+  coming-now index q side target = (
+    step.number,
+    seat-has reader_scope (λ k v. refl) (After kind core step) step.number (λ v. IsTarget v.call.task index q side) (record {
+      seat = step.seat;
+      view = Last kind core step;
+      at = view-step kind core step a.at;
+      pass = a.pass;
+      holds = target-seen (Last kind core step).call.task index q side target;
+    }),
+  )
+
   coming-left : KeepsTargets → (index q side : ℕ) → IsComing Old index q side → IsComing Now index q side ⊎ HasSide index q side
   coming-left t index q side h =
       let from = has-seat reader_scope (λ k v. refl) core h.0 (λ v. IsTarget v.call.task index q side) h.1 in
       elim (seat-before reader_scope (λ k v. refl) kind core step a.at a.pass from.seat h.0 from.view from.at from.pass) [
         | steps_now same one two ↦
             elim (t.targets index q side (target-was step.view.call.task index q side (subst (λ (v : View). IsTarget (task_at_place v.call.task) index q side) (sym one) from.holds))) [
-              | inl target ↦ inl (comes step.number (record { seat = step.seat; view = Last kind core step; at = view-step kind core step a.at; pass = a.pass; holds = target-seen (Last kind core step).call.task index q side target }))
+              | inl target ↦ inl (coming-now index q side target)
               | inr has ↦ inr has
             ]
-        | stays apart new ↦ inl (comes h.0 (record { seat = from.seat; view = from.view; at = new; pass = from.pass; holds = from.holds }))
+        | stays apart new ↦ inl (h.0, seat-has reader_scope (λ k v. refl) (After kind core step) h.0 (λ v. IsTarget v.call.task index q side) (record { seat = from.seat; view = from.view; at = new; pass = from.pass; holds = from.holds }))
       ]
-    where
-      comes : (number : ℕ) → HasSeat reader_scope (λ k v. refl) (After kind core step) number (λ v. IsTarget v.call.task index q side) → IsComing Now index q side
-      comes number seat = (number, seat-has reader_scope (λ k v. refl) (After kind core step) number (λ v. IsTarget v.call.task index q side) seat)
 
   coming-keeps : KeepsTargets → (index q side : ℕ) → IsComing Old index q side → KeepsLayer index
   coming-keeps t index q side h =

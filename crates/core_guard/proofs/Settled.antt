@@ -28,7 +28,9 @@ use Rattle.core_state.specs.Core.{Core, word_of, scene_of}
 use Rattle.core_state.specs.Kind.{Step}
 use Rattle.core_state.specs.Formed.{IsMadeOn, IsSoundItem, IsSoundView}
 use Rattle.core_state.specs.Guards.{Owns, by_lock, IsBodyWord, IsQuiet, scene_at}
-use Rattle.core_state.specs.Moving.{IsSettled}
+use Rattle.core_state.specs.Moving.{IsSettled, IsKnownLocation}
+use Rattle.core_state.specs.Scope.{sight}
+use Rattle.core_state.specs.LocationsHold.{location_scope, IsLocation}
 use Rattle.core_state.proofs.Forming.{unspent_pass}
 use Rattle.core_state.proofs.Guarding.{own-less, owned-still, live-still}
 use Rattle.core_state.proofs.Reading.{word-other}
@@ -135,6 +137,14 @@ module _ (c : Config) (view : View) (i : ℕ) (mode : Mode) (holds : Holds view 
 all_second : {X : Type 0} (P : X → Type 0) (xs ys : List X) → All P (xs ++ ys) → All P ys
 all_second P [] ys h = h
 all_second P (x ∷ xs) ys h = all_second P xs ys (All-tail P x (xs ++ ys) h)
+
+-- where its location words are what the pass knows, a location that the pass knows is one, and the other way round
+module _ (core : Core) (view : View) (i : ℕ) (first : word_of core (LocA i) ≡ known_word view (LocA i)) (second : word_of core (LocB i) ≡ known_word view (LocB i)) where
+  pub known-location : (n k : ℕ) → IsKnownLocation view i n k → IsLocation (sight location_scope core) i n k
+  known-location n k h = (h.0, elim (h.1) [ inl e ↦ inl (first ∙ e) | inr e ↦ inr (second ∙ e) ])
+
+  pub location-known : (n k : ℕ) → IsLocation (sight location_scope core) i n k → IsKnownLocation view i n k
+  location-known n k h = (h.0, elim (h.1) [ inl e ↦ inl (sym first ∙ e) | inr e ↦ inr (sym second ∙ e) ])
 
 -- its record and its words are those that the pass knows
 pub record StandsStill (core : Core) (view : View) (i : ℕ) : Type 0 where

@@ -95,7 +95,7 @@ module _ (kind : Kind) (core : Core) (step : Step) (s : IsStill kind core step) 
     stays = λ n inside. refl;
     depth = λ n inside. refl;
     stood = λ n inside. inl refl;
-    child = λ n k inside. s.words (Child n k) (λ p e. absurd cc);
+    child = λ n k inside. inl (s.words (Child n k) (λ p e. absurd cc));
     parent = λ n inside. s.words (Parent n) (λ p e. absurd cc);
     wide = λ n k q stands. let same = s.words (Bound n k q) (λ p e. absurd cc) in (λ low. omega arith, λ high. omega arith);
     names = names-forth;

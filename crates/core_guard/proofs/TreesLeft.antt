@@ -9,7 +9,7 @@ use Rattle.core_state.specs.declared.view.Rebuild.{Rebuild}
 use Rattle.core_state.specs.declared.view.Waiting.{Waiting}
 use Rattle.core_state.specs.Core.{Core, word_of}
 use Rattle.core_state.specs.Kind.{Kind, Step}
-use Rattle.core_state.specs.Encoding.{NamesRoot, IsBox, Sides, bound_in}
+use Rattle.core_state.specs.Encoding.{node_child, NamesRoot, IsBox, Sides, bound_in}
 use Rattle.core_state.specs.Nodes.{Nodes, Home, owned, made, under, superseded, returning, Stands, IsInTree, IsOwnedBy, node_in}
 use Rattle.core_state.specs.Parts.{update_on_trees}
 use Rattle.core_state.specs.Scope.{Sight, sight, word_in, HasPass}
@@ -17,7 +17,7 @@ use Rattle.core_state.specs.Updates.{EachUpdate, HasUpdate}
 use Rattle.core_state.specs.TreesSound.{TreesSound, tree_scope, IsRootOf, IsSupersededRoot, IsChild, nothing, a_body, a_node, IsPlaced, as_root, at_place, IsSoundNode, IsAsStored, IsLeft, as_top, below, IsLeftNode, IsTop, AreTops, RootsMade, RootsSuperseded}
 use Rattle.core_state.proofs.Steps.{word-step-other}
 use Rattle.core_guard.proofs.Seats.{each-seat, each-step}
-use Rattle.core_guard.proofs.Leaving.{Acts, After, Last, Leaves, Touches, if_some_with, stands-in_tree, home-forth, home-back, has_update, each_update, other-number}
+use Rattle.core_guard.proofs.Leaving.{Acts, After, Last, Leaves, Touches, if_some_with, stands-in_tree, home-forth, home-back, has_update, each_update, other-number, none-kept, node-kept}
 
 -- ---- what passes stored in their own nodes
 
@@ -109,18 +109,24 @@ module _ (kind : Kind) (core : Core) (step : Step) (a : Acts core step) (later :
 
   -- ---- nodes in trees
 
+  none_kept : (n k : ℕ) → IsInTree (nodes.home n) → Old.word (Child n k) ≡ 0 → Now.word (Child n k) ≡ 0
+  none_kept = none-kept kind core step a nodes later New m
+
+  node_kept : (n k x : ℕ) → IsInTree (nodes.home n) → Old.word (Child n k) ≡ node_child x → Now.word (Child n k) ≡ node_child x
+  node_kept = node-kept kind core step a nodes later New m
+
   child-forth : (n k : ℕ) → IsInTree (nodes.home n) → IsChild nodes Old n k → IsChild later Now n k
-  child-forth n k inside (nothing e) = nothing (m.child n k inside ∙ e)
-  child-forth n k inside (a_body i low e) = a_body i low (m.child n k inside ∙ e)
+  child-forth n k inside (nothing e) = nothing (none_kept n k inside e)
+  child-forth n k inside (a_body i low e) = elim (m.child n k inside) [ inl same ↦ a_body i low (same ∙ e) | inr c ↦ nothing c.none ]
   child-forth n k inside (a_node x e home parent depth) =
       let same : IsInTree (nodes.home x) = subst IsInTree (sym home) inside in
-      a_node x (m.child n k inside ∙ e) (m.stays x same ∙ (home ∙ sym (m.stays n inside))) (m.parent x same ∙ parent) (m.depth x same ∙ (depth ∙ ap suc (sym (m.depth n inside))))
+      a_node x (node_kept n k x inside e) (m.stays x same ∙ (home ∙ sym (m.stays n inside))) (m.parent x same ∙ parent) (m.depth x same ∙ (depth ∙ ap suc (sym (m.depth n inside))))
 
   placed-forth : (x : ℕ) → IsInTree (nodes.home x) → IsPlaced nodes Old x → IsPlaced later Now x
   placed-forth x inside (as_root e root) = as_root (m.parent x inside ∙ e) (subst (λ (home : Home). IsRootOf Now home x) (sym (m.stays x inside)) (root-forth (nodes.home x) x root))
   placed-forth x inside (at_place n k low e child home) =
       let same : IsInTree (nodes.home n) = subst IsInTree (sym home) inside in
-      at_place n k low (m.parent x inside ∙ e) (m.child n k same ∙ child) (m.stays n same ∙ (home ∙ sym (m.stays x inside)))
+      at_place n k low (m.parent x inside ∙ e) (node_kept n k x same child) (m.stays n same ∙ (home ∙ sym (m.stays x inside)))
 
   height-forth : (n : ℕ) → IsInTree (nodes.home n) → nodes.depth n < 10 → later.depth n < 10
   height-forth n inside low = subst (λ (d : ℕ). d < 10) (sym (m.depth n inside)) low
@@ -133,7 +139,7 @@ module _ (kind : Kind) (core : Core) (step : Step) (a : Acts core step) (later :
         children = λ k low. child-forth n k inside (node.children k low);
         placed = placed-forth n inside node.placed;
         height = height-forth n inside node.height;
-        bounds = λ k low some. boxes n k stands (node.bounds k low (λ none. some (m.child n k inside ∙ none)));
+        bounds = λ k low some. boxes n k stands (node.bounds k low (λ none. some (none_kept n k inside none)));
       }
 
   -- ---- what is left of trees that are given back
@@ -146,7 +152,7 @@ module _ (kind : Kind) (core : Core) (step : Step) (a : Acts core step) (later :
       go : IsInTree (nodes.home n) → IsLeft nodes Old number r n → IsLeft later Now number r n
       go inside (as_top level among) = as_top level among
       go inside (below x k low parent child at) =
-          below x k low (m.parent n inside ∙ parent) (m.child x k (subst IsInTree (sym at) tt) ∙ child) (home-forth kind core step a nodes later New m x (returning number) tt at)
+          below x k low (m.parent n inside ∙ parent) (node_kept x k n (subst IsInTree (sym at) tt) child) (home-forth kind core step a nodes later New m x (returning number) tt at)
 
   module _ (come : ComeSound kind core step nodes later New) where
     was-returning : (n number : ℕ) → later.home n ≡ returning number → nodes.home n ≡ returning number
@@ -196,7 +202,10 @@ module _ (kind : Kind) (core : Core) (step : Step) (a : Acts core step) (later :
       go (Parent x) of is = m.parent x (stands-in_tree (nodes.home x) (there x of)) ∙ is
       go (Child x k) of is =
           let same = m.child x k (stands-in_tree (nodes.home x) (there x of)) in
-          elim is [ inl e ↦ inl (same ∙ e) | inr t ↦ inr (same ∙ t.0, t.1) ]
+          elim same [
+            | inl same ↦ elim is [ inl e ↦ inl (same ∙ e) | inr t ↦ inr (same ∙ t.0, t.1) ]
+            | inr c ↦ elim is [ inl e ↦ inr (c.none, (c.index, sym e ∙ c.was)) | inr t ↦ inr (c.none, t.1) ]
+          ]
       go (Bound x k q) of is =
           let wide = m.wide x k q (there x of) in
           (λ low. let one = wide.0 low in let two = is.0 low in omega arith, λ high. let one = wide.1 high in let two = is.1 high in omega arith)

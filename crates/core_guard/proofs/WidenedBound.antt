@@ -18,7 +18,16 @@ use Rattle.core_guard.proofs.Leaving.{Acts, After, Last, Leaves, step-goes_on, r
 use Rattle.core_guard.proofs.TreesLeft.{KeepsBoxes, come-none, stored-left, TreesSound-leaves}
 use Rattle.core_guard.proofs.WalksLeft.{WalksLead-leaves}
 
-abbrev side_of : Name → ℕ
+-- the node, the child and the side of a word of a bound
+abbrev pub node_of : Name → ℕ
+node_of (Bound n k q) = n
+node_of _ = 0
+
+abbrev pub child_of : Name → ℕ
+child_of (Bound n k q) = k
+child_of _ = 0
+
+abbrev pub side_of : Name → ℕ
 side_of (Bound n k q) = q
 side_of _ = 0
 
@@ -63,14 +72,6 @@ module _ (kind : Kind) (core : Core) (step : Step) (a : Acts core step) where
               is_widened (ap node_of e) (ap child_of e) (ap side_of e) (ap (word_of core) same) (ap (word_of (After kind core step)) same ∙ word-step kind core step)
           | inr other ↦ as_it_was (word-step-other kind core step (Bound n k q) other)
         ]
-      where
-        node_of : Name → ℕ
-        node_of (Bound x y z) = x
-        node_of _ = 0
-
-        child_of : Name → ℕ
-        child_of (Bound x y z) = y
-        child_of _ = 0
 
     only-widens : (n k q : ℕ) → (q < 3 → word_of (After kind core step) (Bound n k q) ≤ word_of core (Bound n k q)) × (3 ≤ q → word_of core (Bound n k q) ≤ word_of (After kind core step) (Bound n k q))
     only-widens = side-widens kind core step node child side w.names w.wide
@@ -116,7 +117,7 @@ module _ (kind : Kind) (core : Core) (step : Step) (a : Acts core step) where
       stays = λ n inside. refl;
       depth = λ n inside. refl;
       stood = λ n inside. inl refl;
-      child = λ n k inside. unnamed (Child n k) (λ e. absurd cc);
+      child = λ n k inside. inl (unnamed (Child n k) (λ e. absurd cc));
       parent = λ n inside. unnamed (Parent n) (λ e. absurd cc);
       wide = λ n k q stands. only-widens n k q;
       names = λ name root. (roots name root).0;

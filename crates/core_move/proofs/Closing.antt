@@ -39,4 +39,4 @@ moved-enclosed before after steps formed guards h n k location =
     let asked = steps.allowed.asked in
     let a = acts-of MayStoreLastSide store_last_side before after steps formed guards h in
     subst (λ (c : Core). Encloses (sight location_scope c) n k (sides_of (words_of asked.bounds))) (sym steps.result)
-    (wide-now before step a asked.index asked.names asked.settled asked.bounds asked.box asked.stores n k (subst (λ (c : Core). IsLocation (sight location_scope c) asked.index n k) steps.result location))
+    (wide-now before step a asked n k (subst (λ (c : Core). IsLocation (sight location_scope c) asked.index n k) steps.result location))

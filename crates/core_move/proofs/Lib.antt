@@ -1,4 +1,3 @@
-pub mod Standing
 pub mod MoveSteps
 pub mod Widening
 pub mod WidenSteps

@@ -11,7 +11,7 @@ use Rattle.core_state.specs.declared.view.Rebuild.{Rebuild}
 use Rattle.core_state.specs.declared.view.View.{View}
 use Rattle.core_state.specs.View.{known_word}
 use Rattle.core_state.specs.Core.{Core, word_of, scene_of}
-use Rattle.core_state.specs.Kind.{Steps, after_step}
+use Rattle.core_state.specs.Kind.{Step, Steps, after_step}
 use Rattle.core_state.specs.Removing.{HasClearedEntries, MayClearLocation, the_first, the_second, clear_location}
 use Rattle.core_state.specs.Parts.{update_on_nodes, update_on_places}
 use Rattle.core_state.specs.NodesInOnePlace.{node_scope}
@@ -24,11 +24,12 @@ use Rattle.core_state.specs.TreesSound.{tree_scope}
 use Rattle.core_state.specs.Updates.{HasUpdate, IsNoted, IsMadeIn, IsPlacing, IsDone}
 use Rattle.core_state.specs.LocationsHold.{location_scope, IsRemoved, Removes, IsPlannedAt}
 use Rattle.core_state.specs.Invariants.{Invariants}
-use Rattle.core_guard.proofs.Leaving.{Acts, LeadsWithin, sound-leads, idle-unhandled, acts-of}
+use Rattle.core_guard.proofs.Leaving.{Acts, After, LeadsWithin, sound-leads, idle-unhandled, acts-of}
 use Rattle.core_guard.proofs.PlacesStay.{seen-task, removes-handles, places-handles}
 use Rattle.core_guard.proofs.Seats.{seen_of, has-seat, each-seat}
 use Rattle.core_guard.proofs.Owners.{same-view}
-use Rattle.core_move.proofs.LocationStores.{Invariants-clear_location, ends-nowhere}
+use Rattle.core_move.proofs.LocationStores.{Invariants-clear_location, clears, stored, left}
+use Rattle.core_guard.proofs.OutBody.{out-after}
 use Rattle.core_move.specs.Nowhere.{HasEntry, HasNoLocation, IsNowhere, IsLeaving, IsToBeGivenUp}
 
 module _ (core : Core) (index : ℕ) (h : Invariants core) where
@@ -119,6 +120,14 @@ module _ (core : Core) (index : ℕ) (h : Invariants core) where
       )
 
 -- ---- the end of a removal
+
+-- with the second location the body is nowhere
+ends-nowhere : (core : Core) (step : Step) (a : Acts core step) (i : ℕ) → step.name ≡ LocB i → HasClearedEntries step.view i → known_word step.view (LocA i) ≡ 0 → step.first ≡ 0
+    → (word_of (After clear_location core step) (LocA i) ≡ 0) × (word_of (After clear_location core step) (LocB i) ≡ 0) × HasBody (scene_of (After clear_location core step)) i (λ r. r.phase ≡ Out)
+unfolding clears
+ends-nowhere core step a i names entries first none =
+    let c = clears core step a (the_second i names entries first none) in
+    (c.first, stored core step (LocB i) none names, out-after clear_location core step a i c.call (left core step a c))
 
 first_second : (i index : ℕ) → LocA i ≢ LocB index
 first_second i index e = absurd cc

@@ -38,6 +38,10 @@ use Rattle.scene_model.specs.Scene.{record_at, Record}
 pub last-or : {X : Type 0} (xs : List X) (x y : X) → Contains (xs ++ x ∷ []) y → Contains xs y ⊎ (x ≡ y)
 last-or xs x y h = elim (Contains-append_cases xs (x ∷ []) y h) [ inl old ↦ inl old | inr new ↦ inr (only x y new) ]
 
+-- the call with what the step stores
+abbrev pub stored_more : Step → Call
+stored_more step = record step.view.call { stores = step.view.call.stores ++ record { name = step.name; value = step.first } ∷ [] }
+
 module _ (kind : Kind) (core : Core) (step : Step) (a : Acts core step) (i : ℕ) (task : step.view.call.task ≡ Removing i) where
   pub stripe : Holds step.view (stripe_of core.config i) Write
   stripe =
@@ -90,28 +94,24 @@ module _ (kind : Kind) (core : Core) (step : Step) (a : Acts core step) (i : ℕ
 
   -- ---- a store more in the own call
 
-  abbrev pub with_more : Store → Call
-  with_more new = record step.view.call { stores = step.view.call.stores ++ new ∷ [] }
-
   -- who takes a body out widens no bound and climbs nowhere: so what is said of the pass is what is said of the body
-  pub more-placed : (s : Sight) (new : Store) → ((n k q : ℕ) → Bound n k q ≢ new.name) → IsTakenOut a.laws.nodes s (acting (with_more new) (SeenUpdate kind core step)) i
-      → PassIsPlaced a.laws.nodes s (call_on_places (with_more new)) (SeenUpdate kind core step)
-  more-placed s new unwidened still =
+  pub more-placed : (s : Sight) → ((n k q : ℕ) → Bound n k q ≢ step.name) → IsTakenOut a.laws.nodes s (acting (stored_more step) (SeenUpdate kind core step)) i → PassIsPlaced a.laws.nodes s (call_on_places (stored_more step)) (SeenUpdate kind core step)
+  more-placed s unwidened still =
       let none : (n k : ℕ) → ¬ ClimbsFrom Was (acting step.view.call (SeenUpdate kind core step)) step.view.call.task n k = λ n k climbs. subst (λ (t : Task). ClimbsFrom Was (acting step.view.call (SeenUpdate kind core step)) t n k) task climbs in
-      subst (λ (c : Call). PassIsPlaced a.laws.nodes s c (SeenUpdate kind core step)) (sym (ap (λ (t : Task). call_by_task t (with_more new)) task))
+      subst (λ (c : Call). PassIsPlaced a.laws.nodes s c (SeenUpdate kind core step)) (sym (ap (λ (t : Task). call_by_task t (stored_more step)) task))
       (record {
-        removed = λ j removes. subst (IsTakenOut a.laws.nodes s (acting (with_more new) (SeenUpdate kind core step))) (subst (λ (t : Task). Removes t j) task removes) still;
+        removed = λ j removes. subst (IsTakenOut a.laws.nodes s (acting (stored_more step) (SeenUpdate kind core step))) (subst (λ (t : Task). Removes t j) task removes) still;
         unheld = subst (IsUnheld s) (sym task) tt;
         widened = λ j n k box gives stored at. absurd (subst (λ (t : Task). GivesBox t j box) task gives);
         still_wide = λ n k q value among. let t = own-places.widened_on_way n k q value (old n k q value among) in absurd (none t.0 t.1 t.2);
-        climbs_from = λ n k climbs. absurd (subst (λ (t : Task). ClimbsFrom s (acting (with_more new) (SeenUpdate kind core step)) t n k) task climbs);
+        climbs_from = λ n k climbs. absurd (subst (λ (t : Task). ClimbsFrom s (acting (stored_more step) (SeenUpdate kind core step)) t n k) task climbs);
         on_its_way = λ m value among. let t = own-places.on_its_way m value among in absurd (none t.1.0 t.1.1 t.1.3);
         widened_on_way = λ x y q value among. let t = own-places.widened_on_way x y q value (old x y q value among) in absurd (none t.0 t.1 t.2);
       })
     where
-      old : (n k q value : ℕ) → Contains (with_more new).stores (record { name = Bound n k q; value = value }) → Contains step.view.call.stores (record { name = Bound n k q; value = value })
+      old : (n k q value : ℕ) → Contains (stored_more step).stores (record { name = Bound n k q; value = value }) → Contains step.view.call.stores (record { name = Bound n k q; value = value })
       old n k q value among =
-          elim (last-or step.view.call.stores new (record { name = Bound n k q; value = value }) among) [
+          elim (last-or step.view.call.stores _ (record { name = Bound n k q; value = value }) among) [
             | inl before ↦ before
             | inr last ↦ absurd (unwidened n k q (sym (ap (λ (s : Store). s.name) last)))
           ]

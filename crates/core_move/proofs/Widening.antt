@@ -7,7 +7,6 @@ use Rattle.std.proofs.Math.Nat.{min-le_left, min-le_right, min-eq_left, min-eq_r
 use Rattle.std.proofs.Math.ListN.{get_or-append}
 use Rattle.std.proofs.lemmas.List.{length-append, get_or_push}
 use Rattle.word_map.specs.declared.name.Name.TheVariants.{Bound}
-use Rattle.core_state.specs.declared.item.Load.{Load}
 use Rattle.core_state.specs.declared.item.Store.{Store}
 use Rattle.core_state.specs.declared.view.Task.{Task}
 use Rattle.core_state.specs.declared.view.Task.TheVariants.{Moving}
@@ -17,7 +16,7 @@ use Rattle.core_state.specs.Operation.{Operation, fetch_min, fetch_max, result_o
 use Rattle.core_state.specs.Kind.{Kind, Step, learned}
 use Rattle.core_state.specs.Bodies.{is_box_word, has_box_word}
 use Rattle.core_state.specs.Moving.{IsKnownLocation, HasComeTo, at_start, BeginsMove, IsSideOfTarget, an_old, the_next, GoesOnMoving, begins_move, goes_on_moving, MayWiden, target_with, side_in, widened_by}
-use Rattle.core_move.proofs.MoveSteps.{IsUnderWay, has_begun, begins_now}
+use Rattle.core_move.proofs.MoveSteps.{Under, has_begun, begins_now, target_of, call_under, call_more}
 use Rattle.core_guard.proofs.Recalled.{Recalls}
 
 -- ---- both kinds
@@ -90,23 +89,17 @@ module _ (operation : Operation) (index : ℕ) (core : Core) (step : Step) where
   new_store = record { name = step.name; value = step.first }
 
   pub record Goes (node child side : ℕ) : Type 0 where
-    pub target : List ℕ
+    pub u : Under index step.view.call
     pub next : List ℕ
-    pub loads : List Load
-    pub stored : List Store
-    pub under : IsUnderWay index step.view.call target loads stored
-    pub come : HasComeTo (record { task = Moving index target; loads = loads; stores = stored }) (IsKnownLocation step.view index) node child
-    pub grown : IsGrown target next side step.first
-    pub recalls : Recalls kind core step (record { task = Moving index next; loads = loads; stores = stored ++ new_store ∷ [] })
+    pub come : HasComeTo (call_under index step.view.call u) (IsKnownLocation step.view index) node child
+    pub grown : IsGrown (target_of index step.view.call u) next side step.first
+    pub recalls : Recalls kind core step (call_more index step.view.call u next new_store)
 
   module _ (node child side : ℕ) (names : step.name ≡ Bound node child side) (below : side < 6) where
     begins : BeginsMove step.view index node child side → Goes node child side
     begins b = record {
-      target = [];
+      u = begins_now b.idle;
       next = step.first ∷ [];
-      loads = [];
-      stored = [];
-      under = begins_now b.idle;
       come = at_start b.location;
       grown = record {
         old = λ q inside. absurd (omega arith);
@@ -118,11 +111,8 @@ module _ (operation : Operation) (index : ℕ) (core : Core) (step : Step) where
 
     goes-on : GoesOnMoving step.view index node child side step.first → Goes node child side
     goes-on g = record {
-      target = g.target;
+      u = has_begun g.target g.task;
       next = target_with g.target side step.first;
-      loads = step.view.call.loads;
-      stored = step.view.call.stores;
-      under = has_begun g.target g.task;
       come = subst (λ (c : Call). HasComeTo c (IsKnownLocation step.view index) node child) (λ i. record { task = g.task i; loads = step.view.call.loads; stores = step.view.call.stores }) g.come;
       grown = target-grown g.target side step.first below g.side;
       recalls = ap (λ (t : Task). widened_by t index (learned core step) step.name step.first) g.task

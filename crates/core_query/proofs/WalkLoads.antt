@@ -31,7 +31,7 @@ use Rattle.core_state.proofs.Steps.{word-step-unstored}
 use Rattle.core_guard.proofs.Seats.{each-seat}
 use Rattle.core_guard.proofs.Leaving.{Acts, After, Leaves, each_update}
 use Rattle.core_guard.proofs.ReadersLeft.{WalkIn, Off, walk-forth, walk_space-forth, avoids-forth, seen-back}
-use Rattle.core_guard.proofs.WalksLeft.{WalksLead-goes_on, walk-left, begun-left}
+use Rattle.core_guard.proofs.WalksLeft.{WalksLead-goes_on, walk-left, begun-left, begun-was}
 use Rattle.core_guard.proofs.Still.{IsStill, still-leaves, still-boxes, still-counts, ReadersCounted-still}
 use Rattle.core_guard.proofs.Light.{IsLight, Invariants-light, law-kept, unread}
 use Rattle.core_guard.proofs.Holders.{IsGuarded}
@@ -167,7 +167,7 @@ module _ (notes : View → Name → List ℕ) (core : Core) (step : Step) (a : A
   leads =
       let boxes = still-boxes kind core step still a in
       WalksLead-goes_on kind core step a nodes No_new left boxes
-      (λ on query follows. walk-left kind core step a nodes No_new left Later (position_of core.config query Later.loads) (stays-on query follows) boxes query (leads-on query follows))
+      (λ on query follows. walk-left kind core step a nodes No_new left Later (position_of core.config query Later.loads) (stays-on query follows) boxes (begun-was kind core step a nodes No_new left) query (leads-on query follows))
       (begun-left kind core step a nodes No_new left)
 
   -- what it reaches stays

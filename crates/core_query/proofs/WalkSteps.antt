@@ -129,7 +129,7 @@ module _ (core : Core) (step : Step) (a : Acts core step) (asked : MayBegin step
       let new = new_walk (learned core step) in
       WalksLead-goes_on begin_walk core step a a.laws.nodes (λ n. ⊥) left boxes
       (λ on query follows.
-      walk-left begin_walk core step a a.laws.nodes (λ n. ⊥) left new (start core.config query) (start-stays core.config query (word_in reader_scope core) a.laws.nodes) boxes query (record {
+      walk-left begin_walk core step a a.laws.nodes (λ n. ⊥) left new (start core.config query) (start-stays core.config query (word_in reader_scope core) a.laws.nodes) boxes (omega arith) query (record {
         ahead = λ index generation due. due_ahead core a.formed a.laws query new (omega arith) index generation due;
         widens = tt;
         order = main_last core.config query;

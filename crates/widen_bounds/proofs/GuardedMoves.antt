@@ -1,32 +1,28 @@
 -- What the parts of a move under a guard ask, and what they leave.
-use Rattle.std.specs.Prelude.{◌%◌, ◌^◌}
+use Rattle.std.specs.Prelude.{◌^◌}
 use Rattle.std.proofs.Common.{◌≡◌, ◌≢◌, ℕ, ◌<◌, ◌≤◌, List, [], Some, None, refl, ap, sym, ◌∙◌, subst}
 use Rattle.std.proofs.lemmas.List.{append-nil}
 use Rattle.fixed_box.specs.declared.fix_box.FixBox.{FixBox}
 use Rattle.body_ident.specs.Id.{Id}
 use Rattle.scene_model.specs.declared.body_view.Phase.{Phase as BodyPhase}
 use Rattle.scene_model.specs.declared.body_view.Phase.TheVariants.{Held}
-use Rattle.scene_model.specs.Scene.{record_at}
 use Rattle.word_map.specs.declared.config.Config.{Config}
-use Rattle.word_map.specs.declared.name.Name.TheVariants.{Slot, LocA, LocB}
+use Rattle.word_map.specs.declared.name.Name.TheVariants.{LocA, LocB}
 use Rattle.word_map.specs.Names.{stripe_of}
 use Rattle.core_state.specs.declared.view.Mode.TheVariants.{Write}
 use Rattle.core_state.specs.declared.view.LockStep.{LockStep}
 use Rattle.core_state.specs.declared.view.Task.TheVariants.{Nothing}
 use Rattle.core_state.specs.declared.view.View.{View}
-use Rattle.core_state.specs.View.{mode_of, number_in, known_word}
-use Rattle.core_state.specs.Guards.{scene_at}
-use Rattle.core_state.proofs.Beginning.{record_body}
+use Rattle.core_state.specs.View.{mode_of, number_in}
 use Rattle.pass_table.specs.Knowing.{KnowsMore}
 use Rattle.pass_table.specs.Belongings.{belongings_of}
 use Rattle.pass_table.specs.Bodies.{IsCurrent, Loaded, IsGuarded, IsAlone}
 use Rattle.pass_table.specs.Work.{IsCalling}
 use Rattle.pass_table.proofs.Calling.{Adds-refl, point-now}
-use Rattle.pass_table.proofs.LockedBodies.{guarded-tells, told-body, guarding-more}
+use Rattle.pass_table.proofs.LockedBodies.{told-body, guarding-more}
 use Rattle.pass_table.proofs.WorkLater.{worked-role, worked-sizes, worked-more, worked-keeps}
 use Rattle.pass_table.proofs.Working.{tells-refl, spares-refl}
 use Rattle.body_look.specs.declared.body_found.BodyFound.{BodyFound}
-use Rattle.body_look.specs.declared.body_found.BodyFound.TheVariants.{Gone as FoundGone, Held as FoundHeld}
 use Rattle.body_look.specs.Found.{phase_found, IsFound, IsHeldAt}
 use Rattle.body_look.proofs.Answering.{phase-told}
 use Rattle.widen_bounds.specs.declared.widening.Widening.{Widening}
@@ -42,29 +38,11 @@ use Rattle.widen_bounds.proofs.MoveSteps.{first-loaded, located-fits, goes-on-by
 
 -- ---- whether a batch holds the body
 
--- it does
-pub held-at : (id : Id) (view : View) (found : BodyFound) (layer slot word : ℕ) → found ≡ FoundHeld layer slot word → IsFound id view found → HoldsOrFree id view (Some word)
-held-at id view found layer slot word is at =
-    let held = subst (IsFound id view) is at in
-    record {
-      slot = slot;
-      joins = held.0.says;
-      word = ap (λ (l : ℕ). known_word view (Slot l slot)) held.1.lies ∙ held.1.has;
-      reserved = (held.2, held.3);
-      cause = told-body id view held.0.told (λ r. r.phase ≡ Held) held.0.is;
-    }
-
--- or it does not
+-- it does not
 pub free-at : (id : Id) (view : View) (found : BodyFound) (phase : BodyPhase) → phase ≢ Held → phase_found found ≡ Some phase → IsGuarded id view → IsFound id view found → HoldsOrFree id view None
 free-at id view found phase free same guarded at =
     let told = phase-told id view found phase same at in
     (phase, record { free = free; knows = record { live = guarded.2.state; body = λ sound. told-body id view told.0 (λ r. r.phase ≡ phase) told.1 } })
-
--- and the body is not gone
-pub not-gone : (id : Id) (view : View) (found : BodyFound) (state : ℕ) → found ≡ FoundGone state → IsGuarded id view → IsCurrent view → ¬ IsFound id view found
-not-gone id view found state is guarded now at =
-    let told = guarded-tells id view guarded now in
-    (subst (IsFound id view) is at).cause (record_body (record_at (scene_at view.config view.known) id.index) (λ r. r.generation % 256 ≡ id.seq) told.body told.live told.sequence)
 
 -- ---- the locations
 

@@ -8,8 +8,8 @@
 //! one was refused, which only want of memory brings about, the program fails.
 //!
 //! It shows that the contracts of the calls chain: what a call leaves is what the next one asks. Proved beside it are what
-//! its loops keep, and a line each at the few places where a clause that holds for every pass, batch or guard is taken at
-//! one. Nothing stands on it.
+//! its two loops keep, and one line: that the passes which are left are idle still after the next one is taken. Nothing
+//! stands on it.
 #![tactic(auto)]
 
 ghost use Rattle.std.specs.Prelude.{IfSome};

@@ -19,6 +19,7 @@ mod finalizing;
 mod giving_up;
 mod kept_batch;
 pub mod laws;
+mod list_calls;
 mod mark_op;
 mod marking;
 mod node_taking;

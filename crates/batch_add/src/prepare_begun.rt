@@ -3,7 +3,7 @@ ghost use Rattle.std.specs.Prelude.{◌≡◌, ◌<◌, ◌≤◌, length, map, 
 ghost use Rattle.tree_plan.specs.declared.node_count.TheConstants.{MAX_TREE_BODIES};
 ghost use Rattle.scene_model.specs.Need.{need};
 ghost use Rattle.pass_table.specs.Passes.{view_of, IsIdle};
-ghost use Rattle.batch_add.specs.stages.Preparing.{ids_of, IsPreparing, CanPlan};
+ghost use Rattle.batch_add.specs.stages.Preparing.{ids_of, IsPreparing, CanPlan, label_of};
 
 use crate::mark_op::{MarkStage, Marking};
 use crate::node_taking::{NodeStage, NodeTaking};
@@ -34,6 +34,7 @@ impl PrepareOp {
         requires few { length ids.now ≤ world.now.map.bodies }
         ensures pass { pass.new ≡ pass.old }
         ensures begun { IfOk result (λ op. (op.layer ≡ layer) × (ids_of op ≡ ids.now) × IsPreparing op (view_of pass.old) op (view_of pass.new)) }
+        ensures unlabelled { IfOk result (λ op. label_of op ≡ None) }
     {
         let count = ids.len() as u32;
         let words = vec![in alloc; 0; world.config().slots as usize]?;

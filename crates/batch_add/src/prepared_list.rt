@@ -1,5 +1,5 @@
 //! Several batches that are prepared, in a list.
-ghost use Rattle.std.specs.Prelude.{◌≡◌, ◌<◌, ◌++◌, [], ◌∷◌, length, slice_index_or, IfOk, IfErr};
+ghost use Rattle.std.specs.Prelude.{◌≡◌, ◌+◌, ◌<◌, ◌++◌, [], ◌∷◌, length, slice_index_or, IfOk, OnOk, IfErr};
 ghost use Rattle.std.specs.List.{remove};
 ghost use Rattle.core_state.specs.declared.view.View.{View};
 ghost use Rattle.batch_add.specs.Prepared.{IsGood};
@@ -62,6 +62,7 @@ impl PreparedList {
     /// good and for another slot than each in the list, as `prepare` says of its batch.
     pub fn push(&mut self, batch: Prepared) -> Result<(), Prepared>
         ensures kept { IfOk result (λ done. batches_of self.new ≡ batches_of self.old ++ batch ∷ []) }
+        ensures count { OnOk result (length (batches_of self.new) ≡ length (batches_of self.old) + 1) }
         ensures full { IfErr result (λ back. (back ≡ batch) × (batches_of self.new ≡ batches_of self.old)) }
         ensures good { IfOk result (λ done. (view : View) → AreGood self.old view → IsGood batch view → IsBeside batch self.old → AreGood self.new view) }
         ensures still { IfErr result (λ back. (view : View) → AreGood self.old view → AreGood self.new view) }
@@ -78,6 +79,7 @@ impl PreparedList {
         requires there { place < length (batches_of self.old) }
         ensures taken { result ≡ slice_index_or (batches_of self.old) place result }
         ensures others { batches_of self.new ≡ remove (batches_of self.old) place }
+        ensures count { length (batches_of self.new) + 1 ≡ length (batches_of self.old) }
         ensures good { (view : View) → AreGood self.old view → IsGood result view }
         ensures left { (view : View) → AreGood self.old view → AreGood self.new view }
         ensures beside { (view : View) → AreGood self.old view → IsBeside result self.new }

@@ -3,8 +3,10 @@ use crate::runs::{
 };
 use broadphase::Status;
 use std::alloc::Global;
+use std::io::{self, Read};
 use std::process::Abort;
 use std::test::Fail;
+use world_io::{Source, StdSource};
 
 #[test]
 fn pieces_change_nothing(rt: HostRuntime) -> Result<(), Fail> {
@@ -70,4 +72,30 @@ fn a_reply_is_one_piece(rt: HostRuntime) -> Result<(), Fail> {
     assert_eq!(rt; ended, Status::WriteFault);
     assert_eq!(rt; sink.contents(), b"id 0:1\n".as_slice());
     Ok(())
+}
+
+/// A reader that gives two bytes a call.
+#[derive(Drop)]
+struct Pairs;
+
+impl Read for Pairs {
+    fn read(&mut self, buf: &mut [u8]) -> io::Result<usize> {
+        match buf {
+            [first, second, ..] => {
+                *first = b'a';
+                *second = b'b';
+                Ok(2)
+            }
+            _ => Ok(0),
+        }
+    }
+}
+
+// The standard source hands on all that one read gave, and asks the reader for as much as it was asked for.
+#[test]
+fn a_read_is_handed_on_whole(rt: HostRuntime) {
+    let mut source = StdSource::new(Pairs);
+    let mut buf = [0u8; 3];
+    assert!(rt; source.read(&mut buf) == Ok(2));
+    assert_eq!(rt; buf, *b"ab\0");
 }

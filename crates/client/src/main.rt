@@ -4,15 +4,19 @@
 //! prepares batches, two at once, makes other calls in between, attaches some batches and gives others up. What they did is
 //! printed; no schedule changes it.
 //!
+//! A call that is refused is counted and told, and the bodies that were created for it are destroyed; the threads go on. Where
+//! one was refused, which only want of memory brings about, the program fails.
+//!
 //! It shows that the contracts of the calls chain: what a call leaves is what the next one asks. Proved beside it are what
-//! its loops keep, and a line each at the few places where a clause that holds for every pass, batch or guard is taken at
-//! one. Nothing stands on it.
+//! its two loops keep, and one line: that the passes which are left are idle still after the next one is taken. Nothing
+//! stands on it.
 #![tactic(auto)]
 
 ghost use Rattle.std.specs.Prelude.{IfSome};
 ghost use Rattle.pass_table.specs.Opened.{AreIdle};
 ghost use Rattle.pass_table.specs.Passes.{IsIdle};
 
+mod bodies;
 mod lives;
 mod stream;
 mod tally;
@@ -60,16 +64,26 @@ fn run<R: Threads + Wait + Sync>(rt: &R, alloc: Global) -> Option<Tally> {
     Some(share(rt, alloc, &world, first, second, third, fourth))
 }
 
+/// Tells what the threads did, and whether each call was answered.
+fn tell(rt: &HostRuntime, tally: Tally) -> io::Result<ExitCode> {
+    println!(rt;
+        "created {}, read {}, destroyed {}",
+        tally.created, tally.read, tally.destroyed
+    )?;
+    println!(rt; "attached {}, given up {}", tally.attached, tally.given_up)?;
+    if tally.refused == 0 {
+        return Ok(ExitCode::SUCCESS);
+    }
+    eprintln!(rt; "client: refused {}", tally.refused)?;
+    Ok(ExitCode::FAILURE)
+}
+
 fn main(rt: HostRuntime) -> io::Result<ExitCode> {
     match run(&rt, rt.alloc()) {
-        Some(tally) => {
-            println!(rt;
-                "created {}, read {}, destroyed {}",
-                tally.created, tally.read, tally.destroyed
-            )?;
-            println!(rt; "attached {}, given up {}", tally.attached, tally.given_up)?;
-            Ok(ExitCode::SUCCESS)
+        Some(tally) => tell(&rt, tally),
+        None => {
+            eprintln!(rt; "client: there is not enough memory for a world")?;
+            Ok(ExitCode::FAILURE)
         }
-        None => Ok(ExitCode::FAILURE),
     }
 }

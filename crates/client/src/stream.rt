@@ -1,17 +1,14 @@
 //! Batches that are prepared, two at once, attached and given up, with other calls in between.
-ghost use Rattle.std.specs.Prelude.{◌≡◌, ◌<◌, ◌≤◌, All, IfSome, length};
-ghost use Rattle.pass_table.specs.Belongings.{belongings_of};
-ghost use Rattle.pass_table.specs.Passes.{view_of, IsOf, IsIdle};
-ghost use Rattle.body_lock.specs.Guarding.{IsReading};
-ghost use Rattle.batch_add.specs.declared.prepared.Prepared.{Prepared};
-ghost use Rattle.batch_add.specs.Prepared.{IsGood, IsApart};
+ghost use Rattle.std.specs.Prelude.{◌≡◌, ◌+◌, ◌<◌, ◌≤◌, All, length};
+ghost use Rattle.pass_table.specs.Passes.{view_of, IsIdle};
+ghost use Rattle.batch_add.specs.PreparedLists.{batches_of, AreGood};
 
-use crate::lives::{live, point};
-use crate::tally::Tally;
-use batch_add::{Prepared, abort, finalize, prepare};
+use crate::bodies::{begin, end};
+use crate::lives::live;
+use crate::tally::{Deed, Tally};
+use batch_add::PreparedList;
 use body_ident::BodyId;
-use body_lock::{BodyRead, lock_read};
-use body_slots::{create, destroy};
+use body_lock::lock_read;
 use pass_table::{Pass, World};
 use std::alloc::Global;
 use std::sync::Wait;
@@ -19,157 +16,180 @@ use std::sync::Wait;
 /// How often each of the two threads streams.
 const ROUNDS: u32 = 32;
 
-/// Creates a body.
-fn body<R: Wait>(rt: &R, world: &World, pass: &mut Pass, layer: u32) -> Option<BodyId>
-    requires idle { IsIdle world.now pass.old }
-    requires in_layers { layer < world.now.map.layers }
-    ensures idle { IsIdle world.now pass.new }
-    ensures keeps { belongings_of (view_of pass.new) ≡ belongings_of (view_of pass.old) }
-    ensures below { IfSome result (λ id. id.index < world.now.map.bodies) }
-{
-    create(rt, world, pass, layer, point()?, 7).ok()
-}
+/// The user number of the bodies of batches.
+const USER: u32 = 7;
 
-/// Attaches a batch while a body is locked to read, and looks at that body then. Answers its user number. An older batch is
-/// good still.
-fn attach_and_see(
-    world: &World,
-    pass: &mut Pass,
-    guard: &BodyRead,
-    batch: Prepared,
-    older: &Prepared,
-) -> u32
-    requires of { IsOf world.now pass.old }
-    requires guarded { IsReading guard.now (view_of pass.old) }
-    requires good { IsGood batch (view_of pass.old) }
-    requires older { IsGood older.now (view_of pass.old) }
-    requires apart { IsApart older.now batch }
-    ensures of { IsOf world.now pass.new }
-    ensures guarded { IsReading guard.now (view_of pass.new) }
-    ensures older { IsGood older.now (view_of pass.new) }
-{
-    finalize(world, pass, batch);
-    guard.view(world, pass).user
-}
-
-/// Attaches a batch, under the lock of a body where this one is live. Answers how many bodies were seen as they were created.
-/// An older batch is good still.
+/// Attaches the batch at a place of a list, under the lock of a body where this one is live. Answers the user number that was
+/// seen then.
 fn attach<R: Wait>(
     rt: &R,
     world: &World,
     pass: &mut Pass,
     id: BodyId,
-    batch: Prepared,
-    older: &Prepared,
-) -> u32
+    batches: &mut PreparedList,
+    place: usize,
+) -> Option<u32>
     requires idle { IsIdle world.now pass.old }
     requires below { id.index < world.now.map.bodies }
-    requires good { IsGood batch (view_of pass.old) }
-    requires older { IsGood older.now (view_of pass.old) }
-    requires apart { IsApart older.now batch }
+    requires good { AreGood batches.old (view_of pass.old) }
+    requires there { place < length (batches_of batches.old) }
     ensures idle { IsIdle world.now pass.new }
-    ensures older { IsGood older.now (view_of pass.new) }
+    ensures good { AreGood batches.new (view_of pass.new) }
+    ensures count { length (batches_of batches.new) + 1 ≡ length (batches_of batches.old) }
 {
     match lock_read(rt, world, pass, id) {
         Ok(guard) => {
-            let user = attach_and_see(world, pass, &guard, batch, older);
+            batches.finalize_under(world, pass, &guard, place);
+            let seen = guard.view(world, pass);
             guard.unlock(world, pass);
-            u32::from(user == 7)
+            Some(seen.user)
         }
         Err(_) => {
-            finalize(world, pass, batch);
-            0
+            batches.finalize(world, pass, place);
+            None
         }
     }
 }
 
-/// Attaches the younger of two batches, makes a life, and gives the older one up.
-fn end<R: Wait>(
-    rt: &R,
-    world: &World,
-    pass: &mut Pass,
-    layer: u32,
-    id: BodyId,
-    older: Prepared,
-    younger: Prepared,
-) -> Tally
-    requires idle { IsIdle world.now pass.old }
-    requires in_layers { layer < world.now.map.layers }
-    requires below { id.index < world.now.map.bodies }
-    requires older { IsGood older (view_of pass.old) }
-    requires younger { IsGood younger (view_of pass.old) }
-    requires apart { IsApart older younger }
-    ensures idle { IsIdle world.now pass.new }
-{
-    let read = attach(rt, world, pass, id, younger, &older);
-    let lived = live(rt, world, pass, layer, 1).unwrap_or(Tally::NOTHING);
-    abort(rt, world, pass, older);
-    let ended = Tally {
-        read,
-        attached: 1,
-        given_up: 1,
-        ..Tally::NOTHING
-    };
-    ended.and(lived)
-}
-
-/// Prepares a batch of one body beside an older batch, and brings both to their ends.
-fn beside<R: Wait>(
+/// Prepares a batch of one body beside an older batch, attaches it, and makes a life. Answers whether the body is in the broad
+/// phase then.
+fn attach_beside<R: Wait>(
     rt: &R,
     alloc: Global,
     world: &World,
     pass: &mut Pass,
     layer: u32,
     id: BodyId,
-    older: Prepared,
-) -> Option<Tally>
+    batches: &mut PreparedList,
+    tally: &mut Tally,
+) -> bool
     requires idle { IsIdle world.now pass.old }
     requires in_layers { layer < world.now.map.layers }
     requires below { id.index < world.now.map.bodies }
-    requires older { IsGood older (view_of pass.old) }
+    requires good { AreGood batches.old (view_of pass.old) }
+    requires one { length (batches_of batches.old) ≡ 1 }
+    ensures idle { IsIdle world.now pass.new }
+    ensures good { AreGood batches.new (view_of pass.new) }
+    ensures one { length (batches_of batches.new) ≡ 1 }
+{
+    if batches
+        .prepare(rt, alloc, world, pass, layer, &[id])
+        .is_err()
+    {
+        tally.count(Deed::Refused);
+        return false;
+    }
+    let seen = attach(rt, world, pass, id, batches, 1);
+    tally.count(Deed::Attached);
+    tally.count(if seen == Some(USER) {
+        Deed::Read
+    } else {
+        Deed::Refused
+    });
+    live(rt, world, pass, layer, 1, tally);
+    true
+}
+
+/// Prepares a batch of two bodies, and beside it one of a third, which is attached; then the first one is given up. Answers
+/// whether the third body is in the broad phase then.
+fn stream_three<R: Wait>(
+    rt: &R,
+    alloc: Global,
+    world: &World,
+    pass: &mut Pass,
+    layer: u32,
+    pair: [BodyId; 2],
+    third: BodyId,
+    tally: &mut Tally,
+) -> bool
+    requires idle { IsIdle world.now pass.old }
+    requires in_layers { layer < world.now.map.layers }
+    requires room { 2 ≤ world.now.map.bodies }
+    requires pair { All (λ id. id.index < world.now.map.bodies) pair }
+    requires third { third.index < world.now.map.bodies }
     ensures idle { IsIdle world.now pass.new }
 {
-    match prepare(rt, alloc, world, pass, layer, &[id]) {
-        Ok(younger) => Some(end(rt, world, pass, layer, id, older, younger)),
-        Err(_) => {
-            abort(rt, world, pass, older);
-            None
-        }
+    let mut batches = PreparedList::new(alloc);
+    if batches
+        .prepare(rt, alloc, world, pass, layer, &pair)
+        .is_err()
+    {
+        tally.count(Deed::Refused);
+        return false;
+    }
+    live(rt, world, pass, layer, 2, tally);
+    let attached = attach_beside(rt, alloc, world, pass, layer, third, &mut batches, tally);
+    batches.abort(rt, world, pass, 0);
+    tally.count(Deed::GivenUp);
+    attached
+}
+
+/// Creates a third body beside two, and streams the three. It is destroyed where it did not come into the broad phase.
+fn stream_two<R: Wait>(
+    rt: &R,
+    alloc: Global,
+    world: &World,
+    pass: &mut Pass,
+    layer: u32,
+    pair: [BodyId; 2],
+    tally: &mut Tally,
+)
+    requires idle { IsIdle world.now pass.old }
+    requires in_layers { layer < world.now.map.layers }
+    requires room { 2 ≤ world.now.map.bodies }
+    requires pair { All (λ id. id.index < world.now.map.bodies) pair }
+    ensures idle { IsIdle world.now pass.new }
+{
+    let Some(third) = begin(rt, world, pass, layer, USER, tally) else {
+        return;
+    };
+    if !stream_three(rt, alloc, world, pass, layer, pair, third, tally) {
+        end(rt, world, pass, third, tally);
     }
 }
 
-/// One round: a batch of two bodies is prepared; then, beside it, one of a further body, which is attached, and the older one
-/// is given up. Its bodies are destroyed.
+/// Creates a second body beside one, streams with both, and destroys it.
+fn stream_one<R: Wait>(
+    rt: &R,
+    alloc: Global,
+    world: &World,
+    pass: &mut Pass,
+    layer: u32,
+    first: BodyId,
+    tally: &mut Tally,
+)
+    requires idle { IsIdle world.now pass.old }
+    requires in_layers { layer < world.now.map.layers }
+    requires room { 2 ≤ world.now.map.bodies }
+    requires first { first.index < world.now.map.bodies }
+    ensures idle { IsIdle world.now pass.new }
+{
+    let Some(second) = begin(rt, world, pass, layer, USER, tally) else {
+        return;
+    };
+    stream_two(rt, alloc, world, pass, layer, [first, second], tally);
+    end(rt, world, pass, second, tally);
+}
+
+/// One round: three bodies are created and streamed, and those that are out of the broad phase then are destroyed.
 fn stream_once<R: Wait>(
     rt: &R,
     alloc: Global,
     world: &World,
     pass: &mut Pass,
     layer: u32,
-) -> Option<Tally>
+    tally: &mut Tally,
+)
     requires idle { IsIdle world.now pass.old }
     requires in_layers { layer < world.now.map.layers }
     requires room { 2 ≤ world.now.map.bodies }
     ensures idle { IsIdle world.now pass.new }
 {
-    let one = body(rt, world, pass, layer)?;
-    let two = body(rt, world, pass, layer)?;
-    let three = body(rt, world, pass, layer)?;
-    let tally = match prepare(rt, alloc, world, pass, layer, &[one, two]) {
-        Ok(older) => {
-            let lived = live(rt, world, pass, layer, 2).unwrap_or(Tally::NOTHING);
-            beside(rt, alloc, world, pass, layer, three, older)?.and(lived)
-        }
-        Err(_) => return None,
+    let Some(first) = begin(rt, world, pass, layer, USER, tally) else {
+        return;
     };
-    let first = destroy(rt, world, pass, one).is_ok();
-    let second = destroy(rt, world, pass, two).is_ok();
-    let made = Tally {
-        created: 3,
-        destroyed: u32::from(first) + u32::from(second),
-        ..Tally::NOTHING
-    };
-    Some(tally.and(made))
+    stream_one(rt, alloc, world, pass, layer, first, tally);
+    end(rt, world, pass, first, tally);
 }
 
 /// What one thread does: it streams in a layer of its own.
@@ -181,9 +201,7 @@ pub(crate) fn stream<R: Wait>(rt: &R, alloc: Global, world: &World, pass: Pass, 
     let mut pass = pass;
     let mut tally = Tally::NOTHING;
     for _ in 0..ROUNDS {
-        if let Some(more) = stream_once(rt, alloc, world, &mut pass, layer) {
-            tally = tally.and(more);
-        }
+        stream_once(rt, alloc, world, &mut pass, layer, &mut tally);
     }
     tally
 }

@@ -29,3 +29,5 @@ mod refusals;
 mod removals;
 #[cfg(test)]
 mod slots;
+#[cfg(test)]
+mod world_sizes;

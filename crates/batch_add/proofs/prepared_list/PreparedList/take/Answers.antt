@@ -1,5 +1,6 @@
 use Rattle.std.proofs.Common.{List, suc, take, drop, map, ap, sym, ◌∙◌, ◌++◌, subst, ◌<◌, length, arith}
 use Rattle.std.proofs.lemmas.List.{map-append, take-map, drop-map, length-map, get_or-map}
+use Rattle.std.proofs.lemmas.List.Edits.{length-remove}
 use Rattle.pass_table.specs.Belongings.{belongings_of}
 use Rattle.batch_add.specs.declared.prepared.Prepared.{Prepared}
 use Rattle.batch_add.specs.declared.prepared_list.KeptPrepared.{KeptPrepared}
@@ -14,6 +15,12 @@ returns-clause-others c =
     ap (map batch) c.remove.ensures.items
     ∙ (map-append batch (take c.args.place kept) (drop (suc c.args.place) kept)
     ∙ (λ i. sym (take-map batch c.args.place kept) i ++ sym (drop-map batch (suc c.args.place) kept) i))
+
+pub returns-clause-count : goal.returns-clause-count
+returns-clause-count c =
+    let same = ap (λ (l : List Prepared). length l) (returns-clause-others c) in
+    let fewer = length-remove (batches_of c.args.self.now) c.args.place c.requires.there in
+    omega arith
 
 pub returns-clause-taken : goal.returns-clause-taken
 returns-clause-taken c =

@@ -248,9 +248,11 @@ fn walk_rows<R: Clock + Print>(table: &Table<R>, figures: Figures, what: &str) -
     Ok(())
 }
 
-/// Writes the rows of queries: what a query took, and what it took beside its walk for each candidate.
+/// Writes the row of queries, and where they are of all space that of their checks: those of a box are too few to be told from
+/// its walk.
 fn query_rows<R: Clock + Print>(
     table: &Table<R>,
+    of: Of,
     figures: Figures,
     queries: u64,
     what: &str,
@@ -258,6 +260,14 @@ fn query_rows<R: Clock + Print>(
     let found = format!(in table.alloc(); "{} answered", figures.answered.hits)?;
     let name = format!(in table.alloc(); "query, {what}")?;
     table.write(name.as_str(), found.as_str(), figures.query, queries)?;
+    match of {
+        Of::OwnBoxes => Ok(()),
+        Of::AllSpace => check_row(table, figures, what),
+    }
+}
+
+/// Writes what a query took beside its walk for each candidate.
+fn check_row<R: Clock + Print>(table: &Table<R>, figures: Figures, what: &str) -> io::Result<()> {
     let candidates = figures.collected.hits;
     let checks = figures.query.saturating_sub(figures.collect);
     let found = format!(in table.alloc(); "{candidates} candidates")?;
@@ -282,7 +292,7 @@ fn town<R: Clock + Print + Wait>(table: &Table<R>, bodies: u32, batch: u32) -> i
         let (least, back) = all_runs(table, &world, &mut pass, finder, &asked)?;
         finder = back;
         walk_rows(table, least, what.as_str())?;
-        query_rows(table, least, asked.len() as u64, what.as_str())?;
+        query_rows(table, of, least, asked.len() as u64, what.as_str())?;
     }
     Ok(())
 }

@@ -5,12 +5,17 @@
 //! at all every part is run so. Other words end it with the usage on standard error and status 2.
 #![tactic(auto)]
 
+mod batches;
+mod bodies;
 mod boxes;
 mod lock;
+mod moves;
 mod pass;
 mod plan;
+mod queries;
 mod shape;
 mod table;
+mod town;
 
 use std::io::{Eprint, Print};
 use std::process::ExitCode;
@@ -31,10 +36,27 @@ enum Part {
     Pass,
     /// Locks on bodies.
     Lock,
+    /// Bodies that are created and destroyed.
+    Bodies,
+    /// Batches of bodies.
+    Batches,
+    /// Queries.
+    Queries,
+    /// Bodies that are moved and taken out.
+    Moves,
 }
 
 impl Part {
-    const ALL: [Part; 4] = [Part::Shape, Part::Plan, Part::Pass, Part::Lock];
+    const ALL: [Part; 8] = [
+        Part::Shape,
+        Part::Plan,
+        Part::Pass,
+        Part::Lock,
+        Part::Bodies,
+        Part::Batches,
+        Part::Queries,
+        Part::Moves,
+    ];
 
     /// The part of a name.
     fn named(name: &str) -> Option<Part> {
@@ -43,6 +65,10 @@ impl Part {
             "plan" => Some(Part::Plan),
             "pass" => Some(Part::Pass),
             "lock" => Some(Part::Lock),
+            "bodies" => Some(Part::Bodies),
+            "batches" => Some(Part::Batches),
+            "queries" => Some(Part::Queries),
+            "moves" => Some(Part::Moves),
             _ => None,
         }
     }
@@ -54,6 +80,10 @@ impl Part {
             Part::Plan => plan::run(table),
             Part::Pass => pass::run(table),
             Part::Lock => lock::run(table),
+            Part::Bodies => bodies::run(table),
+            Part::Batches => batches::run(table),
+            Part::Queries => queries::run(table),
+            Part::Moves => moves::run(table),
         }
     }
 }
@@ -102,7 +132,9 @@ fn main(rt: HostRuntime) -> io::Result<ExitCode> {
             Ok(ExitCode::SUCCESS)
         }
         Request::Unknown => {
-            eprintln!(rt; "usage: bench [shape | plan | pass | lock [time]]")?;
+            eprintln!(rt;
+                "usage: bench [NAME [time]], where NAME is shape, plan, pass, lock, bodies, batches, queries or moves"
+            )?;
             Ok(ExitCode::from(2))
         }
     }

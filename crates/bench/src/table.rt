@@ -46,7 +46,7 @@ impl<'a, R: Clock + Print> Table<'a, R> {
     /// Writes the head of the table where jobs are timed.
     pub(crate) fn new(rt: &'a R, alloc: Global, mode: Mode) -> io::Result<Table<'a, R>> {
         if mode == Mode::Time {
-            println!(rt; "{:<28} {:>12}  found", "what", "ns a call")?;
+            println!(rt; "{:<40} {:>12}  found", "what", "ns a call")?;
         }
         Ok(Table { rt, alloc, mode })
     }
@@ -116,6 +116,6 @@ impl<'a, R: Clock + Print> Table<'a, R> {
         let hundredths = nanos.saturating_mul(100) / u128::from(calls.max(1));
         let whole = hundredths / 100;
         let part = hundredths % 100;
-        println!(self.rt; "{what:<28} {whole:>9}.{part:02}  {found}")
+        println!(self.rt; "{what:<40} {whole:>9}.{part:02}  {found}")
     }
 }

@@ -1,0 +1,212 @@
+//! Batches that are prepared, attached and given up. A call is a body.
+ghost use Rattle.std.specs.Prelude.{◌≡◌};
+ghost use Rattle.core_state.specs.declared.view.View.{View};
+ghost use Rattle.pass_table.specs.Passes.{view_of, IsIdle};
+ghost use Rattle.batch_add.specs.Prepared.{IsGood};
+ghost use Rattle.batch_add.specs.PreparedLists.{AreGood, IsBeside};
+
+use crate::table::Table;
+use crate::town::{create_all, ids_from, open, some_boxes};
+use batch_add::{Prepared, PreparedList, abort, finalize, prepare};
+use fixed_box::FixBox;
+use pass_table::{Pass, World};
+use std::alloc::{AllocError, Global};
+use std::io;
+use std::io::Print;
+use std::sync::Wait;
+use std::time::Clock;
+
+/// How many bodies there are.
+const BODIES: u32 = 65_536;
+
+/// How many come in one batch.
+const BATCH: u32 = 2_048;
+
+/// Puts a batch into the list. Where there is not enough memory for that it stays with its pass, and the answer is `false`.
+fn keep(list: &mut PreparedList, batch: Prepared) -> bool
+    ensures good { (view : View) → AreGood list.old view → IsGood batch view → IsBeside batch list.old → AreGood list.new view }
+{
+    match list.push(batch) {
+        Ok(()) => true,
+        Err(back) => {
+            back.leave();
+            false
+        }
+    }
+}
+
+/// Prepares one batch, of the bodies from this index on, and puts it into the list. It answers whether it did.
+fn prepare_one<R: Wait>(
+    rt: &R,
+    alloc: Global,
+    world: &World,
+    pass: &mut Pass,
+    list: &mut PreparedList,
+    first: u32,
+) -> bool
+    requires idle { IsIdle world.now pass.old }
+    requires bodies { world.now.map.bodies ≡ 65536 }
+    requires layers { world.now.map.layers ≡ 1 }
+    requires good { AreGood list.old (view_of pass.old) }
+    ensures idle { IsIdle world.now pass.new }
+    ensures good { AreGood list.new (view_of pass.new) }
+{
+    if first > BODIES - BATCH {
+        return false;
+    }
+    let Ok(ids) = ids_from(alloc, first, BATCH) else {
+        return false;
+    };
+    match prepare(rt, alloc, world, pass, 0, &ids) {
+        Ok(batch) => keep(list, batch),
+        Err(_) => false,
+    }
+}
+
+/// Prepares all bodies, batch by batch. It answers how many batches hold them.
+fn prepare_all<R: Wait>(
+    rt: &R,
+    alloc: Global,
+    world: &World,
+    pass: &mut Pass,
+    list: &mut PreparedList,
+) -> u32
+    requires idle { IsIdle world.now pass.old }
+    requires bodies { world.now.map.bodies ≡ 65536 }
+    requires layers { world.now.map.layers ≡ 1 }
+    requires good { AreGood list.old (view_of pass.old) }
+    ensures idle { IsIdle world.now pass.new }
+    ensures good { AreGood list.new (view_of pass.new) }
+{
+    let mut held = 0u32;
+    for first in (0..BODIES).step_by(BATCH as usize) {
+        held = held.wrapping_add(u32::from(prepare_one(rt, alloc, world, pass, list, first)));
+    }
+    held
+}
+
+/// Attaches the last batch of the list, where there is one.
+fn attach(world: &World, pass: &mut Pass, list: &mut PreparedList)
+    requires idle { IsIdle world.now pass.old }
+    requires good { AreGood list.old (view_of pass.old) }
+    ensures idle { IsIdle world.now pass.new }
+    ensures good { AreGood list.new (view_of pass.new) }
+{
+    if let Some(last) = list.len().checked_sub(1) {
+        let batch = list.take(last);
+        finalize(world, pass, batch);
+    }
+}
+
+/// Attaches all batches of the list, the last one first.
+fn attach_all(world: &World, pass: &mut Pass, list: &mut PreparedList)
+    requires idle { IsIdle world.now pass.old }
+    requires good { AreGood list.old (view_of pass.old) }
+    ensures idle { IsIdle world.now pass.new }
+{
+    for _ in 0..list.len() {
+        attach(world, pass, list);
+    }
+}
+
+/// Gives the last batch of the list up, where there is one.
+fn give_up<R: Wait>(rt: &R, world: &World, pass: &mut Pass, list: &mut PreparedList)
+    requires idle { IsIdle world.now pass.old }
+    requires good { AreGood list.old (view_of pass.old) }
+    ensures idle { IsIdle world.now pass.new }
+    ensures good { AreGood list.new (view_of pass.new) }
+{
+    if let Some(last) = list.len().checked_sub(1) {
+        let batch = list.take(last);
+        abort(rt, world, pass, batch);
+    }
+}
+
+/// Gives all batches of the list up, the last one first.
+fn abort_all<R: Wait>(rt: &R, world: &World, pass: &mut Pass, list: &mut PreparedList)
+    requires idle { IsIdle world.now pass.old }
+    requires good { AreGood list.old (view_of pass.old) }
+    ensures idle { IsIdle world.now pass.new }
+{
+    for _ in 0..list.len() {
+        give_up(rt, world, pass, list);
+    }
+}
+
+/// What a run did with all bodies, and its nanoseconds.
+#[derive(Clone, Copy)]
+struct Stream {
+    held: u32,
+    prepare: u128,
+    spend: u128,
+}
+
+/// One run in a new world: all bodies are created, which is not timed, and prepared in batches, which are attached or given
+/// up.
+fn measure<R: Clock + Print + Wait>(
+    table: &Table<R>,
+    boxes: &[FixBox],
+    attaches: bool,
+) -> io::Result<Stream> {
+    let (rt, alloc) = (table.runtime(), table.alloc());
+    let (world, mut pass) = open(alloc, BODIES).ok_or(AllocError)?;
+    create_all(rt, &world, &mut pass, boxes);
+    let mut list = PreparedList::new(alloc);
+    let start = table.start()?;
+    let held = prepare_all(rt, alloc, &world, &mut pass, &mut list);
+    let prepare = table.since(start)?;
+    let start = table.start()?;
+    if attaches {
+        attach_all(&world, &mut pass, &mut list);
+    } else {
+        abort_all(rt, &world, &mut pass, &mut list);
+    }
+    let spend = table.since(start)?;
+    Ok(Stream {
+        held,
+        prepare,
+        spend,
+    })
+}
+
+/// The quickest of all runs.
+fn quickest<R: Clock + Print + Wait>(
+    table: &Table<R>,
+    boxes: &[FixBox],
+    attaches: bool,
+) -> io::Result<Stream> {
+    let mut least = measure(table, boxes, attaches)?;
+    for _ in 1..table.runs() {
+        let next = measure(table, boxes, attaches)?;
+        least.prepare = least.prepare.min(next.prepare);
+        least.spend = least.spend.min(next.spend);
+    }
+    Ok(least)
+}
+
+/// Writes rows for preparing batches, attaching them, and giving them up.
+pub(crate) fn run<R: Clock + Print + Wait>(table: &Table<R>) -> io::Result<()> {
+    let boxes = some_boxes(table.alloc(), BODIES)?;
+    let attached = quickest(table, &boxes, true)?;
+    let held = format!(in table.alloc(); "{} batches", attached.held)?;
+    table.write(
+        "batch, prepare",
+        held.as_str(),
+        attached.prepare,
+        u64::from(BODIES),
+    )?;
+    table.write(
+        "batch, finalize",
+        held.as_str(),
+        attached.spend,
+        u64::from(BODIES),
+    )?;
+    let given_up = quickest(table, &boxes, false)?;
+    let held = format!(in table.alloc(); "{} batches", given_up.held)?;
+    table.write(
+        "batch, abort",
+        held.as_str(),
+        given_up.spend,
+        u64::from(BODIES),
+    )
+}

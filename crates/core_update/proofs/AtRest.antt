@@ -1,24 +1,27 @@
 -- While each update that is under way is only planned yet, or is at its end, no body has a second location, no new tree stands,
 -- and no node is to be given back.
-use Rattle.std.proofs.Common.{◌≡◌, ◌≢◌, ℕ, zero, suc, ◌≤◌, List, [], true, Option, Some, None, Contains, IsSomeAnd, IfSome, option_map, length, refl, subst, inl, inr, arith}
+use Rattle.std.proofs.Common.{◌≡◌, ◌≢◌, ℕ, zero, suc, ◌≤◌, List, [], true, Option, Some, None, Contains, IsSomeAnd, IfSome, option_map, length, refl, subst, inl, inr, arith, sym}
 use Rattle.std.proofs.lemmas.Bool.{cases_eq}
 use Rattle.word_map.specs.declared.config.Config.{Config}
 use Rattle.word_map.specs.declared.name.Name.TheVariants.{LocB, Child}
+use Rattle.core_state.specs.Core.{Core, word_of, IsViewAt}
+use Rattle.core_state.specs.Encoding.{node_child}
+use Rattle.core_state.specs.Invariants.{Invariants}
+use Rattle.core_state.specs.Kind.{Step}
+use Rattle.core_state.specs.LocationsHold.{location_scope, IsSecondFor}
+use Rattle.core_state.specs.Nodes.{made, returning}
+use Rattle.core_state.specs.NodesInOnePlace.{node_scope}
+use Rattle.core_state.specs.Parts.{update_on_nodes, update_on_trees, update_on_places}
+use Rattle.core_state.specs.Scope.{Sight, sight}
+use Rattle.core_state.specs.TreesSound.{tree_scope, IsLeft, as_top, below, IsLeftNode, IsChild, nothing, a_body, a_node}
+use Rattle.core_state.specs.Updates.{HasUpdate, IsMadeIn}
+use Rattle.core_state.specs.View.{IsPass}
 use Rattle.core_state.specs.declared.view.Rebuild.{Rebuild}
 use Rattle.core_state.specs.declared.view.View.{View}
 use Rattle.core_state.specs.declared.view.Waiting.{Waiting}
-use Rattle.core_state.specs.View.{IsPass}
-use Rattle.core_state.specs.Core.{Core, word_of, IsViewAt}
-use Rattle.core_state.specs.Nodes.{made, returning}
-use Rattle.core_state.specs.Parts.{update_on_nodes, update_on_trees, update_on_places}
-use Rattle.core_state.specs.Scope.{Sight, sight}
-use Rattle.core_state.specs.Encoding.{node_child}
-use Rattle.core_state.specs.Updates.{HasUpdate, IsMadeIn}
-use Rattle.core_state.specs.NodesInOnePlace.{node_scope}
-use Rattle.core_state.specs.TreesSound.{tree_scope, IsLeft, as_top, below, IsLeftNode, IsChild, nothing, a_body, a_node}
-use Rattle.core_state.specs.LocationsHold.{location_scope, IsSecondFor}
-use Rattle.core_state.specs.Invariants.{Invariants}
+use Rattle.core_state.proofs.Lookups.{at_one}
 use Rattle.core_state.proofs.Opening.{none_in}
+use Rattle.core_guard.proofs.Holders.{EachOther}
 use Rattle.core_guard.proofs.Seats.{has-seat}
 
 -- an update of which it is so
@@ -81,3 +84,14 @@ module _ (core : Core) (h : Invariants core) (quiet : (seat number : ℕ) (view 
 
   pub none-returning : (n number : ℕ) → h.nodes.home n ≢ returning number
   none-returning n number = none_as_deep number (h.nodes.depth n) n refl
+
+-- where one pass alone has an update
+pub quiet-alone : (core : Core) (step : Step) → IsViewAt core step.seat step.view → EachOther core step (λ number view. view.rebuild ≡ None) → IfSome step.view.rebuild (IsQuietUpdate core.config)
+    → (seat number : ℕ) (view : View) → IsViewAt core seat view → IsPass view number → IfSome view.rebuild (IsQuietUpdate core.config)
+quiet-alone core step at alone own seat number view found is =
+    elim (cases_eq seat step.seat) [
+      | inl same ↦
+          let one : step.view ≡ view = at_one core.views step.seat step.view view at (subst (λ (k : ℕ). IsViewAt core k view) same found) in
+          subst (λ (v : View). IfSome v.rebuild (IsQuietUpdate core.config)) one own
+      | inr apart ↦ subst (λ (o : Option Rebuild). IfSome o (IsQuietUpdate core.config)) (sym (alone seat number view apart found is)) tt
+    ]

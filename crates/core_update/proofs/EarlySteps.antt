@@ -1,7 +1,7 @@
 -- The first steps of an update keep all laws: it has done nothing yet but to note, so the trees, places and readers are as they
 -- were, and what is left to show is where nodes are and what was noted.
-use Rattle.std.proofs.Common.{List, None, Option, Some, ap, inl, inr, refl, subst, sym, ℕ, ◌∙◌, ◌≡◌}
-use Rattle.std.proofs.lemmas.Bool.{cases_eq, true≢false}
+use Rattle.std.proofs.Common.{List, None, Option, Some, ap, refl, subst, sym, ℕ, ◌∙◌, ◌≡◌}
+use Rattle.std.proofs.lemmas.Bool.{true≢false}
 use Rattle.std.specs.Prelude.{Contains, IfSome, IsSomeAnd, option_map}
 use Rattle.word_map.specs.declared.name.Name.{Name}
 use Rattle.core_state.specs.BodiesAgree.{BodiesAgreeIn, body_scope}
@@ -25,12 +25,11 @@ use Rattle.core_state.specs.declared.view.Call.{Call}
 use Rattle.core_state.specs.declared.view.Rebuild.{Rebuild}
 use Rattle.core_state.specs.declared.view.Task.{Task}
 use Rattle.core_state.specs.declared.view.View.{View}
-use Rattle.core_state.proofs.Lookups.{at_one}
 use Rattle.core_state.proofs.Opening.{none_in}
 use Rattle.core_guard.proofs.Leaving.{Acts, IsIdle, idle-unhandled, if_some_map}
 use Rattle.core_guard.proofs.PlacesStay.{places-handles, seen-task}
 use Rattle.core_guard.proofs.Seats.{seen_of}
-use Rattle.core_update.proofs.AtRest.{IsQuietUpdate, no-second, none-made, none-returning}
+use Rattle.core_update.proofs.AtRest.{IsQuietUpdate, no-second, none-made, none-returning, quiet-alone}
 use Rattle.core_update.proofs.OtherUpdate.{BodiesCovered-next, CoverGoesOn, KeepsPlan, LocationsHold-next, ReadersCounted-next, TreesSound-next, no-root, HasPlan}
 use Rattle.core_update.proofs.Rebuilt.{Rebuilds, moved, changes, unseen, IsAlone}
 
@@ -56,13 +55,7 @@ module _ (kind : Kind) (core : Core) (step : Step) (a : Acts core step) (next : 
   }
 
   pub quiet : (seat number : ℕ) (view : View) → IsViewAt core seat view → IsPass view number → IfSome view.rebuild (IsQuietUpdate core.config)
-  quiet seat number view found is =
-      elim (cases_eq seat step.seat) [
-        | inl same ↦
-            let one : step.view ≡ view = at_one core.views step.seat step.view view a.at (subst (λ (k : ℕ). IsViewAt core k view) same found) in
-            subst (λ (v : View). IfSome v.rebuild (IsQuietUpdate core.config)) one (if_some_map step.view.rebuild IsEarly (IsQuietUpdate core.config) early-quiet before)
-        | inr apart ↦ subst (λ (o : Option Rebuild). IfSome o (IsQuietUpdate core.config)) (sym (alone seat number view apart found is)) tt
-      ]
+  quiet = quiet-alone core step a.at alone (if_some_map step.view.rebuild IsEarly (IsQuietUpdate core.config) early-quiet before)
 
   -- the update as a law sees it
   seen-next : (f : Rebuild → Rebuild) (o : Option Rebuild) (P Q : Rebuild → Type 0) → ((r : Rebuild) → P r → Q (f r)) → IfSome o P → IfSome (option_map f o) Q

@@ -6,3 +6,5 @@ pub mod EarlySteps
 pub mod OneArena
 pub mod UpdateNodes
 pub mod UpdateBegins
+pub mod AtEnd
+pub mod ArenaSwitches

@@ -1,7 +1,7 @@
 -- The arena of a main tree, where one pass at most has an update: that of the word, or the one that the update says.
-use Rattle.std.proofs.Common.{List, None, Option, Some, [], ap, inl, inr, refl, subst, sym, ℕ, ◌∙◌, ◌∷◌, ◌≡◌, ◌≢◌, ◌⊎◌, arith, suc}
+use Rattle.std.proofs.Common.{List, None, Option, Some, [], ap, inl, inr, refl, subst, sym, ℕ, ◌∙◌, ◌∷◌, ◌≡◌, ◌≢◌, ◌⊎◌, arith, suc, cond, length, ◌-◌}
 use Rattle.std.proofs.lemmas.Bool.{cases_eq}
-use Rattle.std.specs.Prelude.{Contains, fold, option_map}
+use Rattle.std.specs.Prelude.{Contains, fold, option_map, nat_lt}
 use Rattle.core_state.specs.Core.{Core, IsViewAt}
 use Rattle.core_state.specs.NodesInOnePlace.{node_scope}
 use Rattle.core_state.specs.Parts.{update_on_nodes}
@@ -79,3 +79,7 @@ module _ (core : Core) (seat number : ℕ) (view : View) (at : IsViewAt core sea
                 inr (ap (λ (u : View). u.rebuild) (sym from.is) ∙ ap (λ (u : View). option_map update_on_nodes u.rebuild) (sym one))
             | inr apart ↦ inl (ap (λ (u : View). u.rebuild) (sym from.is) ∙ ap (λ (r : Option Rebuild). option_map update_on_nodes r) (alone from.seat from.number from.view apart from.at from.pass))
           ]
+
+-- where the update has loaded the number of the arena, it says all
+pub arena-said : (layer named old : ℕ) (r : Rebuild) → r.arena ≡ Some old → arena_after layer named (Some r) ≡ cond (nat_lt layer (length r.swapped)) (1 - old) old
+arena-said layer named old r e = rw e refl

@@ -2,39 +2,35 @@
 use Rattle.std.proofs.Common.{IsNone, None, Option, Some, ap, arith, cond, eqb, inl, inr, refl, subst, suc, sym, true, ℕ, ◌<◌, ◌∙◌, ◌≡◌, ◌≢◌, false}
 use Rattle.std.proofs.lemmas.Bool.{cases_Bool, eqb-true, false≢true}
 use Rattle.std.proofs.lemmas.Option.{same_Some}
-use Rattle.std.specs.Prelude.{Bool, IfSome, IsSomeAnd, flat_map, option_map, ⊤, ◌-◌}
-use Rattle.word_map.specs.Names.{pool_lock}
+use Rattle.std.specs.Prelude.{Bool, IfSome, IsSomeAnd, option_map, ⊤, ◌-◌}
 use Rattle.word_map.specs.declared.name.Name.{Name}
 use Rattle.word_map.specs.declared.name.Name.TheVariants.{Arena, Update}
 use Rattle.core_state.specs.Core.{Core, IsViewAt, word_of}
 use Rattle.core_state.specs.Encoding.{IsInArena}
 use Rattle.core_state.specs.Guards.{KeepsGuards}
 use Rattle.core_state.specs.Invariants.{Invariants}
-use Rattle.core_state.specs.Kind.{Kind, Step, after_step, found_by, learned, log_after, view_after}
+use Rattle.core_state.specs.Kind.{Kind, Step, after_step, found_by, learned}
 use Rattle.core_state.specs.Nodes.{Nodes, nodes_in}
 use Rattle.core_state.specs.NodesInOnePlace.{NodesInOnePlace, node_scope, IsOfReplaced}
 use Rattle.core_state.specs.Noting.{IsEarly, MayBeginUpdate, begin_update, new_update}
-use Rattle.core_state.specs.Parts.{task_on_pool, update_on_nodes}
+use Rattle.core_state.specs.Parts.{update_on_nodes}
 use Rattle.core_state.specs.Scope.{Sight, sight}
 use Rattle.core_state.specs.Updates.{arena_after}
-use Rattle.core_state.specs.View.{Holds, IsPass}
-use Rattle.core_state.specs.declared.view.Batch.{Batch}
-use Rattle.core_state.specs.declared.view.Mode.TheVariants.{Write}
+use Rattle.core_state.specs.View.{IsPass}
 use Rattle.core_state.specs.declared.view.Rebuild.{Rebuild}
 use Rattle.core_state.specs.declared.view.View.{View}
 use Rattle.core_state.proofs.Opening.{none_in}
 use Rattle.core_state.proofs.Steps.{word-step, word-step-other}
 use Rattle.core_guard.proofs.Holders.{IsGuarded, guarded, keeps}
-use Rattle.core_guard.proofs.Leaving.{Acts, lawful}
-use Rattle.core_guard.proofs.NodesLeft.{together, owner-stays, pool-stays, same-nodes}
+use Rattle.core_guard.proofs.Leaving.{Acts}
 use Rattle.core_guard.proofs.Seats.{each-seats}
 use Rattle.core_guard.proofs.Touched.{IsKept, kept}
 use Rattle.core_update.proofs.AtRest.{IsQuietUpdate, none-made, none-returning}
 use Rattle.core_update.proofs.EarlySteps.{Invariants-early, NotesGoOn, quiet}
 use Rattle.core_update.proofs.OneArena.{arena-of-one}
 use Rattle.core_update.proofs.OtherUpdate.{HasPlan}
-use Rattle.core_update.proofs.Rebuilt.{Invariants-nothing, IsAlone, Rebuilds, rebuilt}
-use Rattle.core_update.proofs.UpdateNodes.{UpdateHolds, tree-next}
+use Rattle.core_update.proofs.Rebuilt.{Invariants-nothing, IsAlone, Rebuilds}
+use Rattle.core_update.proofs.UpdateNodes.{UpdateHolds, places-same}
 use Rattle.core_update.proofs.Updating.{none-updates}
 
 module _ (core : Core) (step : Step) (a : Acts core step) (asked : MayBeginUpdate step.view step.name step.first step.second) where
@@ -123,24 +119,8 @@ module _ (core : Core) (step : Step) (a : Acts core step) (asked : MayBeginUpdat
               n (subst (λ (x : ℕ). IsInArena core.config (1 - x) n) arena-same inside);
         }
 
-    last-is : view_after kind core step ≡ record step.view { known = log_after kind core step; joined = None; rebuild = Some new }
-    last-is = rebuilt kind core step a (Some new) rebuilds
-
     homes : NodesInOnePlace nodes After
-    homes =
-        together After nodes
-        (pool-stays kind core step (lawful a) nodes (λ n. (λ e. e, λ e. e))
-        (record {
-          head = λ same. let e = same ∙ asked.names in absurd cc;
-          next = λ n same. let e = same ∙ asked.names in absurd cc;
-          count = λ same. let e = same ∙ asked.names in absurd cc;
-          task = ap (λ (v : View). task_on_pool v.call.task) last-is;
-          lock = λ pooling held. subst (λ (v : View). Holds v (pool_lock core.config) Write) (sym last-is) held;
-        }))
-        (owner-stays kind core step (lawful a)
-        (same-nodes kind core step (ap (λ (v : View). flat_map (λ (b : Batch). b.nodes) v.batches) last-is) (ap (λ (v : View). v.loose) last-is)
-        (ap (λ (v : View). nodes_in v.rebuild) last-is ∙ sym (ap nodes_in own-none))))
-        (tree-next kind core step a (Some new) rebuilds alone nodes holds)
+    homes = places-same kind core step a (Some new) rebuilds alone (inl asked.names) (sym (ap nodes_in own-none)) holds
 
     -- ---- notes
 

@@ -1,24 +1,26 @@
 -- Where the nodes are after a step that changes the update of its pass, which alone has one.
 use Rattle.std.proofs.Common.{IsNone, IsSome, None, Option, Some, ap, arith, false, inl, inr, length, refl, subst, suc, sym, true, ℕ, ◌<◌, ◌∙◌, ◌≡◌, ◌≢◌, ◌≤◌, ◌⊎◌}
 use Rattle.std.proofs.lemmas.Bool.{false≢true}
-use Rattle.std.specs.Prelude.{Contains, IfSome, IsSomeAnd, option_map, ◌-◌}
-use Rattle.word_map.specs.Names.{node_count}
+use Rattle.std.specs.Prelude.{Contains, IfSome, IsSomeAnd, option_map, ◌-◌, flat_map}
+use Rattle.word_map.specs.Names.{node_count, pool_lock}
 use Rattle.word_map.specs.declared.name.Name.{Name}
 use Rattle.word_map.specs.declared.name.Name.TheVariants.{Arena, Main, Slot, Update}
 use Rattle.core_state.specs.Core.{Core, IsViewAt}
 use Rattle.core_state.specs.Encoding.{IsInArena}
 use Rattle.core_state.specs.Kind.{Kind, Step, after_step, view_after}
-use Rattle.core_state.specs.Nodes.{superseded, Home, IsInTree, Nodes, made, returning, spare, under}
-use Rattle.core_state.specs.NodesInOnePlace.{IsOfReplaced, NamesArena, node_scope}
-use Rattle.core_state.specs.Parts.{update_on_nodes}
+use Rattle.core_state.specs.Nodes.{superseded, Home, IsInTree, Nodes, made, returning, spare, under, nodes_in}
+use Rattle.core_state.specs.NodesInOnePlace.{IsOfReplaced, NamesArena, node_scope, NodesInOnePlace}
+use Rattle.core_state.specs.Parts.{update_on_nodes, task_on_pool}
 use Rattle.core_state.specs.Scope.{HasPass, Sight, sight}
 use Rattle.core_state.specs.Updates.{IsMadeIn, arena_after, arena_of}
-use Rattle.core_state.specs.View.{IsPass}
+use Rattle.core_state.specs.View.{IsPass, Holds}
+use Rattle.core_state.specs.declared.view.Batch.{Batch}
+use Rattle.core_state.specs.declared.view.Mode.TheVariants.{Write}
 use Rattle.core_state.specs.declared.view.Rebuild.{Rebuild}
 use Rattle.core_state.specs.declared.view.View.{View}
 use Rattle.core_state.proofs.Steps.{view-step}
-use Rattle.core_guard.proofs.Leaving.{Acts, if_some_map}
-use Rattle.core_guard.proofs.NodesLeft.{TreePart}
+use Rattle.core_guard.proofs.Leaving.{Acts, if_some_map, lawful}
+use Rattle.core_guard.proofs.NodesLeft.{TreePart, LeavesPool, owner-stays, pool-stays, same-nodes, together}
 use Rattle.core_guard.proofs.Seats.{stepped, stayed, HasSeat, SeatAfter, each-seat, has-seat, seat-after, seat-has, seen_of}
 use Rattle.core_update.proofs.OneArena.{arena-of-one}
 use Rattle.core_update.proofs.OtherUpdate.{ChangesUpdate, each-update, has-update}
@@ -155,3 +157,26 @@ module _ (kind : Kind) (core : Core) (step : Step) (a : Acts core step) (next : 
       idle = λ unread n inside. u.idle (subst (λ (o : Option Rebuild). IfSome o (λ r. IsNone r.arena)) own-seat.holds
           (each-seat node_scope (λ k v. refl) (after_step kind core step) (λ k v. IfSome v.rebuild (λ r. IsNone r.arena)) unread own-seat.seat step.number own-seat.view own-seat.at own-seat.pass)) n inside;
     }
+
+  -- ---- a step after which the nodes are as before, but for the pass
+
+  module _ (names : (step.name ≡ Update) ⊎ (step.name ≡ Arena)) where
+    pub leaves-pool : LeavesPool kind core step
+    leaves-pool =
+        let last = rebuilt kind core step a next b in
+        record {
+          head = λ same. elim names [ inl e ↦ let no = same ∙ e in absurd cc | inr e ↦ let no = same ∙ e in absurd cc ];
+          next = λ n same. elim names [ inl e ↦ let no = same ∙ e in absurd cc | inr e ↦ let no = same ∙ e in absurd cc ];
+          count = λ same. elim names [ inl e ↦ let no = same ∙ e in absurd cc | inr e ↦ let no = same ∙ e in absurd cc ];
+          task = ap (λ (v : View). task_on_pool v.call.task) last;
+          lock = λ pooling held. subst (λ (v : View). Holds v (pool_lock core.config) Write) (sym last) held;
+        }
+
+    -- where it has the nodes that it had
+    pub places-same : nodes_in next ≡ nodes_in step.view.rebuild → UpdateHolds nodes → NodesInOnePlace nodes (after_step kind core step)
+    places-same same holds =
+        let last = rebuilt kind core step a next b in
+        together (after_step kind core step) nodes (pool-stays kind core step (lawful a) nodes (λ n. (λ e. e, λ e. e)) leaves-pool)
+        (owner-stays kind core step (lawful a)
+        (same-nodes kind core step (ap (λ (v : View). flat_map (λ (x : Batch). x.nodes) v.batches) last) (ap (λ (v : View). v.loose) last) (ap (λ (v : View). nodes_in v.rebuild) last ∙ same)))
+        (tree-next nodes holds)

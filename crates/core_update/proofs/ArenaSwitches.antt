@@ -27,14 +27,14 @@ use Rattle.core_state.specs.declared.view.View.{View}
 use Rattle.core_state.proofs.Steps.{word-step, word-step-other}
 use Rattle.core_guard.proofs.Holders.{IsGuarded, guarded, keeps}
 use Rattle.core_guard.proofs.Leaving.{Acts}
-use Rattle.core_guard.proofs.Seats.{each-seat, seen_of}
+use Rattle.core_guard.proofs.Seats.{seen_of}
 use Rattle.core_guard.proofs.Touched.{IsKept, kept}
 use Rattle.core_update.proofs.AtEnd.{end-quiet}
 use Rattle.core_update.proofs.AtRest.{IsQuietUpdate, none-made, none-returning, quiet-alone}
 use Rattle.core_update.proofs.OneArena.{arena-of-one, arena-said}
 use Rattle.core_update.proofs.Rebuilt.{IsAlone, Rebuilds, unseen}
 use Rattle.core_update.proofs.UpdateNodes.{UpdateHolds, places-same}
-use Rattle.core_update.proofs.Updating.{names-update, others-update-none}
+use Rattle.core_update.proofs.Updating.{names-update, others-update-none, own-says}
 
 module _ (core : Core) (step : Step) (a : Acts core step) (asked : MaySwitchArena step.view step.name step.first step.second) where
   abbrev kind : Kind
@@ -83,13 +83,11 @@ module _ (core : Core) (step : Step) (a : Acts core step) (asked : MaySwitchAren
   update-now = word-step-other kind core step Update (λ e. let no = e ∙ asked.names in absurd cc) ∙ names-update core a.laws step.seat step.number step.view r a.at a.pass has
 
   -- what the law says of the own update
-  own-says : (P : ℕ → View → Rebuild → Type 0) → EachUpdate (sight node_scope core) P → P step.number (seen_of node_scope step.number step.view) (update_on_nodes r)
-  own-says P h =
-      subst (λ (o : Option Rebuild). IfSome (option_map update_on_nodes o) (P step.number (seen_of node_scope step.number step.view))) has
-      (each-seat node_scope (λ k v. refl) core (λ k v. IfSome v.rebuild (P k v)) h step.seat step.number step.view a.at a.pass)
+  own-nodes : (P : ℕ → View → Rebuild → Type 0) → EachUpdate (sight node_scope core) P → P step.number (seen_of node_scope step.number step.view) (update_on_nodes r)
+  own-nodes = own-says node_scope (λ k v. refl) update_on_nodes (λ k v. refl) core step.seat step.number step.view r a.at a.pass has
 
   old-low : old < 2
-  old-low = (subst (λ (o : Option ℕ). IfSome o (λ x. (x < 2) × (word_of core Arena ≡ cond r.is_switched (1 - x) x))) asked.ends.arena (own-says (λ k v q. NamesArena (sight node_scope core) q) a.laws.places.named)).0
+  old-low = (subst (λ (o : Option ℕ). IfSome o (λ x. (x < 2) × (word_of core Arena ≡ cond r.is_switched (1 - x) x))) asked.ends.arena (own-nodes (λ k v q. NamesArena (sight node_scope core) q) a.laws.places.named)).0
 
   says-now : (l named : ℕ) → arena_of (sight node_scope core) named l ≡ arena_after l (New.word Arena) (Some switched)
   says-now l named =
@@ -108,7 +106,7 @@ module _ (core : Core) (step : Step) (a : Acts core step) (asked : MaySwitchAren
         main = λ n l home inside. subst (λ (x : ℕ). IsInArena core.config x n) (says-now l (word_of core Arena)) inside;
         says = record {
           published = (end-quiet core step a r old asked.ends).published;
-          in_arena = own-says (λ k v q. (n : ℕ) → Contains q.nodes n → IsSomeAnd q.arena (λ x. IsInArena core.config (1 - x) n)) h.in_arena;
+          in_arena = own-nodes (λ k v q. (n : ℕ) → Contains q.nodes n → IsSomeAnd q.arena (λ x. IsInArena core.config (1 - x) n)) h.in_arena;
           named = subst (λ (o : Option ℕ). IfSome o (λ x. (x < 2) × (New.word Arena ≡ 1 - x))) (sym asked.ends.arena) (old-low, arena-now);
         };
         update = inl (update-now, refl);

@@ -8,3 +8,4 @@ pub mod UpdateNodes
 pub mod UpdateBegins
 pub mod AtEnd
 pub mod ArenaSwitches
+pub mod SlotNotes

@@ -64,6 +64,12 @@ module _ (kind : Kind) (core : Core) (step : Step) where
         frame scope Law core (after_step kind core step)
         (step-same scope kind core step a.at a.pass (record { name = hidden-name scope unread; entry = λ reads. b.entry; part = ap (seen_of scope step.number) rebuilt ∙ same }))
 
+    -- a load of which a law does not see the change of the update
+    pub unseen-load : ¬ Stores kind core step → (scope : Scope) (Law : Sight → Type 0) → seen_of scope step.number Left ≡ seen_of scope step.number step.view → Law (sight scope core) → Law (sight scope (after_step kind core step))
+    unseen-load unstored scope Law same =
+        frame scope Law core (after_step kind core step)
+        (step-same scope kind core step a.at a.pass (record { name = λ stored. absurd (unstored stored); entry = λ reads. b.entry; part = ap (seen_of scope step.number) rebuilt ∙ same }))
+
     -- of all else a law sees what it saw
     pub moved : (scope : Scope) → IsUnread scope → sight scope (after_step kind core step) ≡ record (sight scope core) { passes = (sight scope (after_step kind core step)).passes }
     moved scope unread =

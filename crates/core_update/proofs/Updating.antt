@@ -1,6 +1,6 @@
 -- The word of the update tells which pass has one under way.
-use Rattle.std.proofs.Common.{IsSome, None, Option, Some, ap, arith, is_some, suc, sym, ℕ, ◌∙◌, ◌≡◌, ◌≢◌, refl}
-use Rattle.std.specs.Prelude.{option_map}
+use Rattle.std.proofs.Common.{IsSome, None, Option, Some, ap, arith, is_some, suc, sym, ℕ, ◌∙◌, ◌≡◌, ◌≢◌, refl, subst}
+use Rattle.std.specs.Prelude.{option_map, IfSome}
 use Rattle.word_map.specs.declared.name.Name.TheVariants.{Update}
 use Rattle.core_state.specs.Core.{Core, IsViewAt, word_of}
 use Rattle.core_state.specs.Formed.{IsFormed}
@@ -8,12 +8,14 @@ use Rattle.core_state.specs.Invariants.{Invariants}
 use Rattle.core_state.specs.Kind.{Step}
 use Rattle.core_state.specs.NodesInOnePlace.{node_scope}
 use Rattle.core_state.specs.Parts.{update_on_nodes}
+use Rattle.core_state.specs.Scope.{Scope, sight}
+use Rattle.core_state.specs.Updates.{EachUpdate}
 use Rattle.core_state.specs.View.{IsPass}
 use Rattle.core_state.specs.declared.view.Rebuild.{Rebuild}
 use Rattle.core_state.specs.declared.view.View.{View}
 use Rattle.core_guard.proofs.Holders.{EachOther}
 use Rattle.core_guard.proofs.Owners.{same-seat}
-use Rattle.core_guard.proofs.Seats.{seat-has}
+use Rattle.core_guard.proofs.Seats.{seat-has, KeepsNumber, each-seat, seen_of}
 
 module _ (core : Core) (h : Invariants core) where
   some-seen : (o : Option Rebuild) (r : Rebuild) → o ≡ Some r → IsSome (option_map update_on_nodes o)
@@ -41,3 +43,11 @@ module _ (core : Core) (h : Invariants core) where
       let two = names-update seat number view q found own some in
       let same : number ≡ step.number = omega arith in
       absurd (apart (same-seat core formed seat step.seat number view step.view found at own (pass ∙ ap Some (sym same)))))
+
+-- what a law says of each update it says of the own one
+pub own-says : (scope : Scope) (keeps : KeepsNumber scope) (part : Rebuild → Rebuild) → ((number : ℕ) (view : View) → (seen_of scope number view).rebuild ≡ option_map part view.rebuild)
+    → (core : Core) (seat number : ℕ) (view : View) (r : Rebuild) → IsViewAt core seat view → IsPass view number → view.rebuild ≡ Some r → (P : ℕ → View → Rebuild → Type 0) → EachUpdate (sight scope core) P
+    → P number (seen_of scope number view) (part r)
+own-says scope keeps part reads core seat number view r at pass has P h =
+    subst (λ (o : Option Rebuild). IfSome o (P number (seen_of scope number view))) (reads number view ∙ ap (option_map part) has)
+    (each-seat scope keeps core (λ k v. IfSome v.rebuild (P k v)) h seat number view at pass)

@@ -3,6 +3,7 @@
 use Rattle.std.proofs.Common.{List, None, Option, Some, ap, refl, subst, sym, ℕ, ◌∙◌, ◌≡◌}
 use Rattle.std.proofs.lemmas.Bool.{true≢false}
 use Rattle.std.specs.Prelude.{Contains, IfSome, IsSomeAnd, option_map}
+use Rattle.word_map.specs.declared.config.Config.{Config}
 use Rattle.word_map.specs.declared.name.Name.{Name}
 use Rattle.core_state.specs.BodiesAgree.{BodiesAgreeIn, body_scope}
 use Rattle.core_state.specs.BodiesCovered.{BodiesCovered, BodiesCoveredIn, cover_scope}
@@ -33,6 +34,14 @@ use Rattle.core_update.proofs.AtRest.{IsQuietUpdate, no-second, none-made, none-
 use Rattle.core_update.proofs.OtherUpdate.{BodiesCovered-next, CoverGoesOn, KeepsPlan, LocationsHold-next, ReadersCounted-next, TreesSound-next, no-root, HasPlan}
 use Rattle.core_update.proofs.Rebuilt.{Rebuilds, moved, changes, unseen, IsAlone}
 
+-- an early update is quiet
+pub early-quiet : (c : Config) (r : Rebuild) → IsEarly r → IsQuietUpdate c r
+early-quiet c r e = record {
+  promoted = λ i among. absurd (none_in i (subst (λ (l : List ℕ). Contains l i) e.placed among));
+  published = λ planned. absurd (true≢false (sym planned ∙ e.unplanned));
+  returned = e.returning;
+}
+
 -- what is to be shown of notes, as the law of bodies reads them
 abbrev pub NotesGoOn : Nodes → Kind → Core → Step → Option Rebuild → Type 0
 NotesGoOn nodes kind core step next =
@@ -47,15 +56,8 @@ module _ (kind : Kind) (core : Core) (step : Step) (a : Acts core step) (next : 
   abbrev After : Core
   After = after_step kind core step
 
-  early-quiet : (r : Rebuild) → IsEarly r → IsQuietUpdate core.config r
-  early-quiet r e = record {
-    promoted = λ i among. absurd (none_in i (subst (λ (l : List ℕ). Contains l i) e.placed among));
-    published = λ planned. absurd (true≢false (sym planned ∙ e.unplanned));
-    returned = e.returning;
-  }
-
   pub quiet : (seat number : ℕ) (view : View) → IsViewAt core seat view → IsPass view number → IfSome view.rebuild (IsQuietUpdate core.config)
-  quiet = quiet-alone core step a.at alone (if_some_map step.view.rebuild IsEarly (IsQuietUpdate core.config) early-quiet before)
+  quiet = quiet-alone core step a.at alone (if_some_map step.view.rebuild IsEarly (IsQuietUpdate core.config) (early-quiet core.config) before)
 
   -- the update as a law sees it
   seen-next : (f : Rebuild → Rebuild) (o : Option Rebuild) (P Q : Rebuild → Type 0) → ((r : Rebuild) → P r → Q (f r)) → IfSome o P → IfSome (option_map f o) Q

@@ -9,3 +9,6 @@ pub mod UpdateBegins
 pub mod AtEnd
 pub mod ArenaSwitches
 pub mod SlotNotes
+pub mod Ranges
+pub mod Rehomed
+pub mod ArenaLoads

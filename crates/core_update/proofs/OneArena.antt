@@ -27,7 +27,7 @@ says-again layer named None = refl
 says-again layer named (Some r) = go r.arena refl
   where
     go : (arena : Option ℕ) → r.arena ≡ arena → arena_after layer (arena_after layer named (Some r)) (Some r) ≡ arena_after layer named (Some r)
-    go None e = let same : arena_after layer named (Some r) ≡ named = rw e refl in ap (λ (x : ℕ). arena_after layer x (Some r)) same
+    go None e = ap (λ (x : ℕ). arena_after layer x (Some r)) (let same : arena_after layer named (Some r) ≡ named = rw e refl in same)
     go (Some old) e = rw e refl
 
 module _ (layer : ℕ) (o : Option Rebuild) where
@@ -83,3 +83,7 @@ module _ (core : Core) (seat number : ℕ) (view : View) (at : IsViewAt core sea
 -- where the update has loaded the number of the arena, it says all
 pub arena-said : (layer named old : ℕ) (r : Rebuild) → r.arena ≡ Some old → arena_after layer named (Some r) ≡ cond (nat_lt layer (length r.swapped)) (1 - old) old
 arena-said layer named old r e = rw e refl
+
+-- and where it has not, nothing
+pub arena-unsaid : (layer named : ℕ) (r : Rebuild) → r.arena ≡ None → arena_after layer named (Some r) ≡ named
+arena-unsaid layer named r e = rw e refl

@@ -48,7 +48,7 @@ use Rattle.core_guard.proofs.Settled.{sound}
 use Rattle.core_guard.proofs.Touched.{IsKept, kept}
 use Rattle.core_guard.proofs.TreesLeft.{TreesSound-touches}
 use Rattle.core_batch.proofs.Lists.{pairs-append}
-use Rattle.core_batch.proofs.NodesStep.{OwnsAfter, once, owner-part}
+use Rattle.core_batch.proofs.NodesStep.{OwnsAfter, owner-part}
 use Rattle.core_batch.proofs.Owning.{owner-has}
 use Rattle.core_batch.proofs.Rehome.{owned_spare}
 use Rattle.core_update.proofs.AtRest.{IsQuietUpdate, none-made, none-returning, quiet-alone}

@@ -12,3 +12,7 @@ pub mod SlotNotes
 pub mod Ranges
 pub mod Rehomed
 pub mod ArenaLoads
+pub mod Looked
+pub mod MergedTrees
+pub mod Phases
+pub mod BodyNotes

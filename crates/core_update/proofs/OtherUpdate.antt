@@ -7,7 +7,7 @@ use Rattle.scene_model.specs.Scene.{Record}
 use Rattle.scene_model.specs.Step.{HasBody}
 use Rattle.word_map.specs.declared.name.Name.{Name}
 use Rattle.word_map.specs.declared.name.Name.TheVariants.{LocB, Phase, Reader}
-use Rattle.core_state.specs.BodiesCovered.{BodiesCoveredIn, NotesHold, KeepsMerged, ExchangesDone}
+use Rattle.core_state.specs.BodiesCovered.{BodiesCoveredIn, NotesHold, KeepsMerged, ExchangesDone, IsAsNoted}
 use Rattle.core_state.specs.Encoding.{place, bound_in, phase_join}
 use Rattle.core_state.specs.LocationsHold.{LocationsHoldIn, IsAt, Removes, IsTakenOut, IsWhere, in_slot, in_main, in_old, in_merged, IsPlannedAt, IsPublishedAt, ClimbsFrom, IsUnheld}
 use Rattle.core_state.specs.Nodes.{Nodes, Home, made, under, superseded, returning}
@@ -224,6 +224,29 @@ module _ (nodes : Nodes) (s : Sight) (passes : List View) (number : ℕ) (v : Vi
         }
 
   -- ---- bodies
+
+  -- what an update noted of bodies holds for it as it was
+  as_noted-next : (n : Noted) → IsAsNoted s n → IsAsNoted Now n
+  as_noted-next n h = record {
+    looks = record { state = h.looks.state; location = h.looks.location };
+    phase = λ left. h.phase (λ removed. left (removed.0, has-call removed.0 (λ call. Removes call.task n.index) removed.1));
+    layer = h.layer;
+    same = h.same;
+  }
+
+  pub notes-next : (r : Rebuild) → NotesHold nodes s v r → NotesHold nodes Now Own r
+  notes-next r h = record {
+    all_noted = λ i opened tree. let t = h.all_noted i opened tree in (t.0, t.1, t.2, as_noted-next t.0 t.3);
+    still_there = λ n among opened looks. let t = h.still_there n among opened (record { state = looks.state; location = looks.location }) in (t.0, as_noted-next n t.1);
+    located = h.located;
+    in_old = h.in_old;
+    placed = h.placed;
+    given_up = h.given_up;
+    once = h.once;
+    passed = h.passed;
+    boxes = h.boxes;
+    begun = h.begun;
+  }
 
   pub BodiesCovered-next : IfSome o (CoverGoesOn nodes Now Own) → BodiesCoveredIn nodes s → BodiesCoveredIn nodes Now
   BodiesCovered-next own h = record {

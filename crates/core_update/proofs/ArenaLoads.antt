@@ -21,11 +21,11 @@ use Rattle.core_state.specs.Log.{word}
 use Rattle.core_state.specs.Nodes.{Home, IsInTree, IsOwnedBy, Nodes, free, nodes_in, nodes_of, owned, spare}
 use Rattle.core_state.specs.NodesInOnePlace.{IsOfReplaced, NodesInOnePlace, node_scope}
 use Rattle.core_state.specs.Noting.{MayLoadArena, load_arena, with_arena}
-use Rattle.core_state.specs.Operation.{load, store}
+use Rattle.core_state.specs.Operation.{load}
 use Rattle.core_state.specs.Parts.{update_on_cover, update_on_nodes, update_on_places, update_on_readers, update_on_trees}
 use Rattle.core_state.specs.ReadersCounted.{ReadersCountedIn, reader_scope}
 use Rattle.core_state.specs.Scope.{IsOnce, Scope, Sight, sight}
-use Rattle.core_state.specs.TreesSound.{TreesSoundIn, below, tree_scope}
+use Rattle.core_state.specs.TreesSound.{TreesSoundIn, tree_scope}
 use Rattle.core_state.specs.Updates.{EachUpdate, arena_after, arena_of}
 use Rattle.core_state.specs.View.{IsPass}
 use Rattle.core_state.specs.WalksLead.{WalksLeadIn, walk_scope}

@@ -9,7 +9,7 @@ use Rattle.core_state.specs.Encoding.{node_child}
 use Rattle.core_state.specs.Invariants.{Invariants}
 use Rattle.core_state.specs.Kind.{Step}
 use Rattle.core_state.specs.LocationsHold.{location_scope, IsSecondFor}
-use Rattle.core_state.specs.Nodes.{made, returning}
+use Rattle.core_state.specs.Nodes.{made, returning, Nodes}
 use Rattle.core_state.specs.NodesInOnePlace.{node_scope}
 use Rattle.core_state.specs.Parts.{update_on_nodes, update_on_trees, update_on_places}
 use Rattle.core_state.specs.Scope.{Sight, sight}
@@ -34,6 +34,12 @@ pub record IsQuietUpdate (c : Config) (r : Rebuild) : Type 0 where
 seen-fact : (f : Rebuild → Rebuild) (o : Option Rebuild) (P Q : Rebuild → Type 0) → ((r : Rebuild) → Q r → ¬ P (f r)) → IfSome o Q → ¬ IsSomeAnd (option_map f o) P
 seen-fact f None P Q none q h = h
 seen-fact f (Some r) P Q none q h = none r q h
+
+-- a node below another is one level lower
+pub child-depth : (nodes : Nodes) (s : Sight) (m k n : ℕ) → IsChild nodes s m k → s.word (Child m k) ≡ node_child n → nodes.depth n ≡ suc (nodes.depth m)
+child-depth nodes s m k n (nothing none) e = absurd (omega arith)
+child-depth nodes s m k n (a_body i low body) e = absurd (omega arith)
+child-depth nodes s m k n (a_node x node home parent depth) e = let same : x ≡ n = omega arith in subst (λ (y : ℕ). nodes.depth y ≡ suc (nodes.depth m)) same depth
 
 module _ (core : Core) (h : Invariants core) (quiet : (seat number : ℕ) (view : View) → IsViewAt core seat view → IsPass view number → IfSome view.rebuild (IsQuietUpdate core.config)) where
   pub no-second : (i : ℕ) → word_of core (LocB i) ≡ 0
@@ -66,17 +72,12 @@ module _ (core : Core) (h : Invariants core) (quiet : (seat number : ℕ) (view 
         let from = has-seat tree_scope (λ k v. refl) core number (λ v. HasUpdate v (λ r. IsLeftNode h.nodes Trees number r n)) (h.trees.left_nodes n number home) in
         left-of n from.view.rebuild (quiet from.seat number from.view from.at from.pass) from.holds
 
-    child-depth : (m k n : ℕ) → IsChild h.nodes Trees m k → Trees.word (Child m k) ≡ node_child n → h.nodes.depth n ≡ suc (h.nodes.depth m)
-    child-depth m k n (nothing none) e = absurd (omega arith)
-    child-depth m k n (a_body i low body) e = absurd (omega arith)
-    child-depth m k n (a_node x node home parent depth) e = let same : x ≡ n = omega arith in subst (λ (y : ℕ). h.nodes.depth y ≡ suc (h.nodes.depth m)) same depth
-
     above_left : (n : ℕ) → h.nodes.home n ≡ returning number → (m : ℕ) × (h.nodes.home m ≡ returning number) × (h.nodes.depth n ≡ suc (h.nodes.depth m))
     above_left n home = let t = left_node n home in go t.0 t.1.left t.2
       where
         go : (r : Rebuild) → IsLeft h.nodes Trees number r n → r.returning ≡ [] → (m : ℕ) × (h.nodes.home m ≡ returning number) × (h.nodes.depth n ≡ suc (h.nodes.depth m))
         go r (as_top level among) none = absurd (none_in _ (subst (λ (l : List Waiting). Contains l (record { node = n; level = level })) none among))
-        go r (below m k low parent child at) none = (m, at, child-depth m k n ((left_node m at).1.children k low) child)
+        go r (below m k low parent child at) none = (m, at, child-depth h.nodes Trees m k n ((left_node m at).1.children k low) child)
 
     none_as_deep : (d n : ℕ) → h.nodes.depth n ≡ d → h.nodes.home n ≢ returning number
     none_as_deep zero n deep home = let t = above_left n home in let more = t.2 in absurd (omega arith)

@@ -442,15 +442,20 @@ module _ (core : Core) (step : Step) (a : Acts core step) (asked : MayLookAtBody
     tree : IsInOldTree nodes Sees R index
     tree =
         let t = a.laws.cover.covered index q is-live is-in in
-        let at : word_of core (LocA index) ≡ place t.0 t.1 = elim (t.2.1) [ inl one ↦ one | inr two ↦ let none = unsecond in absurd (omega arith) ] in
-        (t.0, t.1, t.2.0, at, elim (stands-in q is-live t.0 t.1 t.2.0 at is-in) [
-          | inl s ↦
-              elim where-known [
-                | inl m ↦ let same : m.0 ≡ s.0 = let one = m.1 in let two = s.1 in omega arith in subst (IsOldTree R) (sym s.2) (m.2.0, subst (λ (k : ℕ). IsStillMerged R q.layer k m.2.0) same m.2.1)
-                | inr m ↦ let join = s.1 in absurd (omega arith)
-              ]
-          | inr m ↦ subst (IsOldTree R) (sym m.1) (let few = ap (λ (l : List ℕ). length l) asked.early.swapped in omega arith)
-        ])
+        let at : word_of core (LocA index) ≡ place t.0 t.1 = elim (t.2.1) [ inl one ↦ one | inr two ↦ let none = unsecond in absurd (omega arith) ] in (
+          t.0,
+          t.1,
+          t.2.0,
+          at,
+          elim (stands-in q is-live t.0 t.1 t.2.0 at is-in) [
+            | inl s ↦
+                elim where-known [
+                  | inl m ↦ let same : m.0 ≡ s.0 = let one = m.1 in let two = s.1 in omega arith in subst (IsOldTree R) (sym s.2) (m.2.0, subst (λ (k : ℕ). IsStillMerged R q.layer k m.2.0) same m.2.1)
+                  | inr m ↦ let join = s.1 in absurd (omega arith)
+                ]
+            | inr m ↦ subst (IsOldTree R) (sym m.1) (let few = ap (λ (l : List ℕ). length l) asked.early.swapped in omega arith)
+          ],
+        )
 
     same-body : (generation_known (learned core step) index ≡ q.generation)
     same-body = ap (λ (c : Config). generation_of (record_at (scene_at c core.log) index)) config ∙ ap generation_of is-live
@@ -481,9 +486,13 @@ module _ (core : Core) (step : Step) (a : Acts core step) (asked : MayLookAtBody
           noted = noted-as;
           located = λ none. absurd (omega arith);
           in_old = (tree.0, tree.1, tree.2, at, tree.4);
-          box = (length Sees.history, was.begun, omega arith,
-              subst (λ (s : Scene). HasBody s index (λ x. (x.generation ≡ new.generation) × (x.layer ≡ new.layer) × (sides_of new.bounds ≡ sides_of (words_of x.bounds)))) (sym (last_point core))
-              (record_body (record_at (scene_of core) index) _ q is-live (sym same-body, sym layer-now, ap sides_of box-now)));
+          box = (
+            length Sees.history,
+            was.begun,
+            omega arith,
+            subst (λ (s : Scene). HasBody s index (λ x. (x.generation ≡ new.generation) × (x.layer ≡ new.layer) × (sides_of new.bounds ≡ sides_of (words_of x.bounds)))) (sym (last_point core))
+                (record_body (record_at (scene_of core) index) _ q is-live (sym same-body, sym layer-now, ap sides_of box-now)),
+          );
         }
 
     by-location : Invariants After

@@ -16,3 +16,6 @@ pub mod Looked
 pub mod MergedTrees
 pub mod Phases
 pub mod BodyNotes
+pub mod NamedTrees
+pub mod Between
+pub mod UpdateEnds

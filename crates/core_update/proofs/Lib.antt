@@ -1,0 +1,2 @@
+pub mod OwnUpdate
+pub mod Unmoved

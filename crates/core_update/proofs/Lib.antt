@@ -1,2 +1,4 @@
 pub mod OwnUpdate
 pub mod Unmoved
+pub mod Promoting
+pub mod Promotions

@@ -25,8 +25,8 @@ use Rattle.core_state.specs.Encoding.{body_child, place, Sides, sides_of, Covers
 use Rattle.core_state.specs.Nodes.{Nodes, made, Stands, IsLive, IsPublished, Above, here, higher}
 use Rattle.core_state.specs.Parts.{call_on_places, update_on_places}
 use Rattle.core_state.specs.Scope.{Sight, sight, scene_in, HasPass}
-use Rattle.core_state.specs.Updates.{IsNoted}
-use Rattle.core_state.specs.LocationsHold.{LocationsHold, location_scope, IsLocation, IsAt, Encloses, box_in, IsTakenOut, IsUnheld, IsRemoved, Removes, IsWhere, IsSecond, ClimbsFrom, IsPlannedAt, IsPublishedAt}
+use Rattle.core_state.specs.Updates.{IsNoted, HasUpdate, IsPlacing}
+use Rattle.core_state.specs.LocationsHold.{LocationsHold, location_scope, IsLocation, IsAt, Encloses, box_in, IsTakenOut, IsUnheld, IsRemoved, Removes, IsWhere, IsSecond, IsPlacedNow, ClimbsFrom, IsPlannedAt, IsPublishedAt}
 use Rattle.core_state.proofs.Frames.{step-history}
 use Rattle.core_state.proofs.Steps.{word-step-other}
 use Rattle.core_guard.proofs.Leaving.{Acts, After, Last}
@@ -101,7 +101,7 @@ module _ (kind : Kind) (core : Core) (step : Step) (a : Acts core step) (r after
         zero-place : (n k : ℕ) → 0 ≡ place n k → ⊥
         zero-place n k e = absurd (omega arith)
 
-    no-second : (i : ℕ) → word_of core (LocB i) ≡ 0 → word_of (After kind core step) (LocB i) ≡ 0
+    pub no-second : (i : ℕ) → word_of core (LocB i) ≡ 0 → word_of (After kind core step) (LocB i) ≡ 0
     no-second i none = elim (u.second i) [ inl same ↦ same ∙ none | inr zero ↦ zero ]
 
     at-forth : (i : ℕ) (b : Record) (n k : ℕ) → IsAt nodes Was i b n k → IsAt later Is i b n k
@@ -118,6 +118,19 @@ module _ (kind : Kind) (core : Core) (step : Step) (a : Acts core step) (r after
       has-step location_scope (λ k v. refl) kind core step a.at a.pass h.0 (λ v. Removes v.call.task i) (λ v. Removes v.call.task i) h.1 (λ seat view apart found own removes. removes)
           (λ same removes. subst (λ (c : Call). Removes (call_on_places c).task i) (sym u.call) removes),
     )
+
+    pub placed_now-forth : (i : ℕ) → IsPlacedNow Was i → IsPlacedNow Is i
+    placed_now-forth i h = (
+      h.0,
+      has-step location_scope (λ k v. refl) kind core step a.at a.pass h.0 (λ v. IsPlacing v.call.task i) (λ v. IsPlacing v.call.task i) h.1 (λ seat view apart found own places. places)
+          (λ same places. subst (λ (c : Call). IsPlacing (call_on_places c).task i) (sym u.call) places),
+    )
+
+    -- of what the update says of itself and what has not changed
+    pub update-forth : (number : ℕ) (P : Rebuild → Type 0) → (P (update_on_places r) → P (update_on_places after)) → HasPass Was number (λ v. HasUpdate v P) → HasPass Is number (λ v. HasUpdate v P)
+    update-forth number P more h =
+        let t = has-own kind core step a r u.update location_scope (λ k v. refl) update_on_places (λ bare v. refl) number P h in
+        subst (λ (q : ℕ). HasPass Is q (λ v. HasUpdate v P)) t.0 (own-has kind core step a r u.update location_scope (λ k v. refl) update_on_places (λ bare v. refl) after u.rebuild P (more t.1))
 
     -- ---- passes, with an update that noted the same
 
@@ -163,9 +176,6 @@ module _ (kind : Kind) (core : Core) (step : Step) (a : Acts core step) (r after
         widened_on_way = λ x y q value stored. let w = p.widened_on_way x y q value stored in (w.0, w.1, climbs-forth call.task w.0 w.1 w.2, above-forth w.0 w.1 x y w.3);
       }
 
-    own-noted : (P : List Noted → Type 0) → P (update_on_places r).noted → P (update_on_places after).noted
-    own-noted P h = subst P (sym u.noted) h
-
     passes-later : EachPlaced later Is
     passes-later =
         each-step location_scope (λ k v. refl) kind core step a.at a.pass (λ number v. PassIsPlaced nodes Was v.call v.rebuild) (λ number v. PassIsPlaced later Is v.call v.rebuild) (pass-placed nodes Was a.laws.locations)
@@ -201,10 +211,8 @@ module _ (kind : Kind) (core : Core) (step : Step) (a : Acts core step) (r after
           entries = λ i n k published below entry. u.location i n k (g.entries i n k published below (sym (word-same (Child n k) refl) ∙ entry));
           made_entries = λ i n k number l home below entry.
               let was = h.made_entries i n k number l (g.made n number l home) below (sym (word-same (Child n k) refl) ∙ entry) in
-              let t = has-own kind core step a r u.update location_scope (λ k v. refl) update_on_places (λ bare v. refl) number (λ x. IsNoted x i (λ m. (m.place ≡ place n k) × (m.layer ≡ l))) was in
-              subst (λ (p : ℕ). HasPass Is p (λ v. IsSomeAnd v.rebuild (λ x. IsNoted x i (λ m. (m.place ≡ place n k) × (m.layer ≡ l))))) t.0
-              (own-has kind core step a r u.update location_scope (λ k v. refl) update_on_places (λ bare v. refl) after u.rebuild (λ x. IsNoted x i (λ m. (m.place ≡ place n k) × (m.layer ≡ l)))
-              (own-noted (λ (noted : List Noted). (m : Noted) × Contains noted m × (m.index ≡ i) × ((m.place ≡ place n k) × (m.layer ≡ l))) t.1));
+              update-forth number (λ x. IsNoted x i (λ m. (m.place ≡ place n k) × (m.layer ≡ l)))
+              (λ t. subst (λ (noted : List Noted). (m : Noted) × Contains noted m × (m.index ≡ i) × ((m.place ≡ place n k) × (m.layer ≡ l))) (sym u.noted) t) was;
           planned =
               own-each kind core step a r u.update location_scope (λ k v. refl) update_on_places (λ bare v. refl) after u.rebuild
               (λ number v x. (noted : Noted) → Contains x.noted noted → x.is_planned ≡ true → length x.swapped ≤ noted.layer → IsPlannedAt later Is number v x noted)

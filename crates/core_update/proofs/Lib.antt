@@ -2,3 +2,8 @@ pub mod OwnUpdate
 pub mod Unmoved
 pub mod Promoting
 pub mod Promotions
+pub mod Beside
+pub mod CoverSecond
+pub mod SecondLoads
+pub mod SecondClears
+pub mod FirstStores

@@ -44,6 +44,17 @@ module _ (kind : Kind) (core : Core) (step : Step) (a : Acts core step) (r : Reb
         subst (λ (o : Option Rebuild). IfSome o (P step.number (seen_of scope step.number step.view))) seen_before
         (each-seat scope keeps core (λ n v. IfSome v.rebuild (P n v)) h step.seat step.number step.view a.at a.pass)
 
+    pub own-all : (P : ℕ → View → Rebuild → Type 0) → P step.number (seen_of scope step.number step.view) (part r) → EachUpdate Old P
+    own-all P own =
+        each-seats scope keeps core (λ n v. IfSome v.rebuild (P n v)) (λ seat number view found is. go seat number view found is (seat-before scope keeps kind core step a.at a.pass seat number view found is))
+      where
+        go : (seat number : ℕ) (view : View) → IsViewAt core seat view → IsPass view number → SeatBefore scope keeps kind core step a.at a.pass seat number view → IfSome (seen_of scope number view).rebuild (P number (seen_of scope number view))
+        go seat number view found is (steps_now same one two) =
+            subst (λ (n : ℕ). IfSome (seen_of scope n view).rebuild (P n (seen_of scope n view))) two
+            (subst (λ (v : View). IfSome (seen_of scope step.number v).rebuild (P step.number (seen_of scope step.number v))) one
+            (subst (λ (o : Option Rebuild). IfSome o (P step.number (seen_of scope step.number step.view))) (sym seen_before) own))
+        go seat number view found is (stays apart new) = subst (λ (o : Option Rebuild). IfSome o (P number (seen_of scope number view))) (sym (unseen seat number view apart found is)) tt
+
     pub has-own : (number : ℕ) (P : Rebuild → Type 0) → HasPass Old number (λ v. HasUpdate v P) → (step.number ≡ number) × P (part r)
     has-own number P h =
         let from = has-seat scope keeps core number (λ v. HasUpdate v P) h in

@@ -76,6 +76,7 @@ module _ (kind : Kind) (core : Core) (step : Step) (a : Acts core step) (i : ℕ
     pub below : child < 4
     pub at : word_of core (LocB i) ≡ place node child
     pub home : nodes.home node ≡ under (Main noted.layer)
+    pub published : noted.layer < length p.r.swapped
     pub same : HasBody (scene_of core) i (λ b. (b.generation ≡ noted.generation) × (b.layer ≡ noted.layer))
 
   pub promoted : word_of core (LocB i) ≢ 0 → IsPromoted
@@ -96,6 +97,7 @@ module _ (kind : Kind) (core : Core) (step : Step) (a : Acts core step) (i : ℕ
         below = at.2;
         at = n.3.0 ∙ at.3;
         home = at.4;
+        published = swapped n.0 n.1 t.0;
         same = subst (λ (j : ℕ). HasBody (scene_of core) j (λ b. (b.generation ≡ n.0.generation) × (b.layer ≡ n.0.layer))) n.2 n.3.1;
       }
 

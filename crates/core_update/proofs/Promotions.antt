@@ -32,10 +32,10 @@ use Rattle.core_update.proofs.Unmoved.{Unmoved, is_aside, word-same, scene-same,
 pub one-place : (n k m j : ℕ) → k < 4 → j < 4 → place n k ≡ place m j → n ≡ m
 one-place n k m j low high e = omega arith
 
-main_old : (l p : ℕ) (name : Name) → under (Main l) ≢ superseded p name
+pub main_old : (l p : ℕ) (name : Name) → under (Main l) ≢ superseded p name
 main_old l p name e = absurd cc
 
-main_slot : (l m t : ℕ) → under (Main l) ≢ under (Slot m t)
+pub main_slot : (l m t : ℕ) → under (Main l) ≢ under (Slot m t)
 main_slot l m t e = absurd cc
 
 module _ (kind : Kind) (core : Core) (step : Step) (a : Acts core step) (i : ℕ) (p : IsToPromote step.view i) where
@@ -60,7 +60,7 @@ module _ (kind : Kind) (core : Core) (step : Step) (a : Acts core step) (i : ℕ
     pub was : (word_of core (LocB i) ≡ 0) ⊎ (IsPromoted kind core step a i p × (word_of core (LocA i) ≡ word_of core (LocB i)))
 
   module _ (h : Promotes) where
-    second-else : (j : ℕ) → j ≢ i → word_of (After kind core step) (LocB j) ≡ word_of core (LocB j)
+    pub second-else : (j : ℕ) → j ≢ i → word_of (After kind core step) (LocB j) ≡ word_of core (LocB j)
     second-else j apart = word-step-other kind core step (LocB j) (λ e. apart (index-of (e ∙ h.names)))
       where
         index_in : Name → ℕ
@@ -77,7 +77,7 @@ module _ (kind : Kind) (core : Core) (step : Step) (a : Acts core step) (i : ℕ
           | inr apart ↦ inl (second-else j apart)
         ]
 
-    location-forth : (j n k : ℕ) → IsLocation Was j n k → IsLocation Is j n k
+    pub location-forth : (j n k : ℕ) → IsLocation Was j n k → IsLocation Is j n k
     location-forth j n k t = (
       t.0,
       elim (t.1) [
@@ -123,9 +123,9 @@ module _ (kind : Kind) (core : Core) (step : Step) (a : Acts core step) (i : ℕ
     same = word-same kind core step a p.r after nodes unmoved
 
     -- a body with a second location that it keeps is another one, or its first one is in the main tree
-    where-else : (j layer n k : ℕ) (home : Home) → k < 4 → word_of core (LocA j) ≡ place n k → nodes.home n ≡ home → ((l : ℕ) → under (Main l) ≢ home) → word_of core (LocB j) ≢ 0
+    pub where-else : (j n k : ℕ) (home : Home) → k < 4 → word_of core (LocA j) ≡ place n k → nodes.home n ≡ home → ((l : ℕ) → under (Main l) ≢ home) → word_of core (LocB j) ≢ 0
         → word_of (After kind core step) (LocB j) ≡ word_of core (LocB j)
-    where-else j layer n k home below at is other some =
+    where-else j n k home below at is other some =
         elim (cases_eq j i) [
           | inr apart ↦ second-else j apart
           | inl one ↦
@@ -150,10 +150,10 @@ module _ (kind : Kind) (core : Core) (step : Step) (a : Acts core step) (i : ℕ
           | inr (inr old) ↦ inr (inr (old.0, update-forth kind core step a p.r after nodes unmoved old.0 (λ x. length x.swapped ≤ layer) (λ few. few) old.1))
         ])
     where-forth j layer n k below at (in_old number name e some home of_layer) =
-        let kept = where-else j layer n k (superseded number name) below at home (λ l. main_old l number name) some in
+        let kept = where-else j n k (superseded number name) below at home (λ l. main_old l number name) some in
         in_old number name (same (Phase j) refl ∙ e) (λ zero. some (sym kept ∙ zero)) home of_layer
     where-forth j layer n k below at (in_merged number t root e some home has) =
-        let kept = where-else j layer n k (under (Slot layer t)) below at home (λ l. main_slot l layer t) some in
+        let kept = where-else j n k (under (Slot layer t)) below at home (λ l. main_slot l layer t) some in
         in_merged number t root (same (Phase j) refl ∙ e) (λ zero. some (sym kept ∙ zero)) home (update-forth kind core step a p.r after nodes unmoved number (λ x. IsStillMerged x layer t root) (λ still. still) has)
 
     second-forth : (j : ℕ) → word_of (After kind core step) (LocB j) ≢ 0 → IsSecond Is j

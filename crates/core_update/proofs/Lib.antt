@@ -7,3 +7,6 @@ pub mod CoverSecond
 pub mod SecondLoads
 pub mod SecondClears
 pub mod FirstStores
+pub mod Turning
+pub mod Publishing
+pub mod PublishTrees

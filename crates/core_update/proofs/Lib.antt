@@ -10,3 +10,7 @@ pub mod FirstStores
 pub mod Turning
 pub mod Publishing
 pub mod PublishTrees
+pub mod PublishFacts
+pub mod PublishPlaces
+pub mod PublishReaders
+pub mod PublishCover

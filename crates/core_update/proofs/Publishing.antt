@@ -11,7 +11,7 @@ use Rattle.core_state.specs.declared.view.Rebuild.{Rebuild}
 use Rattle.core_state.specs.declared.view.View.{View}
 use Rattle.core_state.specs.Core.{Core, word_of}
 use Rattle.core_state.specs.Kind.{Kind, Step, log_after}
-use Rattle.core_state.specs.Encoding.{NamesRoot}
+use Rattle.core_state.specs.Encoding.{NamesRoot, layer_of}
 use Rattle.core_state.specs.Nodes.{Nodes, under, made, node_in}
 use Rattle.core_state.specs.TreesSound.{IsSupersededRoot}
 use Rattle.core_state.specs.Updates.{IsOldTree, IsStillMerged, IsDone}
@@ -67,6 +67,7 @@ module _ (kind : Kind) (core : Core) (step : Step) (a : Acts core step) (r : Reb
     pub still_left : (l : ℕ) → length r.swapped ≤ l → Main l ≢ step.name → length q.swapped ≤ l
     pub exchanged : (l : ℕ) → l < length r.swapped → Main l ≢ step.name
     pub now : (l : ℕ) → l < length q.swapped → (l < length r.swapped) ⊎ (Main l ≡ step.name)
+    pub layer : (l : ℕ) → layer_of step.name ≡ Some l → l < length q.swapped
     pub merged : (l t root : ℕ) → IsStillMerged update_after l t root → IsStillMerged r l t root × (Slot l t ≢ step.name)
     pub still_merged : (l t root : ℕ) → IsStillMerged r l t root → Slot l t ≢ step.name → IsStillMerged update_after l t root
     -- the roots of trees that are out of sight are those that were, and that of this one

@@ -14,3 +14,5 @@ pub mod PublishFacts
 pub mod PublishPlaces
 pub mod PublishReaders
 pub mod PublishCover
+pub mod UpToRoot
+pub mod SameWays

@@ -16,3 +16,4 @@ pub mod PublishReaders
 pub mod PublishCover
 pub mod UpToRoot
 pub mod SameWays
+pub mod PublishWalks

@@ -78,34 +78,38 @@ module _ (kind : Kind) (core : Core) (step : Step) (a : Acts core step) (r : Reb
 
   -- ---- bodies are covered
 
-  -- with a second location in a new tree, once the trees of the layer are exchanged
-  by-second : (i : ℕ) (b : Record) → record_at (scene_of core) i ≡ Some b → word_of core (LocB i) ≢ 0 → b.layer < length q.swapped → IsCovered later Now i b.layer
-  by-second i b live some below =
+  now-main : (noted : Noted) (h : HasPlace kind core step a r q p noted) → noted.layer < length q.swapped → later.home h.node ≡ under (Main noted.layer)
+  now-main noted h below =
+      elim (h.home) [
+        | inr public ↦ under-forth me x (nodes.home h.node) (Main noted.layer) (p.exchanged noted.layer public.1) public.0
+        | inl fresh ↦
+            elim (p.now noted.layer below) [
+              | inl less ↦ let more = fresh.1 in absurd (omega arith)
+              | inr one ↦ turn-shown me x (nodes.home h.node) noted.layer one fresh.0 ∙ ap under (sym one)
+            ]
+      ]
+
+  -- a second location is a place in the main tree, once the trees of the layer are exchanged
+  pub record IsInMain (i : ℕ) (b : Record) : Type 0 where
+    pub node : ℕ
+    pub child : ℕ
+    pub location : IsLocation Now i node child
+    pub home : later.home node ≡ under (Main b.layer)
+
+  pub second-main : (i : ℕ) (b : Record) → record_at (scene_of core) i ≡ Some b → word_of core (LocB i) ≢ 0 → b.layer < length q.swapped → IsInMain i b
+  second-main i b live some below =
       let n = second-at kind core step a r q p i some in
       let h = has-place kind core step a r q p n.noted n.among in
-      let layer : b.layer ≡ n.noted.layer = of-record (record_at (scene_of core) i) b n.noted.generation n.noted.layer live n.same in
-      let home : later.home h.node ≡ under (Main n.noted.layer) = now-main n.noted h (subst (λ (l : ℕ). l < length q.swapped) layer below) in
-      (
-        h.node,
-        h.child,
-        (h.below, inr (loc_b i ∙ (n.here ∙ h.at))),
-        subst IsPublished (sym home) tt,
-        subst (IsOfLayer b.layer) (sym home) (ap Some (sym layer)),
-      )
+      let layer : b.layer ≡ n.noted.layer = of-record (record_at (scene_of core) i) n.noted.generation n.noted.layer live n.same in
+      record {
+        node = h.node;
+        child = h.child;
+        location = (h.below, inr (loc_b i ∙ (n.here ∙ h.at)));
+        home = now-main n.noted h (subst (λ (l : ℕ). l < length q.swapped) layer below) ∙ ap (λ (l : ℕ). under (Main l)) (sym layer);
+      }
     where
-      of-record : (o : Option Record) (b : Record) (g layer : ℕ) → o ≡ Some b → IsSomeAnd o (λ y. (y.generation ≡ g) × (y.layer ≡ layer)) → b.layer ≡ layer
-      of-record o b g layer e h = (subst (λ (o : Option Record). IsSomeAnd o (λ y. (y.generation ≡ g) × (y.layer ≡ layer))) e h).1
-
-      now-main : (noted : Noted) (h : HasPlace kind core step a r q p noted) → noted.layer < length q.swapped → later.home h.node ≡ under (Main noted.layer)
-      now-main noted h below =
-          elim (h.home) [
-            | inr public ↦ under-forth me x (nodes.home h.node) (Main noted.layer) (p.exchanged noted.layer public.1) public.0
-            | inl fresh ↦
-                elim (p.now noted.layer below) [
-                  | inl less ↦ let more = fresh.1 in absurd (omega arith)
-                  | inr one ↦ turn-shown me x (nodes.home h.node) noted.layer one fresh.0 ∙ ap under (sym one)
-                ]
-          ]
+      of-record : (o : Option Record) (g layer : ℕ) → o ≡ Some b → IsSomeAnd o (λ y. (y.generation ≡ g) × (y.layer ≡ layer)) → b.layer ≡ layer
+      of-record o g layer e h = (subst (λ (o : Option Record). IsSomeAnd o (λ y. (y.generation ≡ g) × (y.layer ≡ layer))) e h).1
 
   covered-forth : (i : ℕ) (b : Record) → record_at (scene_of core) i ≡ Some b → IsCovered nodes Past i b.layer → IsCovered later Now i b.layer
   covered-forth i b live h =
@@ -117,7 +121,8 @@ module _ (kind : Kind) (core : Core) (step : Step) (a : Acts core step) (r : Reb
         | inl one ↦
             let there = name.1 ∙ ap under one in
             let some : word_of core (LocB i) ≢ 0 = elim (h.2.1) [ inl e ↦ taken-second kind core step a r q p i h.0 h.1 h.2.0 e there | inr e ↦ (λ none. let at = e in absurd (omega arith)) ] in
-            by-second i b live some (p.layer b.layer (subst (IsOfLayer b.layer) there h.4))
+            let t = second-main i b live some (p.layer b.layer (subst (IsOfLayer b.layer) there h.4)) in
+            (t.node, t.child, t.location, subst IsPublished (sym t.home) tt, subst (IsOfLayer b.layer) (sym t.home) refl)
       ]
 
   -- ---- notes

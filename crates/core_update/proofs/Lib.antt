@@ -17,3 +17,6 @@ pub mod PublishCover
 pub mod UpToRoot
 pub mod SameWays
 pub mod PublishWalks
+pub mod PublishBodies
+pub mod PublishKeeps
+pub mod SlotClears

@@ -55,6 +55,11 @@ module _ (kind : Kind) (core : Core) (step : Step) (a : Acts core step) (r : Reb
             (subst (λ (o : Option Rebuild). IfSome o (P step.number (seen_of scope step.number step.view))) (sym seen_before) own))
         go seat number view found is (stays apart new) = subst (λ (o : Option Rebuild). IfSome o (P number (seen_of scope number view))) (sym (unseen seat number view apart found is)) tt
 
+    pub holds-own : (P : Rebuild → Type 0) → P (part r) → HasPass Old step.number (λ v. HasUpdate v P)
+    holds-own P h =
+        seat-has scope keeps core step.number (λ v. HasUpdate v P)
+        (record { seat = step.seat; view = step.view; at = a.at; pass = a.pass; holds = subst (λ (o : Option Rebuild). IsSomeAnd o P) (sym seen_before) h })
+
     pub has-own : (number : ℕ) (P : Rebuild → Type 0) → HasPass Old number (λ v. HasUpdate v P) → (step.number ≡ number) × P (part r)
     has-own number P h =
         let from = has-seat scope keeps core number (λ v. HasUpdate v P) h in

@@ -77,6 +77,7 @@ module _ (kind : Kind) (core : Core) (step : Step) (a : Acts core step) (r : Reb
     -- the word then names the root of the new tree of the layer, or none
     pub named : (root : ℕ) → NamesRoot step.name (word_of (After kind core step) step.name) root
         → (l : ℕ) × (Main l ≡ step.name) × (r.is_planned ≡ true) × (length r.swapped ≤ l) × (slice_index r.roots l ≡ suc root)
+    pub emptied : (l t : ℕ) → Slot l t ≡ step.name → word_of (After kind core step) step.name ≡ 0
     pub names : (l root : ℕ) → Main l ≡ step.name → slice_index r.roots l ≡ suc root → NamesRoot step.name (word_of (After kind core step) step.name) root
     -- what is still known to be stored was stored in other nodes
     pub written : (store : Store) → Contains (Last kind core step).written store

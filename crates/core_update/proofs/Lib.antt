@@ -20,3 +20,5 @@ pub mod PublishWalks
 pub mod PublishBodies
 pub mod PublishKeeps
 pub mod SlotClears
+pub mod PublishGuards
+pub mod MainExchanges

@@ -22,3 +22,4 @@ pub mod PublishKeeps
 pub mod SlotClears
 pub mod PublishGuards
 pub mod MainExchanges
+pub mod ArenaOf

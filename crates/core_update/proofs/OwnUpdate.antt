@@ -90,6 +90,11 @@ module _ (kind : Kind) (core : Core) (step : Step) (a : Acts core step) (r : Reb
               (subst (λ (o : Option Rebuild). IfSome o (P step.number (seen_of scope step.number (Last kind core step)))) (sym seen_after) own))
           go seat number view is (stayed apart old) = subst (λ (o : Option Rebuild). IfSome o (P number (seen_of scope number view))) (sym (unseen seat number view apart old is)) tt
 
+      pub after-each : (P : ℕ → View → Rebuild → Type 0) → EachUpdate New P → P step.number (seen_of scope step.number (Last kind core step)) (part after)
+      after-each P h =
+          subst (λ (o : Option Rebuild). IfSome o (P step.number (seen_of scope step.number (Last kind core step)))) seen_after
+          (each-seat scope keeps (After kind core step) (λ n v. IfSome v.rebuild (P n v)) h step.seat step.number (Last kind core step) (view-step kind core step a.at) a.pass)
+
       pub own-has : (P : Rebuild → Type 0) → P (part after) → HasPass New step.number (λ v. HasUpdate v P)
       own-has P h =
           seat-has scope keeps (After kind core step) step.number (λ v. HasUpdate v P)

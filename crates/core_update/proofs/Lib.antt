@@ -23,3 +23,4 @@ pub mod SlotClears
 pub mod PublishGuards
 pub mod MainExchanges
 pub mod ArenaOf
+pub mod MainNodes

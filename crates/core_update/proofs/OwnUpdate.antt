@@ -1,6 +1,7 @@
 -- The update of the pass that steps is the only one: what a law says of updates it says of this one, before the step and
 -- after it.
-use Rattle.std.proofs.Common.{◌≡◌, ◌≢◌, ℕ, Option, Some, None, IfSome, IsSomeAnd, is_some, option_map, refl, ap, sym, ◌∙◌, subst}
+use Rattle.std.proofs.Common.{◌≡◌, ◌≢◌, ◌⊎◌, ℕ, Option, Some, None, IfSome, IsSomeAnd, is_some, option_map, refl, ap, sym, ◌∙◌, subst, inl, inr}
+use Rattle.std.specs.Prelude.{Contains}
 use Rattle.core_state.specs.declared.view.Rebuild.{Rebuild}
 use Rattle.core_state.specs.declared.view.View.{View}
 use Rattle.core_state.specs.View.{IsPass}
@@ -12,7 +13,7 @@ use Rattle.core_state.proofs.Steps.{view-step}
 use Rattle.core_guard.proofs.Leaving.{Acts, After, Last}
 use Rattle.core_guard.proofs.OneUpdate.{one-update}
 use Rattle.core_guard.proofs.Owners.{same-seat}
-use Rattle.core_guard.proofs.Seats.{KeepsNumber, HasSeat, SeatAfter, SeatBefore, stepped, stayed, steps_now, stays, seen_of, each-seat, each-seats, has-seat, seat-has, seat-after, seat-before}
+use Rattle.core_guard.proofs.Seats.{KeepsNumber, IsSeenAt, seen_at, HasSeat, SeatAfter, SeatBefore, stepped, stayed, steps_now, stays, seen_of, each-seat, each-seats, has-seat, seat-has, seat-after, seat-before}
 
 module _ (kind : Kind) (core : Core) (step : Step) (a : Acts core step) (r : Rebuild) (update : step.view.rebuild ≡ Some r) where
   -- no other pass has one
@@ -55,6 +56,17 @@ module _ (kind : Kind) (core : Core) (step : Step) (a : Acts core step) (r : Reb
             (subst (λ (o : Option Rebuild). IfSome o (P step.number (seen_of scope step.number step.view))) (sym seen_before) own))
         go seat number view found is (stays apart new) = subst (λ (o : Option Rebuild). IfSome o (P number (seen_of scope number view))) (sym (unseen seat number view apart found is)) tt
 
+    -- each view that is seen has no update, or this one
+    pub only-own : (seen : View) → Contains Old.passes seen → (seen.rebuild ≡ None) ⊎ (seen.rebuild ≡ Some (part r))
+    only-own seen among =
+        let from = seen_at scope core seen among in
+        subst (λ (v : View). (v.rebuild ≡ None) ⊎ (v.rebuild ≡ Some (part r))) from.is (go from (seat-before scope keeps kind core step a.at a.pass from.seat from.number from.view from.at from.pass))
+      where
+        go : (from : IsSeenAt scope core seen) → SeatBefore scope keeps kind core step a.at a.pass from.seat from.number from.view
+            → ((seen_of scope from.number from.view).rebuild ≡ None) ⊎ ((seen_of scope from.number from.view).rebuild ≡ Some (part r))
+        go from (steps_now same one two) = inr (reads _ from.view ∙ ap (option_map part) (ap (λ (v : View). v.rebuild) (sym one) ∙ update))
+        go from (stays apart new) = inl (unseen from.seat from.number from.view apart from.at from.pass)
+
     pub holds-own : (P : Rebuild → Type 0) → P (part r) → HasPass Old step.number (λ v. HasUpdate v P)
     holds-own P h =
         seat-has scope keeps core step.number (λ v. HasUpdate v P)
@@ -89,6 +101,16 @@ module _ (kind : Kind) (core : Core) (step : Step) (a : Acts core step) (r : Reb
               (subst (λ (v : View). IfSome (seen_of scope step.number v).rebuild (P step.number (seen_of scope step.number v))) one
               (subst (λ (o : Option Rebuild). IfSome o (P step.number (seen_of scope step.number (Last kind core step)))) (sym seen_after) own))
           go seat number view is (stayed apart old) = subst (λ (o : Option Rebuild). IfSome o (P number (seen_of scope number view))) (sym (unseen seat number view apart old is)) tt
+
+      pub only-after : (seen : View) → Contains New.passes seen → (seen.rebuild ≡ None) ⊎ (seen.rebuild ≡ Some (part after))
+      only-after seen among =
+          let from = seen_at scope (After kind core step) seen among in
+          subst (λ (v : View). (v.rebuild ≡ None) ⊎ (v.rebuild ≡ Some (part after))) from.is (go from (seat-after scope keeps kind core step a.at a.pass from.seat from.number from.view from.at from.pass))
+        where
+          go : (from : IsSeenAt scope (After kind core step) seen) → SeatAfter scope keeps kind core step a.at a.pass from.seat from.number from.view
+              → ((seen_of scope from.number from.view).rebuild ≡ None) ⊎ ((seen_of scope from.number from.view).rebuild ≡ Some (part after))
+          go from (stepped same one two) = inr (reads _ from.view ∙ ap (option_map part) (ap (λ (v : View). v.rebuild) (sym one) ∙ rebuild))
+          go from (stayed apart old) = inl (unseen from.seat from.number from.view apart old from.pass)
 
       pub after-each : (P : ℕ → View → Rebuild → Type 0) → EachUpdate New P → P step.number (seen_of scope step.number (Last kind core step)) (part after)
       after-each P h =

@@ -66,7 +66,7 @@ module _ (core : Core) (step : Step) (a : Acts core step) (asked : MayExchange s
       ap (λ (n : Name). finish (exchanged_view (learned core step) n found)) asked.names ∙
       ap (λ (o : Option Rebuild). record step.view { rebuild = option_map (with_exchange layer found) o; written = written_outside (nodes_made_in o layer) step.view.written; known = log_after exchange_main core step; joined = None }) asked.update
 
-  longer : length q.swapped ≡ length r.swapped + 1
+  pub longer : length q.swapped ≡ length r.swapped + 1
   longer = length-append r.swapped (found ∷ [])
 
   -- ---- the word

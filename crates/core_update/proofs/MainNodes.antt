@@ -1,11 +1,12 @@
 -- Where nodes are once a main word is exchanged: those of the new tree are no longer the update's own, and stand under the word
 -- in the arena that is not the old one.
-use Rattle.std.proofs.Common.{◌≡◌, ◌≢◌, ◌⊎◌, ◌↔◌, ℕ, suc, ◌+◌, ◌-◌, ◌<◌, ◌≤◌, List, [], ◌∷◌, ◌++◌, length, Bool, cond, Option, option_map, Some, None, IsSome, IsSomeAnd, true, false, refl, ap, sym, ◌∙◌, subst, inl, inr, arith}
+use Rattle.std.proofs.Common.{◌≡◌, ◌≢◌, ◌⊎◌, ◌↔◌, ℕ, suc, ◌+◌, ◌-◌, ◌<◌, ◌≤◌, List, [], ◌∷◌, ◌++◌, length, Bool, cond, Option, option_map, Some, None, IsSome, is_some, IsSomeAnd, true, false, refl, ap, sym, ◌∙◌, subst, inl, inr, arith}
 use Rattle.std.specs.Prelude.{Contains, nat_lt, not, filter, flat_map, IsNone, ◌==◌}
 use Rattle.std.proofs.lemmas.Bool.{cases_eq, cases_lt, cases_Bool, lt-ltb, le-ltb, false≢true, ne_eqb}
 use Rattle.std.proofs.lemmas.Option.{none-some}
 use Rattle.std.proofs.lemmas.List.Elements.{Contains-append_left, Contains-append_right, Contains-append_cases}
 use Rattle.word_map.specs.declared.config.Config.{Config}
+use Rattle.word_map.specs.Names.{pool_lock}
 use Rattle.word_map.specs.declared.name.Name.{Name}
 use Rattle.word_map.specs.declared.name.Name.TheVariants.{PoolHead, PoolNext, PoolFree, Main, Slot, Update, Arena}
 use Rattle.core_state.specs.declared.view.Batch.{Batch}
@@ -15,7 +16,8 @@ use Rattle.core_state.specs.declared.view.Rebuild.{Rebuild}
 use Rattle.core_state.specs.declared.view.View.{View}
 use Rattle.core_state.specs.Batches.{batch_nodes_of, is_in_nodes}
 use Rattle.core_state.specs.Core.{Core, word_of, IsViewAt}
-use Rattle.core_state.specs.View.{IsPass}
+use Rattle.core_state.specs.declared.view.Mode.TheVariants.{Write}
+use Rattle.core_state.specs.View.{IsPass, Holds}
 use Rattle.core_state.specs.Kind.{Kind, Step, found_by, after_step}
 use Rattle.core_state.specs.Encoding.{IsInArena}
 use Rattle.core_state.specs.Exchanging.{MayExchange, exchange_main, nodes_made, with_exchange}
@@ -29,14 +31,14 @@ use Rattle.core_state.proofs.Beginning.{contains_filter}
 use Rattle.core_state.proofs.Steps.{word-step-other, view-step}
 use Rattle.core_batch.proofs.Attached.{in_nodes-there, there-in_nodes}
 use Rattle.core_batch.proofs.Lists.{filter_from, part-refl, part-append, part-filter, part-pairs}
-use Rattle.core_guard.proofs.Leaving.{Acts, After, Last, lawful, other-number}
+use Rattle.core_guard.proofs.Leaving.{Acts, After, Last, lawful, other-number, if_some_map}
 use Rattle.core_guard.proofs.NodesLeft.{OwnerPart, TreePart, together, pool-stays, unseen-pool, seen-nodes}
 use Rattle.core_guard.proofs.Owners.{nodes_split, batch_among, owned-by, batch-below, same-view}
 use Rattle.core_guard.proofs.Seats.{seen_of, seat_seen, has-seat, seat-has, each-step, has-step, has-unstep, each-seats}
 use Rattle.core_guard.proofs.Touched.{IsKept, kept as kept_by}
 use Rattle.core_update.proofs.ArenaOf.{arena-is}
-use Rattle.core_update.proofs.MainExchanges.{q, last, main-layer, of-made, made-home, home-made, publishes}
-use Rattle.core_update.proofs.OwnUpdate.{each-own, has-own, own-each, own-has, has-after, only-own, only-after, after-each}
+use Rattle.core_update.proofs.MainExchanges.{q, last, main-layer, longer as swapped-longer, made-home, home-made, publishes}
+use Rattle.core_update.proofs.OwnUpdate.{each-own, has-own, holds-own, own-each, own-has, has-after, only-own, only-after, after-each}
 use Rattle.core_update.proofs.Publishing.{homes_after}
 use Rattle.core_update.proofs.PublishKeeps.{Invariants-published}
 use Rattle.core_update.proofs.Turning.{turn, turns, Turns, kept, taken, shown, other-back, other-forth, under-back, superseded-back, made-back, made-forth}
@@ -244,3 +246,185 @@ module _ (core : Core) (step : Step) (a : Acts core step) (asked : MayExchange s
       below-before =
           each-seats node_scope (λ k v. refl) core (λ number view. (n : ℕ) → Contains (batch_nodes_of view) n → n < core.config.nodes)
           (λ seat number view at pass n among. batch-below core nodes a.laws.places seat number view at pass n among)
+
+  -- ---- arenas
+
+  -- the number of the arena that the update loaded
+  loaded : (old : ℕ) × (r.arena ≡ Some old)
+  loaded = some-is r.arena asked.arena
+
+  arena-before : (named l : ℕ) → arena_of Old named l ≡ cond (nat_lt l (length r.swapped)) (1 - loaded.0) loaded.0
+  arena-before named l =
+      arena-is Old l named loaded.0 (update_on_nodes r) (seen_of node_scope me step.view) (seat_seen node_scope core step.seat me step.view a.at a.pass) (ap (option_map update_on_nodes) asked.update) loaded.1
+      (only-own exchange_main core step a r asked.update node_scope (λ k v. refl) update_on_nodes (λ bare v. refl))
+
+  arena-now : (named l : ℕ) → arena_of New named l ≡ cond (nat_lt l (length after.swapped)) (1 - loaded.0) loaded.0
+  arena-now named l =
+      arena-is New l named loaded.0 (update_on_nodes after) (seen_of node_scope me (Last exchange_main core step))
+      (seat_seen node_scope (After exchange_main core step) step.seat me (Last exchange_main core step) (view-step exchange_main core step a.at) a.pass) (ap (option_map update_on_nodes) rebuild) loaded.1
+      (only-after exchange_main core step a r asked.update node_scope (λ k v. refl) update_on_nodes (λ bare v. refl) after rebuild)
+
+  -- it is another one for this layer alone
+  arena-kept : (named other l : ℕ) → Main l ≢ x → arena_of New named l ≡ arena_of Old other l
+  arena-kept named other l apart = arena-now named l ∙ (ap (λ (t : Bool). cond t (1 - loaded.0) loaded.0) test ∙ sym (arena-before other l))
+    where
+      test : nat_lt l (length after.swapped) ≡ nat_lt l (length r.swapped)
+      test =
+          let more = swapped-longer core step a asked in
+          elim (cases_lt l (length r.swapped)) [
+            | inl below ↦ lt-ltb l (length after.swapped) (omega arith) ∙ sym (lt-ltb l (length r.swapped) below)
+            | inr above ↦
+                let not-it : l ≢ length r.swapped = λ same. apart (ap Main (same ∙ sym asked.next) ∙ layer-name) in
+                le-ltb l (length after.swapped) (omega arith) ∙ sym (le-ltb l (length r.swapped) above)
+          ]
+
+  arena-other : (named : ℕ) → arena_of New named asked.layer ≡ 1 - loaded.0
+  arena-other named =
+      let more = swapped-longer core step a asked in
+      let next = asked.next in
+      arena-now named asked.layer ∙ ap (λ (t : Bool). cond t (1 - loaded.0) loaded.0) (lt-ltb asked.layer (length after.swapped) (omega arith))
+
+  arena-old : (named : ℕ) → arena_of Old named asked.layer ≡ loaded.0
+  arena-old named = let next = asked.next in arena-before named asked.layer ∙ ap (λ (t : Bool). cond t (1 - loaded.0) loaded.0) (le-ltb asked.layer (length r.swapped) (omega arith))
+
+  -- the new tree is in the arena of the update's nodes
+  new-arena : (n : ℕ) → Contains r.nodes n → IsInArena core.config (1 - loaded.0) n
+  new-arena n among =
+      subst (λ (o : Option ℕ). IsSomeAnd o (λ old. IsInArena core.config (1 - old) n)) loaded.1
+      (each-own exchange_main core step a r asked.update node_scope (λ k v. refl) update_on_nodes (λ bare v. refl)
+      (λ number view y. (m : ℕ) → Contains y.nodes m → IsSomeAnd y.arena (λ old. IsInArena core.config (1 - old) m)) a.laws.places.in_arena n among)
+
+  -- ---- trees
+
+  before : (number : ℕ) (P : Rebuild → Type 0) → HasPass Old number (λ v. HasUpdate v P) → (me ≡ number) × P (update_on_nodes r)
+  before = has-own exchange_main core step a r asked.update node_scope (λ k v. refl) update_on_nodes (λ bare v. refl)
+
+  now-has : (number : ℕ) (P : Rebuild → Type 0) → me ≡ number → P (update_on_nodes after) → HasPass New number (λ v. HasUpdate v P)
+  now-has number P same h = subst (λ (p : ℕ). HasPass New p (λ v. HasUpdate v P)) same (own-has exchange_main core step a r asked.update node_scope (λ k v. refl) update_on_nodes (λ bare v. refl) after rebuild P h)
+
+  -- a node of a new tree that is not published is one of a later layer
+  made-forth-in : (n l : ℕ) → later.home n ≡ made me l → IsMadeIn core.config r l n → IsMadeIn core.config after l n
+  made-forth-in n l home h =
+      let more = swapped-longer core step a asked in
+      let apart : l ≢ asked.layer = λ same. not-shown n l home (ap Main same ∙ layer-name) in
+      let next = asked.next in
+      let above = h.1 in
+      let planned = h.0 in
+      (
+        h.0,
+        omega arith,
+        h.2,
+        subst (λ (t : Bool). Contains (cond t (filter (λ m. not (m.layer == asked.layer)) r.made) r.made) (record { layer = l; node = n })) (sym planned)
+            (contains_filter (λ (m : NewNode). not (m.layer == asked.layer)) r.made (record { layer = l; node = n }) h.3 (ap not (ne_eqb l asked.layer apart))),
+      )
+    where
+      not-shown : (n l : ℕ) → later.home n ≡ made me l → Main l ≢ x
+      not-shown n l home one = go (turn me x (nodes.home n)) (turns me x (nodes.home n)) home
+        where
+          go : (then : Home) → Turns me x (nodes.home n) then → then ≢ made me l
+          go then (kept other unmade) e = unmade l one e
+          go then (taken is) e = absurd cc
+          go then (shown m is f) e = absurd cc
+
+  made-back-in : (n l : ℕ) → IsMadeIn core.config after l n → IsMadeIn core.config r l n × (Main l ≢ x)
+  made-back-in n l h =
+      let more = swapped-longer core step a asked in
+      let next = asked.next in
+      let above = h.1 in
+      let planned : r.is_planned ≡ true = h.0 in
+      let among = subst (λ (t : Bool). Contains (cond t (filter (λ m. not (m.layer == asked.layer)) r.made) r.made) (record { layer = l; node = n })) planned h.3 in
+      (
+        (planned, omega arith, h.2, (filter_from (λ (m : NewNode). not (m.layer == asked.layer)) r.made (record { layer = l; node = n }) among).0),
+        λ one. let same = main-layer core step a asked l one in absurd (omega arith),
+      )
+
+  trees : TreePart later New
+  trees =
+      let h = a.laws.places in
+      record {
+        in_use = λ n above. forth n spare (λ name e. absurd cc) (λ m l e. absurd cc) (h.in_use n above);
+        arenas = λ n below e. h.arenas n below (back n spare (λ name e. absurd cc) (λ m name e. absurd cc) e);
+        slot_trees = λ n l t e.
+            elim (under-back me x (nodes.home n) (Slot l t) e) [
+              | inl was ↦ h.slot_trees n l t was.0
+              | inr new ↦ absurd (slot-main l t new.1.0 (new.0 ∙ sym new.1.1))
+            ];
+        main_trees = λ n l e.
+            elim (under-back me x (nodes.home n) (Main l) e) [
+              | inl was ↦ subst (λ (arena : ℕ). IsInArena core.config arena n) (sym (arena-kept (New.word Arena) (Old.word Arena) l was.1)) (h.main_trees n l was.0)
+              | inr new ↦
+                  subst (λ (m : ℕ). IsInArena core.config (arena_of New (New.word Arena) m) n) (sym (main-layer core step a asked l new.0))
+                  (subst (λ (arena : ℕ). IsInArena core.config arena n) (sym (arena-other (New.word Arena))) (new-arena n (in-nodes n new.1.0 new.1.2)))
+            ];
+        made_trees = λ n number l e. h.made_trees n number l (made-back me x (nodes.home n) number l e);
+        made_by = λ n number l. (
+          λ e.
+              let t = before number (λ y. IsMadeIn core.config y l n) ((h.made_by n number l).0 (made-back me x (nodes.home n) number l e)) in
+              now-has number (λ y. IsMadeIn core.config y l n) t.0 (made-forth-in n l (e ∙ ap (λ (p : ℕ). made p l) (sym t.0)) t.1),
+          λ has.
+              let t = has-after exchange_main core step a r asked.update node_scope (λ k v. refl) update_on_nodes (λ bare v. refl) after rebuild number (λ y. IsMadeIn core.config y l n) has in
+              let u = made-back-in n l t.1 in
+              made-forth me x (nodes.home n) number l (λ both. u.1 both.1)
+              ((h.made_by n number l).1
+              (subst (λ (p : ℕ). HasPass Old p (λ v. HasUpdate v (λ y. IsMadeIn core.config y l n))) t.0
+              (holds-own exchange_main core step a r asked.update node_scope (λ k v. refl) update_on_nodes (λ bare v. refl) (λ y. IsMadeIn core.config y l n) u.0))),
+        );
+        in_arena =
+            own-each exchange_main core step a r asked.update node_scope (λ k v. refl) update_on_nodes (λ bare v. refl) after rebuild
+            (λ number view y. (n : ℕ) → Contains y.nodes n → IsSomeAnd y.arena (λ old. IsInArena core.config (1 - old) n))
+            (λ n among. subst (λ (o : Option ℕ). IsSomeAnd o (λ old. IsInArena core.config (1 - old) n)) (sym loaded.1) (new-arena n (node-left n among).0));
+        update = λ number. (
+          λ e. has-step node_scope (λ k v. refl) exchange_main core step a.at a.pass number (λ v. IsSome v.rebuild) (λ v. IsSome v.rebuild)
+              ((h.update number).0 (sym (same-word Update (λ l e. absurd cc)) ∙ e)) (λ seat view apart found own some. some) (λ same some. ap is_some (ap (option_map update_on_nodes) rebuild)),
+          λ has. same-word Update (λ l e. absurd cc) ∙
+              (h.update number).1
+              (has-unstep node_scope (λ k v. refl) exchange_main core step a.at a.pass number (λ v. IsSome v.rebuild) (λ v. IsSome v.rebuild) has (λ seat view apart found own some. some)
+              (λ same some. ap is_some (ap (option_map update_on_nodes) asked.update))),
+        );
+        superseded_by = λ n number name e.
+            let P = λ (name : Name) (y : Rebuild). (y.is_reclaimed ≡ false) × IsOfReplaced core.config y name n in
+            elim (superseded-back me x (nodes.home n) number name e) [
+              | inl was ↦
+                  let t = before number (P name) (h.superseded_by n number name was) in
+                  now-has number (P name) t.0 (t.1.0, replaced-same core.config (update_on_nodes r) (update_on_nodes after) name n refl t.1.1)
+              | inr new ↦
+                  let there = subst (λ (arena : ℕ). IsInArena core.config arena n) (arena-old (Old.word Arena)) (h.main_trees n asked.layer (new.2 ∙ ap under asked.names)) in
+                  now-has number (P name) (sym new.0)
+                  (asked.unreclaimed, subst (λ (name : Name). IsOfReplaced core.config (update_on_nodes after) name n) (sym (new.1 ∙ asked.names))
+                  (subst (λ (o : Option ℕ). IsSomeAnd o (λ old. IsInArena core.config old n)) (sym loaded.1) there))
+            ];
+        returning_by = λ n number e.
+            let was = h.returning_by n number (back n (returning number) (λ name e. absurd cc) (λ m name e. absurd cc) e) in
+            let t = before number (λ y. y.is_reclaimed ≡ true) was.1 in
+            (was.0, now-has number (λ y. y.is_reclaimed ≡ true) t.0 t.1);
+        arena = subst (λ (m : ℕ). m < 2) (sym (same-word Arena (λ l e. absurd cc))) h.arena;
+        named =
+            own-each exchange_main core step a r asked.update node_scope (λ k v. refl) update_on_nodes (λ bare v. refl) after rebuild (λ number view y. NamesArena New y)
+            (if_some_map r.arena _ _ (λ old t. (t.0, same-word Arena (λ l e. absurd cc) ∙ t.1))
+            (each-own exchange_main core step a r asked.update node_scope (λ k v. refl) update_on_nodes (λ bare v. refl) (λ number view y. NamesArena Old y) h.named));
+        idle = λ unread n inside.
+            let none = after-each exchange_main core step a r asked.update node_scope (λ k v. refl) update_on_nodes (λ bare v. refl) after rebuild (λ number view y. IsNone y.arena) unread in
+            absurd (some-none loaded.0 (subst (λ (o : Option ℕ). IsNone o) loaded.1 none));
+      }
+    where
+      slot-main : (l t m : ℕ) → Slot l t ≢ Main m
+      slot-main l t m e = absurd cc
+
+      some-none : (old : ℕ) → ¬ IsNone (Some old)
+      some-none old e = absurd cc
+
+  placed : NodesInOnePlace later (after_step exchange_main core step)
+  placed =
+      together (after_step exchange_main core step) later
+      (pool-stays exchange_main core step (lawful a) later
+      (λ n. (forth n free (λ name e. absurd cc) (λ m l e. absurd cc), back n free (λ name e. absurd cc) (λ m name e. absurd cc)))
+      (unseen-pool exchange_main core step (ap node_scope.names asked.names) (ap (λ (v : View). task_on_pool v.call.task) (last core step a asked))
+      (λ pooling holds. subst (λ (v : View). Holds v (pool_lock core.config) Write) (sym (last core step a asked)) holds)))
+      owners trees
+
+-- ---- kind 47
+
+pub Invariants-exchange_main : IsKept MayExchange exchange_main
+Invariants-exchange_main =
+    kept_by MayExchange exchange_main
+    (λ core step a asked. Invariants-published exchange_main core step a asked.r (q core step a asked) (publishes core step a asked) (placed core step a asked))

@@ -187,8 +187,7 @@ module _ (core : Core) (step : Step) (a : Acts core step) (asked : MayExchange s
         subst (λ (name : Name). NamesRoot name (word_of (After exchange_main core step) name) root) (sym asked.names)
         (ap (word_of (After exchange_main core step)) (sym asked.names) ∙ (value-now ∙ (ap (slice_index r.roots) (sym (main-layer l one)) ∙ e)));
     written = λ store among.
-        let t = filter_from (λ (s : Store). not (is_in_nodes (nodes_made r layer) (node_in s.name))) step.view.written store (subst (λ (v : View). Contains v.written store) last among) in
-        (
+        let t = filter_from (λ (s : Store). not (is_in_nodes (nodes_made r layer) (node_in s.name))) step.view.written store (subst (λ (v : View). Contains v.written store) last among) in (
           t.0,
           λ n l of home one.
               let there : is_in_nodes (nodes_made r layer) (node_in store.name) ≡ true = ap (is_in_nodes (nodes_made r layer)) of ∙ there-in_nodes (nodes_made r layer) n (home-made n (home ∙ ap (made step.number) (main-layer l one))) in

@@ -309,8 +309,7 @@ module _ (core : Core) (step : Step) (a : Acts core step) (asked : MayExchange s
       let apart : l ≢ asked.layer = λ same. not-shown n l home (ap Main same ∙ layer-name) in
       let next = asked.next in
       let above = h.1 in
-      let planned = h.0 in
-      (
+      let planned = h.0 in (
         h.0,
         omega arith,
         h.2,
@@ -332,8 +331,7 @@ module _ (core : Core) (step : Step) (a : Acts core step) (asked : MayExchange s
       let next = asked.next in
       let above = h.1 in
       let planned : r.is_planned ≡ true = h.0 in
-      let among = subst (λ (t : Bool). Contains (cond t (filter (λ m. not (m.layer == asked.layer)) r.made) r.made) (record { layer = l; node = n })) planned h.3 in
-      (
+      let among = subst (λ (t : Bool). Contains (cond t (filter (λ m. not (m.layer == asked.layer)) r.made) r.made) (record { layer = l; node = n })) planned h.3 in (
         (planned, omega arith, h.2, (filter_from (λ (m : NewNode). not (m.layer == asked.layer)) r.made (record { layer = l; node = n }) among).0),
         λ one. let same = main-layer core step a asked l one in absurd (omega arith),
       )
@@ -389,9 +387,11 @@ module _ (core : Core) (step : Step) (a : Acts core step) (asked : MayExchange s
                   now-has number (P name) t.0 (t.1.0, replaced-same core.config (update_on_nodes r) (update_on_nodes after) name n refl t.1.1)
               | inr new ↦
                   let there = subst (λ (arena : ℕ). IsInArena core.config arena n) (arena-old (Old.word Arena)) (h.main_trees n asked.layer (new.2 ∙ ap under asked.names)) in
-                  now-has number (P name) (sym new.0)
-                  (asked.unreclaimed, subst (λ (name : Name). IsOfReplaced core.config (update_on_nodes after) name n) (sym (new.1 ∙ asked.names))
-                  (subst (λ (o : Option ℕ). IsSomeAnd o (λ old. IsInArena core.config old n)) (sym loaded.1) there))
+                  now-has number (P name) (sym new.0) (
+                    asked.unreclaimed,
+                    subst (λ (name : Name). IsOfReplaced core.config (update_on_nodes after) name n) (sym (new.1 ∙ asked.names))
+                        (subst (λ (o : Option ℕ). IsSomeAnd o (λ old. IsInArena core.config old n)) (sym loaded.1) there),
+                  )
             ];
         returning_by = λ n number e.
             let was = h.returning_by n number (back n (returning number) (λ name e. absurd cc) (λ m name e. absurd cc) e) in

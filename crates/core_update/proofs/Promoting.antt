@@ -144,8 +144,7 @@ module _ (kind : Kind) (core : Core) (step : Step) (a : Acts core step) (i : ℕ
   pub inside : (some : word_of core (LocB i) ≢ 0) → (b : Record) × (record_at (scene_of core) i ≡ Some b) × (b.layer ≡ (promoted kind core step a i p some).noted.layer) × (b.phase ≡ In)
   inside some =
       let q = promoted kind core step a i p some in
-      let t = record-phase (record_at (scene_of core) i) q.noted.generation q.noted.layer unheld q.same in
-      (
+      let t = record-phase (record_at (scene_of core) i) q.noted.generation q.noted.layer unheld q.same in (
         t.0,
         t.1,
         t.2,

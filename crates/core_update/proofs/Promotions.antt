@@ -162,24 +162,22 @@ module _ (kind : Kind) (core : Core) (step : Step) (a : Acts core step) (i : ℕ
         let kept = second-else j apart in
         let old = a.laws.locations.second j (λ none. some (kept ∙ none)) in
         let t = (has-own kind core step a p.r p.update location_scope (λ k v. refl) update_on_places (λ bare v. refl) old.0 (IsSecondFor Was j) old.1).1 in
-        let n = t.3 in
-        (
+        let n = t.3 in (
           step.number,
-          own-has kind core step a p.r p.update location_scope (λ k v. refl) update_on_places (λ bare v. refl) after unmoved.rebuild (IsSecondFor Is j)
+          own-has kind core step a p.r p.update location_scope (λ k v. refl) update_on_places (λ bare v. refl) after unmoved.rebuild (IsSecondFor Is j) (
+            t.0,
+            t.1,
+            λ among. elim (Contains-append_cases p.r.promoted (i ∷ []) j among) [ inl was ↦ t.2 was | inr new ↦ apart (sym (only i j new)) ],
+            (
+              n.0,
+              n.1,
+              n.2,
               (
-              t.0,
-              t.1,
-              λ among. elim (Contains-append_cases p.r.promoted (i ∷ []) j among) [ inl was ↦ t.2 was | inr new ↦ apart (sym (only i j new)) ],
-              (
-                n.0,
-                n.1,
-                n.2,
-                (
-                  kept ∙ n.3.0,
-                  subst (λ (scene : Scene). HasBody scene n.0.index (λ b. (b.generation ≡ n.0.generation) × (b.layer ≡ n.0.layer))) (sym (scene-same kind core step a p.r after nodes unmoved)) n.3.1,
-                ),
+                kept ∙ n.3.0,
+                subst (λ (scene : Scene). HasBody scene n.0.index (λ b. (b.generation ≡ n.0.generation) × (b.layer ≡ n.0.layer))) (sym (scene-same kind core step a p.r after nodes unmoved)) n.3.1,
               ),
             ),
+          ),
         )
 
     pub LocationsHold-promoted : LocationsHold nodes (after_step kind core step)

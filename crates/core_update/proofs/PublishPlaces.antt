@@ -132,13 +132,12 @@ module _ (kind : Kind) (core : Core) (step : Step) (a : Acts core step) (r : Reb
       let n = t.3 in
       let scene = scene-same kind core step a r after later u in (
         me,
-        own-has kind core step a r p.update location_scope (λ k v. refl) update_on_places (λ bare v. refl) after p.rebuild (IsSecondFor Is i)
-            (
-            t.0,
-            t.1,
-            t.2,
-            (n.0, n.1, n.2, (loc_b ∙ n.3.0, subst (λ (y : Scene). HasBody y n.0.index (λ b. (b.generation ≡ n.0.generation) × (b.layer ≡ n.0.layer))) (sym scene) n.3.1)),
-          ),
+        own-has kind core step a r p.update location_scope (λ k v. refl) update_on_places (λ bare v. refl) after p.rebuild (IsSecondFor Is i) (
+          t.0,
+          t.1,
+          t.2,
+          (n.0, n.1, n.2, (loc_b ∙ n.3.0, subst (λ (y : Scene). HasBody y n.0.index (λ b. (b.generation ≡ n.0.generation) × (b.layer ≡ n.0.layer))) (sym scene) n.3.1)),
+        ),
       )
 
   -- ---- the law
@@ -169,8 +168,7 @@ module _ (kind : Kind) (core : Core) (step : Step) (a : Acts core step) (r : Reb
 
   published-forth : (noted : Noted) → Contains r.noted noted → IsPublishedAt later (update_on_places after) noted
   published-forth noted among planned below =
-      let h = has-place kind core step a r q p noted among in
-      (
+      let h = has-place kind core step a r q p noted among in (
         h.node,
         h.child,
         h.below,

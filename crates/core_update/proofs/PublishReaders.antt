@@ -149,8 +149,7 @@ module _ (kind : Kind) (core : Core) (step : Step) (a : Acts core step) (r : Reb
       let t =
       each-own kind core step a r p.update reader_scope (λ c v. refl) update_on_readers (λ bare v. refl) (λ number v y. y.is_planned ≡ true → IsTight nodes s number y) a.laws.readers.tight planned n k l home below some z low
       in
-      let of = λ (noted : Noted) (among : Contains r.noted noted) (h : IsPlannedBelow s noted n k). layer-noted noted n k l among home h in
-      (
+      let of = λ (noted : Noted) (among : Contains r.noted noted) (h : IsPlannedBelow s noted n k). layer-noted noted n k l among home h in (
         (t.0.0, side-in t.0.1.0 l z t.0.0 (of t.0.1.0 t.0.1.1 t.0.1.2) t.0.1.3, t.0.2),
         (t.1.0, side-in t.1.1.0 l (3 + z) t.1.0 (of t.1.1.0 t.1.1.1 t.1.1.2) t.1.1.3, t.1.2),
       )

@@ -1,6 +1,5 @@
 -- What the law of cover says where second locations change, and nothing else that it reads.
-use Rattle.std.proofs.Common.{◌≡◌, ◌≢◌, ℕ, ◌<◌, refl, ap, sym, ◌∙◌}
-use Rattle.std.specs.Prelude.{Contains}
+use Rattle.std.proofs.Common.{◌≡◌, ◌≢◌, ℕ, ◌<◌, sym, ◌∙◌}
 use Rattle.word_map.specs.declared.name.Name.{Name}
 use Rattle.word_map.specs.declared.name.Name.TheVariants.{State, Phase, Layer, LocA, LocB, Slot}
 use Rattle.core_state.specs.declared.view.Noted.{Noted}
@@ -9,9 +8,9 @@ use Rattle.core_state.specs.declared.view.View.{View}
 use Rattle.core_state.specs.Encoding.{place}
 use Rattle.core_state.specs.Nodes.{Nodes, superseded}
 use Rattle.core_state.specs.Scope.{Sight}
-use Rattle.core_state.specs.Updates.{EachUpdate, IsNoted}
+use Rattle.core_state.specs.Updates.{EachUpdate}
 use Rattle.core_state.specs.LocationsHold.{IsLocation}
-use Rattle.core_state.specs.BodiesCovered.{BodiesCoveredIn, IsInOldTree, LooksAsNoted, IsAsNoted, NotesHold, KeepsMerged}
+use Rattle.core_state.specs.BodiesCovered.{BodiesCoveredIn, IsInOldTree, LooksAsNoted, IsAsNoted, NotesHold}
 use Rattle.core_guard.proofs.Leaving.{if_some_map, if_some_both}
 
 module _ (nodes : Nodes) (s : Sight) (word : Name → ℕ) where

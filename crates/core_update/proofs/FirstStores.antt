@@ -1,7 +1,7 @@
 -- Storing the second location of a body as its first one: no published tree loses an entry by it, since the tree in which the
 -- first location was is superseded, or the two are the same.
-use Rattle.std.proofs.Common.{◌≡◌, ◌≢◌, ◌⊎◌, ℕ, ◌<◌, ◌≤◌, length, Option, Some, None, false, IsSomeAnd, refl, ap, sym, ◌∙◌, subst, inl, inr, arith}
-use Rattle.std.specs.Prelude.{Contains, IsNone}
+use Rattle.std.proofs.Common.{◌≡◌, ◌≢◌, ℕ, ◌<◌, ◌≤◌, length, Option, Some, IsSomeAnd, refl, ap, sym, ◌∙◌, subst, inl, inr, arith}
+use Rattle.std.specs.Prelude.{IsNone}
 use Rattle.std.proofs.lemmas.Option.{same_Some}
 use Rattle.scene_model.specs.declared.body_view.Phase.TheVariants.{Out, In}
 use Rattle.scene_model.specs.Scene.{Record, record_at}
@@ -9,20 +9,17 @@ use Rattle.scene_model.specs.Step.{HasBody}
 use Rattle.word_map.specs.declared.name.Name.{Name}
 use Rattle.word_map.specs.declared.name.Name.TheVariants.{Phase, BoxWord, LocA, LocB, Child, Main}
 use Rattle.core_state.specs.declared.view.Call.{Call}
-use Rattle.core_state.specs.declared.view.Noted.{Noted}
 use Rattle.core_state.specs.declared.view.Rebuild.{Rebuild}
 use Rattle.core_state.specs.declared.view.Task.{Task}
 use Rattle.core_state.specs.declared.view.Task.TheVariants.{Nothing}
-use Rattle.core_state.specs.declared.view.View.{View}
 use Rattle.core_state.specs.View.{known_word}
 use Rattle.core_state.specs.Core.{Core, word_of, scene_of}
 use Rattle.core_state.specs.Kind.{Step, after_step}
 use Rattle.core_state.specs.Encoding.{place, phase_in, Sides}
-use Rattle.core_state.specs.Nodes.{Nodes, Stands, Home, under, IsPublished, IsOfLayer}
-use Rattle.core_state.specs.Parts.{call_on_places, update_on_places, update_on_cover, task_on_cover}
+use Rattle.core_state.specs.Nodes.{Nodes, under, IsPublished, IsOfLayer}
+use Rattle.core_state.specs.Parts.{update_on_places, update_on_cover, task_on_cover}
 use Rattle.core_state.specs.Retiring.{MayPromote, promote}
 use Rattle.core_state.specs.Scope.{Sight, sight}
-use Rattle.core_state.specs.Space.{IsTarget}
 use Rattle.core_state.specs.Updates.{IsPlacing, IsOldTree, IsStillMerged, IsDone}
 use Rattle.core_state.specs.Bodies.{MovesBody}
 use Rattle.core_state.specs.BodiesAgree.{body_scope}

@@ -1,9 +1,8 @@
 -- Exchanging a main word: the next one, once all bodies that were noted are placed or given up.
-use Rattle.std.proofs.Common.{◌≡◌, ◌≢◌, ◌⊎◌, ◌↔◌, ℕ, zero, suc, ◌+◌, ◌-◌, ◌<◌, ◌≤◌, List, [], ◌∷◌, ◌++◌, length, Bool, cond, Option, option_map, Some, None, true, false, refl, ap, sym, ◌∙◌, subst, inl, inr, arith}
-use Rattle.std.specs.Prelude.{Contains, slice_index, not, map, filter, ◌==◌, IsSome}
-use Rattle.std.specs.List.{list_any}
-use Rattle.std.proofs.lemmas.Bool.{cases_eq, cases_Bool, eq-eqb, eqb-true, ne_eqb, true≢false, false≢true}
-use Rattle.std.proofs.lemmas.Option.{same_Some, none-some}
+use Rattle.std.proofs.Common.{◌≡◌, ◌≢◌, ◌⊎◌, ℕ, suc, ◌+◌, ◌<◌, ◌≤◌, List, [], ◌∷◌, ◌++◌, length, Bool, cond, Option, option_map, Some, None, true, false, refl, ap, sym, ◌∙◌, subst, inl, inr, arith}
+use Rattle.std.specs.Prelude.{Contains, slice_index, not, map, filter, ◌==◌}
+use Rattle.std.proofs.lemmas.Bool.{cases_eq, eq-eqb, eqb-true, false≢true}
+use Rattle.std.proofs.lemmas.Option.{same_Some}
 use Rattle.std.proofs.lemmas.List.{get_or_append_left, length-append}
 use Rattle.std.proofs.Math.Seq.{get_or-append_seam}
 use Rattle.word_map.specs.declared.config.Config.{Config}
@@ -17,10 +16,10 @@ use Rattle.core_state.specs.declared.view.Rebuild.{Rebuild}
 use Rattle.core_state.specs.declared.view.View.{View}
 use Rattle.core_state.specs.Batches.{is_in_nodes, written_outside}
 use Rattle.core_state.specs.Core.{Core, word_of}
-use Rattle.core_state.specs.Kind.{Kind, Step, found_by, learned, log_after, after_step}
+use Rattle.core_state.specs.Kind.{Step, found_by, learned, log_after}
 use Rattle.core_state.specs.Encoding.{NamesRoot, layer_of}
 use Rattle.core_state.specs.Exchanging.{MayExchange, exchange_main, IsNewMain, of_none, of_tree, nodes_made, nodes_made_in, with_exchange, exchanged_view}
-use Rattle.core_state.specs.Nodes.{Nodes, Home, made, under, node_in}
+use Rattle.core_state.specs.Nodes.{made, under, node_in}
 use Rattle.core_state.specs.NodesInOnePlace.{node_scope}
 use Rattle.core_state.specs.Parts.{update_on_nodes}
 use Rattle.core_state.specs.TreesSound.{IsSupersededRoot, of_main, of_slot}

@@ -1,39 +1,35 @@
 -- Where nodes are once a main word is exchanged: those of the new tree are no longer the update's own, and stand under the word
 -- in the arena that is not the old one.
-use Rattle.std.proofs.Common.{◌≡◌, ◌≢◌, ◌⊎◌, ◌↔◌, ℕ, suc, ◌+◌, ◌-◌, ◌<◌, ◌≤◌, List, [], ◌∷◌, ◌++◌, length, Bool, cond, Option, option_map, Some, None, IsSome, is_some, IsSomeAnd, true, false, refl, ap, sym, ◌∙◌, subst, inl, inr, arith}
-use Rattle.std.specs.Prelude.{Contains, nat_lt, not, filter, flat_map, IsNone, ◌==◌}
+use Rattle.std.proofs.Common.{◌≡◌, ◌≢◌, ◌↔◌, ℕ, ◌-◌, ◌<◌, List, ◌++◌, length, Bool, cond, Option, option_map, Some, None, IsSome, is_some, IsSomeAnd, true, false, refl, ap, sym, ◌∙◌, subst, inl, inr, arith}
+use Rattle.std.specs.Prelude.{Contains, nat_lt, not, filter, IsNone, ◌==◌}
 use Rattle.std.proofs.lemmas.Bool.{cases_eq, cases_lt, cases_Bool, lt-ltb, le-ltb, false≢true, ne_eqb}
-use Rattle.std.proofs.lemmas.Option.{none-some}
 use Rattle.std.proofs.lemmas.List.Elements.{Contains-append_left, Contains-append_right, Contains-append_cases}
 use Rattle.word_map.specs.declared.config.Config.{Config}
 use Rattle.word_map.specs.Names.{pool_lock}
 use Rattle.word_map.specs.declared.name.Name.{Name}
-use Rattle.word_map.specs.declared.name.Name.TheVariants.{PoolHead, PoolNext, PoolFree, Main, Slot, Update, Arena}
-use Rattle.core_state.specs.declared.view.Batch.{Batch}
-use Rattle.core_state.specs.declared.view.Call.{Call}
+use Rattle.word_map.specs.declared.name.Name.TheVariants.{Main, Slot, Update, Arena}
 use Rattle.core_state.specs.declared.view.NewNode.{NewNode}
 use Rattle.core_state.specs.declared.view.Rebuild.{Rebuild}
 use Rattle.core_state.specs.declared.view.View.{View}
 use Rattle.core_state.specs.Batches.{batch_nodes_of, is_in_nodes}
-use Rattle.core_state.specs.Core.{Core, word_of, IsViewAt}
+use Rattle.core_state.specs.Core.{Core, word_of}
 use Rattle.core_state.specs.declared.view.Mode.TheVariants.{Write}
-use Rattle.core_state.specs.View.{IsPass, Holds}
-use Rattle.core_state.specs.Kind.{Kind, Step, found_by, after_step}
+use Rattle.core_state.specs.View.{Holds}
+use Rattle.core_state.specs.Kind.{Step, found_by, after_step}
 use Rattle.core_state.specs.Encoding.{IsInArena}
 use Rattle.core_state.specs.Exchanging.{MayExchange, exchange_main, nodes_made, with_exchange}
-use Rattle.core_state.specs.Nodes.{Nodes, Home, free, spare, owned, made, under, superseded, returning, IsOwnedBy, nodes_of, nodes_in}
+use Rattle.core_state.specs.Nodes.{Nodes, Home, free, spare, made, under, superseded, returning, IsOwnedBy, nodes_of, nodes_in}
 use Rattle.core_state.specs.NodesInOnePlace.{NodesInOnePlace, node_scope, NamesArena, IsOfReplaced}
 use Rattle.core_state.specs.Parts.{update_on_nodes, task_on_pool}
 use Rattle.core_state.specs.Scope.{Sight, sight, HasPass, EachPass, IsOnce}
-use Rattle.core_state.specs.Updates.{EachUpdate, HasUpdate, IsMadeIn, arena_of}
-use Rattle.core_state.specs.Invariants.{Invariants}
+use Rattle.core_state.specs.Updates.{HasUpdate, IsMadeIn, arena_of}
 use Rattle.core_state.proofs.Beginning.{contains_filter}
 use Rattle.core_state.proofs.Steps.{word-step-other, view-step}
 use Rattle.core_batch.proofs.Attached.{in_nodes-there, there-in_nodes}
 use Rattle.core_batch.proofs.Lists.{filter_from, part-refl, part-append, part-filter, part-pairs}
 use Rattle.core_guard.proofs.Leaving.{Acts, After, Last, lawful, other-number, if_some_map}
 use Rattle.core_guard.proofs.NodesLeft.{OwnerPart, TreePart, together, pool-stays, unseen-pool, seen-nodes}
-use Rattle.core_guard.proofs.Owners.{nodes_split, batch_among, owned-by, batch-below, same-view}
+use Rattle.core_guard.proofs.Owners.{nodes_split, owned-by, batch-below, same-view}
 use Rattle.core_guard.proofs.Seats.{seen_of, seat_seen, has-seat, seat-has, each-step, has-step, has-unstep, each-seats}
 use Rattle.core_guard.proofs.Touched.{IsKept, kept as kept_by}
 use Rattle.core_update.proofs.ArenaOf.{arena-is}

@@ -7,13 +7,11 @@ use Rattle.scene_model.specs.declared.body_view.Phase.{Phase as BodyPhase}
 use Rattle.scene_model.specs.declared.body_view.Phase.TheVariants.{Out, Held, In}
 use Rattle.scene_model.specs.Scene.{Record, record_at}
 use Rattle.scene_model.specs.Step.{HasBody}
-use Rattle.word_map.specs.declared.name.Name.TheVariants.{LocA, LocB, Main}
+use Rattle.word_map.specs.declared.name.Name.TheVariants.{LocB, Main}
 use Rattle.word_map.specs.declared.config.Config.{Config}
 use Rattle.word_map.specs.Names.{stripe_of}
 use Rattle.core_state.specs.declared.view.Noted.{Noted}
-use Rattle.core_state.specs.declared.view.Rebuild.{Rebuild}
 use Rattle.core_state.specs.declared.view.Task.{Task}
-use Rattle.core_state.specs.declared.view.Task.TheVariants.{Nothing}
 use Rattle.core_state.specs.declared.view.Mode.TheVariants.{Write}
 use Rattle.core_state.specs.declared.view.View.{View}
 use Rattle.core_state.specs.View.{IsPass, Holds}
@@ -21,13 +19,13 @@ use Rattle.core_state.specs.Core.{Core, word_of, scene_of, IsViewAt}
 use Rattle.core_state.specs.Kind.{Kind, Step}
 use Rattle.core_state.specs.Encoding.{place}
 use Rattle.core_state.specs.Moving.{IsSettled}
-use Rattle.core_state.specs.Nodes.{Nodes, made, under}
+use Rattle.core_state.specs.Nodes.{Nodes, under}
 use Rattle.core_state.specs.NodesInOnePlace.{node_scope}
 use Rattle.core_state.specs.Parts.{update_on_nodes, update_on_places}
 use Rattle.core_state.specs.Retiring.{IsToPromote}
-use Rattle.core_state.specs.Scope.{Sight, sight, scene_in}
-use Rattle.core_state.specs.Updates.{IsMadeIn, IsSameBody}
-use Rattle.core_state.specs.LocationsHold.{location_scope, IsLocation, IsPlannedAt, IsPublishedAt, IsSecondFor, IsRemoved, Removes}
+use Rattle.core_state.specs.Scope.{Sight, sight}
+use Rattle.core_state.specs.Updates.{IsMadeIn}
+use Rattle.core_state.specs.LocationsHold.{location_scope, IsPlannedAt, IsPublishedAt, IsSecondFor, IsRemoved, Removes}
 use Rattle.core_state.proofs.Beginning.{record_body}
 use Rattle.core_state.proofs.Lookups.{at_one}
 use Rattle.core_guard.proofs.BodyTouch.{stripe-others}

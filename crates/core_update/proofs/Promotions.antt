@@ -1,32 +1,31 @@
 -- With the second location of a body its promotion ends, or it is found that the body has none: the update notes that it is
 -- promoted, and the body stands where it stood.
-use Rattle.std.proofs.Common.{◌≡◌, ◌≢◌, ◌⊎◌, ℕ, ◌<◌, ◌≤◌, [], ◌∷◌, ◌++◌, List, length, Option, Some, None, false, refl, ap, sym, ◌∙◌, subst, inl, inr, arith}
+use Rattle.std.proofs.Common.{◌≡◌, ◌≢◌, ◌⊎◌, ℕ, ◌<◌, ◌≤◌, [], ◌∷◌, length, Some, None, false, refl, ap, sym, ◌∙◌, subst, inl, inr, arith}
 use Rattle.std.specs.Prelude.{Contains}
 use Rattle.std.proofs.lemmas.Bool.{cases_eq}
 use Rattle.std.proofs.lemmas.List.Elements.{Contains-append_cases}
-use Rattle.scene_model.specs.declared.body_view.Phase.TheVariants.{In}
-use Rattle.scene_model.specs.Scene.{Scene, Record, record_at}
+use Rattle.scene_model.specs.Scene.{Scene}
 use Rattle.scene_model.specs.Step.{HasBody}
 use Rattle.word_map.specs.declared.name.Name.{Name}
 use Rattle.word_map.specs.declared.name.Name.TheVariants.{LocA, LocB, Phase, Main, Slot}
 use Rattle.core_state.specs.declared.view.Noted.{Noted}
 use Rattle.core_state.specs.declared.view.Rebuild.{Rebuild}
 use Rattle.core_state.specs.declared.view.View.{View}
-use Rattle.core_state.specs.Core.{Core, word_of, scene_of}
+use Rattle.core_state.specs.Core.{Core, word_of}
 use Rattle.core_state.specs.Kind.{Kind, Step, log_after, after_step}
 use Rattle.core_state.specs.Encoding.{place}
 use Rattle.core_state.specs.Nodes.{Nodes, Home, under, superseded}
 use Rattle.core_state.specs.Parts.{update_on_places}
 use Rattle.core_state.specs.Retiring.{IsToPromote, with_promoted}
 use Rattle.core_state.specs.Scope.{Sight, sight}
-use Rattle.core_state.specs.Updates.{IsStillMerged, IsSameBody}
+use Rattle.core_state.specs.Updates.{IsStillMerged}
 use Rattle.core_state.specs.LocationsHold.{LocationsHold, location_scope, IsLocation, IsWhere, in_slot, in_main, in_old, in_merged, IsSecond, IsSecondFor, IsPublishedAt}
 use Rattle.core_state.proofs.Opening.{only}
 use Rattle.core_state.proofs.Steps.{word-step-other}
 use Rattle.core_guard.proofs.Leaving.{Acts, After, Last}
 use Rattle.core_update.proofs.OwnUpdate.{each-own, has-own, own-has}
 use Rattle.core_update.proofs.Promoting.{IsPromoted, swapped}
-use Rattle.core_update.proofs.Unmoved.{Unmoved, is_aside, word-same, scene-same, no-second, placed_now-forth, update-forth, LocationsGoOn, LocationsHold-unmoved}
+use Rattle.core_update.proofs.Unmoved.{Unmoved, is_aside, word-same, scene-same, no-second, placed_now-forth, update-forth, LocationsHold-unmoved}
 
 -- two places of one value are one place
 pub one-place : (n k m j : ℕ) → k < 4 → j < 4 → place n k ≡ place m j → n ≡ m

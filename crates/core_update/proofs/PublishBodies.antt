@@ -1,6 +1,6 @@
 -- The bodies agree once the tree of a word is taken out of sight: no body that is in the broad phase joined it by its slot, and
 -- no batch holds the slot.
-use Rattle.std.proofs.Common.{◌≡◌, ◌≢◌, ◌⊎◌, ◌↔◌, ℕ, zero, suc, ◌+◌, ◌-◌, ◌<◌, List, Some, refl, ap, sym, ◌∙◌, subst, inl, inr, arith}
+use Rattle.std.proofs.Common.{◌≡◌, ◌↔◌, ℕ, zero, suc, ◌+◌, ◌-◌, ◌<◌, List, Some, refl, ap, sym, ◌∙◌, subst, inl, inr, arith}
 use Rattle.scene_model.specs.Scene.{Record, record_at}
 use Rattle.word_map.specs.declared.name.Name.{Name}
 use Rattle.word_map.specs.declared.name.Name.TheVariants.{SlotHead, SlotNext, State, Phase, Layer, User, BoxWord, Slot}

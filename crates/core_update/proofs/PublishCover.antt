@@ -1,39 +1,36 @@
 -- The bodies are covered once the tree of a word is taken out of sight: each one that stood in it has its second location in
 -- the main tree of its layer.
-use Rattle.std.proofs.Common.{◌≡◌, ◌≢◌, ◌⊎◌, ℕ, ◌<◌, ◌≤◌, List, length, Option, Some, refl, ap, sym, ◌∙◌, subst, inl, inr, arith}
+use Rattle.std.proofs.Common.{◌≡◌, ◌≢◌, ℕ, ◌<◌, ◌≤◌, List, length, Option, Some, refl, ap, sym, ◌∙◌, subst, inl, inr, arith}
 use Rattle.std.specs.Prelude.{Contains, IsSomeAnd}
-use Rattle.std.proofs.lemmas.Option.{same_Some}
-use Rattle.scene_model.specs.declared.body_view.Phase.TheVariants.{In}
 use Rattle.scene_model.specs.declared.entry.Made.{Made}
 use Rattle.scene_model.specs.Scene.{Scene, Record, record_at}
 use Rattle.scene_model.specs.Step.{HasBody}
 use Rattle.word_map.specs.declared.name.Name.{Name}
-use Rattle.word_map.specs.declared.name.Name.TheVariants.{State, Phase, Layer, LocA, LocB, Main, Slot}
+use Rattle.word_map.specs.declared.name.Name.TheVariants.{Phase, LocA, LocB, Main, Slot}
 use Rattle.core_state.specs.declared.view.Call.{Call}
 use Rattle.core_state.specs.declared.view.Noted.{Noted}
 use Rattle.core_state.specs.declared.view.Rebuild.{Rebuild}
-use Rattle.core_state.specs.declared.view.Task.{Task}
 use Rattle.core_state.specs.declared.view.View.{View}
 use Rattle.core_state.specs.Core.{Core, word_of, scene_of}
 use Rattle.core_state.specs.Kind.{Kind, Step, after_step}
 use Rattle.core_state.specs.Encoding.{phase_join, sides_of}
-use Rattle.core_state.specs.Nodes.{Nodes, Home, made, under, superseded, IsPublished, IsOfLayer}
+use Rattle.core_state.specs.Nodes.{Nodes, Home, under, IsPublished, IsOfLayer}
 use Rattle.core_state.specs.Parts.{update_on_cover, task_on_cover}
 use Rattle.core_state.specs.Scope.{Sight, sight, scene_in}
 use Rattle.core_state.specs.Updates.{EachUpdate, IsOldTree, IsStillMerged, IsDone, IsNoted, IsPlacing}
-use Rattle.core_state.specs.LocationsHold.{location_scope, IsLocation, IsRemoved, Removes, IsWhere, in_slot, in_main, in_old, in_merged}
-use Rattle.core_state.specs.BodiesCovered.{BodiesCovered, cover_scope, IsCovered, IsInOldTree, LooksAsNoted, IsAsNoted, NotesHold, KeepsMerged, ExchangesDone}
+use Rattle.core_state.specs.LocationsHold.{IsLocation}
+use Rattle.core_state.specs.BodiesCovered.{BodiesCovered, cover_scope, IsCovered, IsInOldTree, NotesHold, KeepsMerged, ExchangesDone}
 use Rattle.core_state.specs.Space.{HadAs}
 use Rattle.core_state.proofs.SameNames.{cases_name}
 use Rattle.core_state.proofs.Frames.{step-history}
 use Rattle.core_state.proofs.Steps.{word-step-other}
 use Rattle.core_guard.proofs.Leaving.{Acts, After, Last}
-use Rattle.core_guard.proofs.Seats.{has-step, seen_of}
+use Rattle.core_guard.proofs.Seats.{seen_of}
 use Rattle.core_update.proofs.OwnUpdate.{each-own, own-each}
 use Rattle.core_update.proofs.Publishing.{Published, Publishes, homes_after, update_after, other-word, unmoved}
-use Rattle.core_update.proofs.PublishFacts.{HasPlace, has-place, old-second, old-seen, taken-second, unjoined, IsSecondAt, second-at, done-seen}
+use Rattle.core_update.proofs.PublishFacts.{HasPlace, has-place, taken-second, second-at, done-seen}
 use Rattle.core_update.proofs.PublishPlaces.{published_name}
-use Rattle.core_update.proofs.Turning.{turn, turns, Turns, kept, taken, shown, turn-shown, under-back, superseded-back, under-forth, turn-of_layer}
+use Rattle.core_update.proofs.Turning.{turn, turns, Turns, kept, taken, shown, turn-shown, superseded-back, under-forth, turn-of_layer}
 use Rattle.core_update.proofs.Unmoved.{scene-same}
 
 module _ (kind : Kind) (core : Core) (step : Step) (a : Acts core step) (r : Rebuild) (q : Published) (p : Publishes kind core step a r q) where

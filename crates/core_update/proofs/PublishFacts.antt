@@ -1,10 +1,9 @@
 -- What is known of bodies when an update takes a tree out of sight: each one whose first location is in it has a second
 -- location, no phase names its slot, and a second location is a place in a new tree.
-use Rattle.std.proofs.Common.{◌≡◌, ◌≢◌, ◌⊎◌, ℕ, suc, ◌<◌, ◌≤◌, length, Option, Some, None, IsSome, true, refl, ap, sym, ◌∙◌, subst, inl, inr, arith}
+use Rattle.std.proofs.Common.{◌≡◌, ◌≢◌, ◌⊎◌, ℕ, ◌<◌, ◌≤◌, length, Option, Some, None, true, refl, sym, subst, inl, inr, arith}
 use Rattle.std.specs.Prelude.{Contains, IsNone}
 use Rattle.std.proofs.lemmas.Bool.{cases_lt}
-use Rattle.scene_model.specs.declared.body_view.Phase.TheVariants.{In}
-use Rattle.scene_model.specs.Scene.{Scene, Record, record_at}
+use Rattle.scene_model.specs.Scene.{Record, record_at}
 use Rattle.scene_model.specs.Step.{HasBody}
 use Rattle.word_map.specs.declared.name.Name.{Name}
 use Rattle.word_map.specs.declared.name.Name.TheVariants.{Phase, LocA, LocB, Main, Slot}
@@ -20,11 +19,10 @@ use Rattle.core_state.specs.Encoding.{place, phase_join}
 use Rattle.core_state.specs.Nodes.{Nodes, Home, made, under}
 use Rattle.core_state.specs.Parts.{update_on_cover, update_on_places, task_on_cover}
 use Rattle.core_state.specs.Scope.{Sight, sight}
-use Rattle.core_state.specs.Updates.{EachUpdate, IsOldTree, IsStillMerged, IsDone, IsNoted, IsPlacing}
-use Rattle.core_state.specs.LocationsHold.{location_scope, IsSecond, IsSecondFor, IsPlannedAt, IsPublishedAt}
+use Rattle.core_state.specs.Updates.{IsOldTree, IsStillMerged, IsDone, IsNoted, IsPlacing}
+use Rattle.core_state.specs.LocationsHold.{location_scope, IsSecondFor, IsPlannedAt, IsPublishedAt}
 use Rattle.core_state.specs.BodiesCovered.{cover_scope, IsInOldTree, NotesHold}
 use Rattle.core_state.proofs.Beginning.{record_body}
-use Rattle.core_guard.proofs.CoverLeft.{still_done}
 use Rattle.core_guard.proofs.Leaving.{Acts}
 use Rattle.core_guard.proofs.ListsAgree.{scene_consistent}
 use Rattle.core_guard.proofs.Scenes.{record_live, live_below, bodies-after}

@@ -1,18 +1,15 @@
 -- Taking a tree out of sight stores no word that another pass has for itself: no other pass has an update, and none has a batch
 -- for a slot that has a tree.
-use Rattle.std.proofs.Common.{◌≡◌, ◌≢◌, ℕ, suc, Option, Some, None, IsSomeAnd, refl, ap, sym, ◌∙◌, subst, inl, inr, arith}
-use Rattle.word_map.specs.declared.name.Name.{Name}
+use Rattle.std.proofs.Common.{◌≡◌, Option, None, IsSomeAnd, refl, subst, inl, inr, arith}
 use Rattle.word_map.specs.declared.name.Name.TheVariants.{Main, Slot}
 use Rattle.core_state.specs.declared.view.Rebuild.{Rebuild}
-use Rattle.core_state.specs.Core.{Core, word_of}
-use Rattle.core_state.specs.Kind.{Kind, Step}
+use Rattle.core_state.specs.Core.{word_of}
 use Rattle.core_state.specs.Exchanging.{MayClearSlot, clear_slot, MayExchange, exchange_main}
 use Rattle.core_state.specs.Encoding.{slot_tree}
 use Rattle.core_state.specs.Parts.{update_on_cover}
 use Rattle.core_state.specs.Scope.{sight}
 use Rattle.core_state.specs.BodiesCovered.{cover_scope, KeepsMerged}
 use Rattle.core_batch.proofs.Owning.{number-low, slot-reserved}
-use Rattle.core_guard.proofs.Leaving.{Acts}
 use Rattle.core_guard.proofs.Holders.{keeps, IsGuarded, guarded}
 use Rattle.core_update.proofs.OwnUpdate.{others-none, each-own}
 

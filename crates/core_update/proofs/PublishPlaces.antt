@@ -1,7 +1,6 @@
 -- The locations hold once the tree of a word is taken out of sight.
-use Rattle.std.proofs.Common.{◌≡◌, ◌≢◌, ◌⊎◌, ℕ, suc, ◌<◌, ◌≤◌, length, Option, Some, true, refl, ap, sym, ◌∙◌, subst, inl, inr, arith}
+use Rattle.std.proofs.Common.{◌≡◌, ◌≢◌, ℕ, ◌<◌, ◌≤◌, length, Some, true, refl, ap, sym, ◌∙◌, subst, inl, inr, arith}
 use Rattle.std.specs.Prelude.{Contains}
-use Rattle.scene_model.specs.declared.body_view.Phase.TheVariants.{In}
 use Rattle.scene_model.specs.Scene.{Scene, Record, record_at}
 use Rattle.scene_model.specs.Step.{HasBody}
 use Rattle.word_map.specs.declared.name.Name.{Name}
@@ -9,11 +8,10 @@ use Rattle.word_map.specs.declared.name.Name.TheVariants.{Phase, LocA, LocB, Chi
 use Rattle.core_state.specs.declared.view.Call.{Call}
 use Rattle.core_state.specs.declared.view.Noted.{Noted}
 use Rattle.core_state.specs.declared.view.Rebuild.{Rebuild}
-use Rattle.core_state.specs.declared.view.View.{View}
 use Rattle.core_state.specs.Core.{Core, word_of, scene_of}
 use Rattle.core_state.specs.Kind.{Kind, Step, after_step}
 use Rattle.core_state.specs.Encoding.{body_child, place, layer_of}
-use Rattle.core_state.specs.Nodes.{Nodes, Home, made, under, superseded, IsPublished}
+use Rattle.core_state.specs.Nodes.{Nodes, Home, made, under, IsPublished}
 use Rattle.core_state.specs.Parts.{call_on_places, update_on_places}
 use Rattle.core_state.specs.Scope.{Sight, sight}
 use Rattle.core_state.specs.Updates.{IsStillMerged, IsDone, IsNoted, IsPlacing}
@@ -26,7 +24,7 @@ use Rattle.core_update.proofs.OwnUpdate.{each-own, has-own, own-has}
 use Rattle.core_update.proofs.Publishing.{Published, Publishes, homes_after, update_after, other-word, unmoved}
 use Rattle.core_update.proofs.PublishFacts.{has-place, taken-second, unjoined}
 use Rattle.core_update.proofs.Turning.{turn-taken, turn-shown, under-back, made-back, made-forth, under-forth, superseded-forth}
-use Rattle.core_update.proofs.Unmoved.{Unmoved, scene-same, placed_now-forth, update-forth, LocationsGoOn, LocationsHold-unmoved}
+use Rattle.core_update.proofs.Unmoved.{Unmoved, scene-same, placed_now-forth, update-forth, LocationsHold-unmoved}
 
 -- a published home is under some word
 pub published_name : (home : Home) → IsPublished home → (name : Name) × (home ≡ under name)

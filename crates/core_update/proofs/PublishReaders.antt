@@ -4,20 +4,18 @@ use Rattle.std.proofs.Common.{◌≡◌, ◌≢◌, ◌⊎◌, ℕ, ◌+◌, ◌
 use Rattle.std.specs.Prelude.{Contains, IsTrue, option_map}
 use Rattle.std.proofs.lemmas.Option.{same_Some}
 use Rattle.std.proofs.lemmas.Bool.{false≢true}
-use Rattle.scene_model.specs.Step.{HasBody}
 use Rattle.scene_model.specs.Scene.{record_at}
 use Rattle.word_map.specs.declared.name.Name.{Name}
-use Rattle.word_map.specs.declared.name.Name.TheVariants.{Child, Bound, Parent, Main, Slot, Reader}
+use Rattle.word_map.specs.declared.name.Name.TheVariants.{Child, Main, Slot, Reader}
 use Rattle.core_state.specs.declared.item.Load.{Load}
 use Rattle.core_state.specs.declared.view.Noted.{Noted}
 use Rattle.core_state.specs.declared.view.Rebuild.{Rebuild}
 use Rattle.core_state.specs.declared.view.Task.{Task}
 use Rattle.core_state.specs.declared.view.Task.TheVariants.{Moving, Removing}
-use Rattle.core_state.specs.declared.view.View.{View}
 use Rattle.core_state.specs.Core.{Core, word_of}
-use Rattle.core_state.specs.Kind.{Kind, Step, log_after, after_step}
-use Rattle.core_state.specs.Encoding.{place, Sides, bound_in, layer_of}
-use Rattle.core_state.specs.Nodes.{Nodes, Home, made, under, superseded, Stands, IsLive, IsOfLayer, Above, here, higher}
+use Rattle.core_state.specs.Kind.{Kind, Step, after_step}
+use Rattle.core_state.specs.Encoding.{bound_in, layer_of}
+use Rattle.core_state.specs.Nodes.{Nodes, Home, made, under, Stands, IsLive, IsOfLayer, Above, here, higher}
 use Rattle.core_state.specs.Parts.{update_on_readers, update_on_nodes, call_at, task_at_place}
 use Rattle.core_state.specs.Scope.{Sight, sight, EachPass, bare_view, scene_in}
 use Rattle.scene_model.specs.History.{point}
@@ -29,11 +27,9 @@ use Rattle.core_state.specs.Walking.{Position}
 use Rattle.core_state.specs.ReadersCounted.{ReadersCounted, ReadersCountedIn, reader_scope, Reaches, IsWalkedAt, WalkStays, AvoidsSuperseded, HasSeenOff, ClimbsInTrees, IsPlannedBelow, IsSideOf, IsTight, layer_at_hand}
 use Rattle.core_state.proofs.Frames.{same_cond, step-history, passes-same}
 use Rattle.core_state.proofs.Opening.{none_in}
-use Rattle.core_guard.proofs.Leaving.{Acts, After, Last, LeadsWithin, sound-leads, if_some_map, live-stands, some_and_map}
-use Rattle.core_guard.proofs.ReadersLeft.{some-all}
-use Rattle.core_guard.proofs.Seats.{seen_of}
+use Rattle.core_guard.proofs.Leaving.{Acts, After, Last, LeadsWithin, sound-leads, if_some_map, some_and_map}
 use Rattle.core_update.proofs.OwnUpdate.{each-own, own-all, has-own}
-use Rattle.core_update.proofs.Publishing.{Published, Publishes, homes_after, update_after, is_tree_name, other-word}
+use Rattle.core_update.proofs.Publishing.{Published, Publishes, homes_after, is_tree_name, other-word}
 use Rattle.core_update.proofs.PublishFacts.{has-place}
 use Rattle.core_update.proofs.Turning.{turn-stands, turn-live, turn-of_layer, under-back, made-back, turns, Turns, kept, taken, shown}
 

@@ -1,18 +1,17 @@
 -- The trees are sound once the tree of a word is taken out of sight.
-use Rattle.std.proofs.Common.{◌≡◌, ◌≢◌, ◌⊎◌, ℕ, suc, ◌<◌, ◌≤◌, true, false, List, length, map, Option, Some, None, IfSome, refl, ap, sym, ◌∙◌, subst, inl, inr, arith}
+use Rattle.std.proofs.Common.{◌≡◌, ◌≢◌, ℕ, suc, true, false, Some, None, IfSome, refl, ap, sym, ◌∙◌, subst, inl, inr}
 use Rattle.std.specs.Prelude.{Contains, slice_index}
 use Rattle.std.proofs.lemmas.Bool.{false≢true}
 use Rattle.std.proofs.lemmas.Option.{none-some}
 use Rattle.word_map.specs.declared.name.Name.{Name}
 use Rattle.word_map.specs.declared.name.Name.TheVariants.{Child, Bound, Parent, Main, Slot}
 use Rattle.core_state.specs.declared.item.Store.{Store}
-use Rattle.core_state.specs.declared.view.NewNode.{NewNode}
 use Rattle.core_state.specs.declared.view.Rebuild.{Rebuild}
 use Rattle.core_state.specs.declared.view.View.{View}
 use Rattle.core_state.specs.Core.{Core, word_of}
 use Rattle.core_state.specs.Kind.{Kind, Step, after_step}
-use Rattle.core_state.specs.Encoding.{NamesRoot, Sides, IsBox, bound_in}
-use Rattle.core_state.specs.Nodes.{Nodes, Home, free, spare, owned, made, under, superseded, returning, Stands, IsOwnedBy, node_in}
+use Rattle.core_state.specs.Encoding.{NamesRoot, Sides, IsBox}
+use Rattle.core_state.specs.Nodes.{Nodes, Home, owned, made, under, superseded, returning, Stands, IsOwnedBy, node_in}
 use Rattle.core_state.specs.NodesInOnePlace.{node_scope}
 use Rattle.core_state.specs.Parts.{update_on_trees, update_on_nodes}
 use Rattle.core_state.specs.Scope.{Sight, sight, HasPass}
@@ -20,12 +19,12 @@ use Rattle.core_state.specs.Updates.{EachUpdate, HasUpdate}
 use Rattle.core_state.specs.TreesSound.{TreesSound, tree_scope, IsChild, nothing, a_body, a_node, IsPlaced, as_root, at_place, IsRootOf, IsSupersededRoot, of_main, of_slot, IsSoundNode, IsAsStored, RootsMade, RootsSuperseded, AreTops}
 use Rattle.core_state.proofs.SameNames.{cases_name}
 use Rattle.core_state.proofs.Steps.{word-step-other}
-use Rattle.core_guard.proofs.Leaving.{Acts, After, Last, if_some_with, other-number}
+use Rattle.core_guard.proofs.Leaving.{Acts, After, if_some_with, other-number}
 use Rattle.core_guard.proofs.Seats.{each-step, seen_of}
 use Rattle.core_guard.proofs.TreesLeft.{stored-same, node-word}
 use Rattle.core_update.proofs.OwnUpdate.{each-own, has-own, own-each, own-has}
 use Rattle.core_update.proofs.Publishing.{Published, Publishes, homes_after, update_after, is_tree_name, other-word}
-use Rattle.core_update.proofs.Turning.{turn, turns, Turns, kept, taken, shown, stands-back, turn-kept, turn-taken, turn-shown, other-back, other-forth, made-forth, under-forth, superseded-forth}
+use Rattle.core_update.proofs.Turning.{turn, turns, Turns, kept, taken, shown, stands-back, turn-taken, turn-shown, other-back, other-forth, made-forth, under-forth, superseded-forth}
 
 module _ (kind : Kind) (core : Core) (step : Step) (a : Acts core step) (r : Rebuild) (q : Published) (p : Publishes kind core step a r q) where
   abbrev nodes : Nodes

@@ -1,6 +1,6 @@
 -- The walks lead on once the tree of a word is taken out of sight: a body that was ahead in it is ahead in the main tree of
 -- its layer, whose word the walk has not read either.
-use Rattle.std.proofs.Common.{◌≡◌, ◌≢◌, ◌⊎◌, ℕ, ◌<◌, ◌≤◌, List, length, Option, Some, true, refl, ap, sym, ◌∙◌, subst, inl, inr, arith}
+use Rattle.std.proofs.Common.{◌≡◌, ◌≢◌, ℕ, ◌<◌, ◌≤◌, length, Some, refl, ap, sym, ◌∙◌, subst, inl, inr, arith}
 use Rattle.std.specs.Prelude.{Contains}
 use Rattle.std.proofs.lemmas.Option.{same_Some}
 use Rattle.fixed_box.specs.FixBox.{words_of}
@@ -9,7 +9,7 @@ use Rattle.scene_model.specs.declared.body_view.Phase.TheVariants.{In}
 use Rattle.scene_model.specs.Scene.{Scene, Record, record_at}
 use Rattle.scene_model.specs.History.{IsDue, Fits, point}
 use Rattle.word_map.specs.declared.name.Name.{Name}
-use Rattle.word_map.specs.declared.name.Name.TheVariants.{LocA, LocB, Child, Bound, Main, Slot}
+use Rattle.word_map.specs.declared.name.Name.TheVariants.{LocB, Child, Bound, Main, Slot}
 use Rattle.core_state.specs.declared.view.Rebuild.{Rebuild}
 use Rattle.core_state.specs.declared.view.Walk.{Walk}
 use Rattle.core_state.specs.Log.{history}
@@ -20,17 +20,17 @@ use Rattle.core_state.specs.Nodes.{Nodes, Home, made, under, superseded, Stands,
 use Rattle.core_state.specs.Scope.{Sight, sight, bare_view, word_in}
 use Rattle.core_state.specs.Space.{HadSince}
 use Rattle.core_state.specs.TreesSound.{tree_scope}
-use Rattle.core_state.specs.LocationsHold.{location_scope, IsLocation, IsWhere, in_slot, in_main, in_old, in_merged}
+use Rattle.core_state.specs.LocationsHold.{location_scope, IsWhere, in_slot, in_main, in_old, in_merged}
 use Rattle.core_state.specs.Walking.{Query, Position}
 use Rattle.core_state.specs.WalksLead.{WalksLead, WalksLeadIn, WalkLeads, walk_scope, Way, to_entry, to_node, HoldsOne, IsAhead, is_found, by_slot, by_main, by_stack, by_child, by_part, ReadsMainLast, since_begun}
 use Rattle.core_state.proofs.Beginning.{body_record, record_body, last_point}
 use Rattle.core_state.proofs.Frames.{step-history, passes-same}
 use Rattle.core_state.proofs.SameNames.{cases_name}
 use Rattle.core_state.proofs.Steps.{word-step-other}
-use Rattle.core_guard.proofs.Leaving.{Acts, After, Last, LeadsWithin, sound-leads}
+use Rattle.core_guard.proofs.Leaving.{Acts, After, LeadsWithin, sound-leads}
 use Rattle.core_update.proofs.Publishing.{Published, Publishes, homes_after, update_after, other-word, unmoved}
-use Rattle.core_update.proofs.PublishCover.{IsInMain, second-main}
-use Rattle.core_update.proofs.PublishFacts.{has-place, taken-second, unjoined, second-at}
+use Rattle.core_update.proofs.PublishCover.{second-main}
+use Rattle.core_update.proofs.PublishFacts.{has-place, taken-second, second-at}
 use Rattle.core_update.proofs.PublishPlaces.{LocationsHold-published}
 use Rattle.core_update.proofs.PublishTrees.{TreesSound-published}
 use Rattle.core_update.proofs.SameWays.{way-same, spot-same, part-same, widens-same}

@@ -1,21 +1,19 @@
 -- A step by which an update takes the tree of a word out of sight, once it has done with all bodies that it noted: a main word
 -- is exchanged, or the slot of a merged tree cleared. What is to be shown of the word and of the update, and what follows.
-use Rattle.std.proofs.Common.{◌≡◌, ◌≢◌, ◌⊎◌, ℕ, suc, ◌<◌, ◌≤◌, Bool, true, false, List, [], length, Option, Some, None, refl, ap, sym, ◌∙◌, subst, inl, inr, arith}
+use Rattle.std.proofs.Common.{◌≡◌, ◌≢◌, ◌⊎◌, ℕ, suc, ◌<◌, ◌≤◌, Bool, true, false, List, [], length, Some, None, refl, ap, sym, ◌∙◌, inl, inr}
 use Rattle.std.specs.Prelude.{Contains, slice_index}
 use Rattle.word_map.specs.declared.name.Name.{Name}
-use Rattle.word_map.specs.declared.name.Name.TheVariants.{LocA, LocB, Child, Bound, Parent, Main, Slot}
+use Rattle.word_map.specs.declared.name.Name.TheVariants.{LocA, LocB, Main, Slot}
 use Rattle.core_state.specs.declared.item.Store.{Store}
 use Rattle.core_state.specs.declared.view.NewNode.{NewNode}
 use Rattle.core_state.specs.declared.view.Noted.{Noted}
 use Rattle.core_state.specs.declared.view.Rebuild.{Rebuild}
-use Rattle.core_state.specs.declared.view.View.{View}
 use Rattle.core_state.specs.Core.{Core, word_of}
-use Rattle.core_state.specs.Kind.{Kind, Step, log_after}
+use Rattle.core_state.specs.Kind.{Kind, Step}
 use Rattle.core_state.specs.Encoding.{NamesRoot, layer_of}
 use Rattle.core_state.specs.Nodes.{Nodes, under, made, node_in}
 use Rattle.core_state.specs.TreesSound.{IsSupersededRoot}
 use Rattle.core_state.specs.Updates.{IsOldTree, IsStillMerged, IsDone}
-use Rattle.core_state.specs.Parts.{update_on_cover}
 use Rattle.core_state.proofs.Steps.{word-step-other}
 use Rattle.core_guard.proofs.Leaving.{Acts, After, Last}
 use Rattle.core_update.proofs.Turning.{turned, turn-stands, turn-live}

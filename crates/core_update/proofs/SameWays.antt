@@ -5,7 +5,7 @@ use Rattle.word_map.specs.declared.name.Name.TheVariants.{Child, Bound}
 use Rattle.core_state.specs.declared.view.Walk.{Walk}
 use Rattle.core_state.specs.Encoding.{Sides, IsBox, Covers, bound_in}
 use Rattle.core_state.specs.Walking.{Spot, resting, at_child, at_bound}
-use Rattle.core_state.specs.WalksLead.{HoldsOne, Way, to_entry, to_node, Leads, is_entry, by_node, ChildLeads, LeadsBySpot, LeadsByPart, begun_bound, mixed, IsReadInPart, OnlyWidens}
+use Rattle.core_state.specs.WalksLead.{HoldsOne, Way, to_entry, to_node, Leads, is_entry, by_node, ChildLeads, LeadsBySpot, LeadsByPart, begun_bound, mixed, OnlyWidens}
 
 module _ (one two : Name → ℕ) (child : (n k : ℕ) → two (Child n k) ≡ one (Child n k)) (side : (n k q : ℕ) → two (Bound n k q) ≡ one (Bound n k q)) where
   bound : (n k : ℕ) → bound_in one n k ≡ bound_in two n k

@@ -1,31 +1,28 @@
 -- Clearing the second location of a body that has the same first one: it stands where it stood, and the update has promoted
 -- it.
-use Rattle.std.proofs.Common.{◌≡◌, ◌≢◌, ℕ, ◌<◌, length, Option, option_map, Some, None, IsSomeAnd, refl, ap, sym, ◌∙◌, subst, inl, inr, arith}
-use Rattle.std.proofs.lemmas.Option.{same_Some, none-some}
-use Rattle.std.proofs.lemmas.Bool.{cases_eq, false≢true}
-use Rattle.scene_model.specs.Scene.{Record, record_at}
+use Rattle.std.proofs.Common.{◌≡◌, ◌≢◌, ℕ, Option, option_map, Some, None, IsSomeAnd, refl, ap, sym, ◌∙◌, subst, inl, inr, arith}
+use Rattle.std.proofs.lemmas.Bool.{cases_eq}
+use Rattle.scene_model.specs.Scene.{Record}
 use Rattle.word_map.specs.declared.name.Name.{Name}
-use Rattle.word_map.specs.declared.name.Name.TheVariants.{State, Phase, Layer, LocA, LocB, Bound, Reader, Slot, Main}
+use Rattle.word_map.specs.declared.name.Name.TheVariants.{State, Phase, Layer, LocA, LocB, Bound, Reader, Slot}
 use Rattle.core_state.specs.declared.view.Rebuild.{Rebuild}
 use Rattle.core_state.specs.declared.view.Task.{Task}
 use Rattle.core_state.specs.declared.view.View.{View}
 use Rattle.core_state.specs.View.{known_word}
-use Rattle.core_state.specs.Core.{Core, word_of, scene_of}
+use Rattle.core_state.specs.Core.{Core, word_of}
 use Rattle.core_state.specs.Kind.{Kind, Step, learned, log_after, after_step}
-use Rattle.core_state.specs.Nodes.{Nodes, Home, under, superseded}
+use Rattle.core_state.specs.Nodes.{Nodes, superseded}
 use Rattle.core_state.specs.Parts.{update_on_cover}
 use Rattle.core_state.specs.Retiring.{MayClearSecond, clear_second, promoted_by, with_promoted}
 use Rattle.core_state.specs.Scope.{Sight, sight}
-use Rattle.core_state.specs.Space.{IsTarget}
 use Rattle.core_state.specs.Updates.{IsOldTree}
 use Rattle.core_state.specs.LocksAgree.{LocksAgreeIn, lock_scope}
-use Rattle.core_state.specs.BodiesAgree.{BodiesAgree, body_scope}
+use Rattle.core_state.specs.BodiesAgree.{body_scope}
 use Rattle.core_state.specs.NodesInOnePlace.{NodesInOnePlaceIn, node_scope}
 use Rattle.core_state.specs.TreesSound.{TreesSoundIn, tree_scope}
-use Rattle.core_state.specs.LocationsHold.{location_scope, IsLocation}
 use Rattle.core_state.specs.BodiesCovered.{BodiesCovered, BodiesCoveredIn, cover_scope, IsInOldTree}
 use Rattle.core_state.specs.WalksLead.{WalksLeadIn, walk_scope}
-use Rattle.core_state.specs.ReadersCounted.{ReadersCounted, ReadersCountedIn, reader_scope, ClimbsInTrees}
+use Rattle.core_state.specs.ReadersCounted.{ReadersCountedIn, reader_scope, ClimbsInTrees}
 use Rattle.core_state.specs.Invariants.{Invariants}
 use Rattle.core_state.proofs.Frames.{step-history, passes-same}
 use Rattle.core_state.proofs.Steps.{word-step, word-step-other}
@@ -36,11 +33,11 @@ use Rattle.core_guard.proofs.Leaving.{Acts, After, Last, Leaves, body_of, scene-
 use Rattle.core_guard.proofs.LivesGuarded.{IsStripeWord, stripe-guarded}
 use Rattle.core_guard.proofs.ReadersLeft.{some-all, Counts, KeepsTargets, layers-kept, gives-kept, ReadersCounted-leaves}
 use Rattle.core_guard.proofs.Touched.{IsKept, kept}
-use Rattle.core_update.proofs.Beside.{still_kind, Forgets, law-beside, law-stilled, part-kept}
+use Rattle.core_update.proofs.Beside.{still_kind, law-beside, law-stilled, part-kept}
 use Rattle.core_update.proofs.CoverSecond.{SecondsChange, cover-second}
 use Rattle.core_update.proofs.OwnUpdate.{own-all}
 use Rattle.core_update.proofs.Promoting.{IsPromoted, promoted, known, unheld, alone}
-use Rattle.core_update.proofs.Promotions.{Promotes, one-place, second-else, location-forth, where-else, main_old, unmoved, LocationsHold-promoted}
+use Rattle.core_update.proofs.Promotions.{Promotes, one-place, second-else, location-forth, where-else, main_old, LocationsHold-promoted}
 
 module _ (core : Core) (step : Step) (a : Acts core step) (asked : MayClearSecond step.view step.name step.first step.second) where
   abbrev i : ℕ

@@ -1,12 +1,12 @@
 -- Clearing the slot of a merged tree: the next of those in which one was found, once all main words are exchanged.
-use Rattle.std.proofs.Common.{◌≡◌, ◌≢◌, ◌⊎◌, ◌↔◌, ℕ, suc, ◌+◌, ◌<◌, ◌≤◌, List, [], length, Option, option_map, Some, None, true, false, refl, ap, sym, ◌∙◌, subst, inl, inr, arith}
+use Rattle.std.proofs.Common.{◌≡◌, ◌≢◌, ◌⊎◌, ◌↔◌, ℕ, ◌+◌, ◌<◌, ◌≤◌, List, [], length, Option, option_map, Some, None, true, false, refl, ap, sym, ◌∙◌, subst, inl, inr, arith}
 use Rattle.std.specs.Prelude.{Contains, AllPairs, slice_index_or, get_or}
 use Rattle.std.proofs.lemmas.Bool.{cases_eq, cases_lt}
 use Rattle.std.proofs.lemmas.Option.{same_Some}
 use Rattle.std.proofs.lemmas.List.{get_or_default}
 use Rattle.word_map.specs.declared.config.Config.{Config}
 use Rattle.word_map.specs.declared.name.Name.{Name}
-use Rattle.word_map.specs.declared.name.Name.TheVariants.{Main, Slot, Update, Arena}
+use Rattle.word_map.specs.declared.name.Name.TheVariants.{Main, Slot}
 use Rattle.word_map.specs.Names.{IsName}
 use Rattle.core_state.specs.declared.view.Merged.{Merged}
 use Rattle.core_state.specs.declared.view.Noted.{Noted}
@@ -15,11 +15,11 @@ use Rattle.core_state.specs.declared.view.Task.{Task}
 use Rattle.core_state.specs.declared.view.Task.TheVariants.{Placing}
 use Rattle.core_state.specs.declared.view.View.{View}
 use Rattle.core_state.specs.Core.{Core, word_of}
-use Rattle.core_state.specs.Kind.{Kind, Step, log_after, after_step}
+use Rattle.core_state.specs.Kind.{Step, log_after, after_step}
 use Rattle.core_state.specs.Encoding.{NamesRoot, layer_of, slot_tree}
 use Rattle.core_state.specs.Exchanging.{MayClearSlot, clear_slot}
-use Rattle.core_state.specs.Nodes.{Nodes, Home, free, spare, owned, made, under, superseded, returning, IsOwnedBy}
-use Rattle.core_state.specs.NodesInOnePlace.{NodesInOnePlace, NodesInOnePlaceIn, node_scope, IsOfReplaced}
+use Rattle.core_state.specs.Nodes.{Nodes, Home, free, spare, made, under, superseded, returning, IsOwnedBy}
+use Rattle.core_state.specs.NodesInOnePlace.{NodesInOnePlaceIn, node_scope, IsOfReplaced}
 use Rattle.core_state.specs.Parts.{update_on_cover, update_on_nodes, task_on_cover}
 use Rattle.core_state.specs.Scope.{Sight, sight, HasPass}
 use Rattle.core_state.specs.TreesSound.{IsSupersededRoot, of_main, of_slot}
@@ -29,7 +29,6 @@ use Rattle.core_state.specs.Invariants.{Invariants}
 use Rattle.core_state.proofs.Opening.{none_in}
 use Rattle.core_state.proofs.Steps.{word-step}
 use Rattle.core_guard.proofs.Leaving.{Acts, After, Last}
-use Rattle.core_guard.proofs.Seats.{seen_of}
 use Rattle.core_guard.proofs.Settled.{sound}
 use Rattle.core_update.proofs.Beside.{law-beside}
 use Rattle.core_update.proofs.OwnUpdate.{each-own, holds-own}

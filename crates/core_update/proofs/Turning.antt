@@ -1,12 +1,12 @@
 -- How the homes of nodes turn when an update takes the tree of a word out of sight: its nodes are superseded from then on,
 -- and where the word is a main word, those of the new tree of the layer stand under it.
-use Rattle.std.proofs.Common.{◌≡◌, ◌≢◌, ◌⊎◌, ℕ, ◌==◌, Bool, true, false, cond, Option, Some, refl, ap, sym, ◌∙◌, subst, inl, inr}
+use Rattle.std.proofs.Common.{◌≡◌, ◌≢◌, ◌⊎◌, ℕ, ◌==◌, Bool, true, cond, Some, refl, ap, sym, ◌∙◌, subst, inl, inr}
 use Rattle.std.proofs.lemmas.Bool.{cases_eq, eq-eqb, ne_eqb}
 use Rattle.word_map.specs.declared.name.Name.{Name}
 use Rattle.word_map.specs.declared.name.Name.TheVariants.{Main}
 use Rattle.core_state.specs.Names.{same_name}
 use Rattle.core_state.specs.Encoding.{layer_of}
-use Rattle.core_state.specs.Nodes.{Home, free, spare, owned, made, under, superseded, returning, Nodes, Stands, IsLive, IsPublished, IsOfLayer, IsOwnedBy}
+use Rattle.core_state.specs.Nodes.{Home, free, spare, owned, made, under, superseded, returning, Nodes, Stands, IsLive, IsOfLayer}
 use Rattle.core_state.proofs.SameNames.{same_name-refl, same_name-other, cases_name}
 
 -- by pass and word

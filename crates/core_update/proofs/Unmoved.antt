@@ -11,28 +11,27 @@ use Rattle.scene_model.specs.Scene.{Scene, Record, record_at}
 use Rattle.scene_model.specs.Step.{HasBody}
 use Rattle.scene_model.specs.History.{scene_after}
 use Rattle.word_map.specs.declared.name.Name.{Name}
-use Rattle.word_map.specs.declared.name.Name.TheVariants.{Phase, BoxWord, LocA, LocB, Child, Bound, Parent, Main, Slot}
+use Rattle.word_map.specs.declared.name.Name.TheVariants.{BoxWord, LocA, LocB, Child, Bound, Parent, Main, Slot}
 use Rattle.core_state.specs.declared.view.Batch.{Batch}
 use Rattle.core_state.specs.declared.view.Call.{Call}
 use Rattle.core_state.specs.declared.view.Noted.{Noted}
 use Rattle.core_state.specs.declared.view.Rebuild.{Rebuild}
 use Rattle.core_state.specs.declared.view.Task.{Task}
 use Rattle.core_state.specs.declared.view.Task.TheVariants.{Moving, Placing}
-use Rattle.core_state.specs.declared.view.View.{View}
 use Rattle.core_state.specs.Core.{Core, word_of, scene_of}
 use Rattle.core_state.specs.Kind.{Kind, Step, after_step}
-use Rattle.core_state.specs.Encoding.{body_child, place, Sides, sides_of, Covers, bound_in}
+use Rattle.core_state.specs.Encoding.{body_child, place, Sides, sides_of, Covers}
 use Rattle.core_state.specs.Nodes.{Nodes, made, Stands, IsLive, IsPublished, Above, here, higher}
 use Rattle.core_state.specs.Parts.{call_on_places, update_on_places}
 use Rattle.core_state.specs.Scope.{Sight, sight, scene_in, HasPass}
 use Rattle.core_state.specs.Updates.{IsNoted, HasUpdate, IsPlacing}
-use Rattle.core_state.specs.LocationsHold.{LocationsHold, location_scope, IsLocation, IsAt, Encloses, box_in, IsTakenOut, IsUnheld, IsRemoved, Removes, IsWhere, IsSecond, IsPlacedNow, ClimbsFrom, IsPlannedAt, IsPublishedAt}
+use Rattle.core_state.specs.LocationsHold.{LocationsHold, location_scope, IsLocation, IsAt, Encloses, box_in, IsUnheld, IsRemoved, Removes, IsWhere, IsSecond, IsPlacedNow, ClimbsFrom, IsPlannedAt, IsPublishedAt}
 use Rattle.core_state.proofs.Frames.{step-history}
 use Rattle.core_state.proofs.Steps.{word-step-other}
 use Rattle.core_guard.proofs.Leaving.{Acts, After, Last}
 use Rattle.core_guard.proofs.PlacesStay.{PassIsPlaced, EachPlaced, acting, taken-out, pass-placed}
 use Rattle.core_guard.proofs.Seats.{seen_of, each-step, flat-step, has-step}
-use Rattle.core_update.proofs.OwnUpdate.{each-own, has-own, own-each, own-has}
+use Rattle.core_update.proofs.OwnUpdate.{has-own, own-each, own-has}
 
 -- the words that such a step may store
 abbrev pub is_aside : Name → Bool

@@ -1,6 +1,6 @@
 -- From a place of a published tree up to the root that its word names: where each bound on the way holds a box, a way leads
 -- down from the root.
-use Rattle.std.proofs.Common.{◌≡◌, ℕ, zero, suc, refl, sym, ◌∙◌, subst, arith}
+use Rattle.std.proofs.Common.{◌≡◌, ℕ, zero, suc, sym, ◌∙◌, subst, arith}
 use Rattle.word_map.specs.declared.name.Name.{Name}
 use Rattle.word_map.specs.declared.name.Name.TheVariants.{Child}
 use Rattle.core_state.specs.Core.{Core, word_of}

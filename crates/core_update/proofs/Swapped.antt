@@ -1,0 +1,77 @@
+-- Two kinds of step that store alike and leave two views: what a law sees of the two differs in the stepping pass alone.
+use Rattle.std.proofs.Common.{◌≡◌, ◌≢◌, ℕ, zero, suc, List, [], ◌∷◌, Option, Some, refl, ap, sym, ◌∙◌, subst}
+use Rattle.std.specs.Prelude.{filter_map, option_map}
+use lib.ListN.{set}
+use Rattle.word_map.specs.declared.name.Name.{Name}
+use Rattle.core_state.specs.declared.view.View.{View}
+use Rattle.core_state.specs.View.{IsPass}
+use Rattle.core_state.specs.Core.{Core, IsViewAt}
+use Rattle.core_state.specs.Kind.{Kind, Step, view_after, after_step}
+use Rattle.core_state.specs.Scope.{Scope, Sight, sight, HasPass, EachPass, part_of, bare_view}
+use Rattle.core_state.proofs.Frames.{frame}
+use Rattle.core_state.proofs.Steps.{view-step, view-step-other}
+use Rattle.core_guard.proofs.Seats.{KeepsNumber, seen_of, each-seat, each-seats, HasSeat, has-seat, seat-has, SeatAfter, stepped, stayed, seat-after, cons_option}
+
+-- a list is kept alike with either of two elements that are kept alike at one place
+kept-alike : {X Y : Type 0} (f : X → Option Y) (xs : List X) (i : ℕ) (x y : X) → f x ≡ f y → filter_map f (set xs i x) ≡ filter_map f (set xs i y)
+kept-alike f [] i x y e = refl
+kept-alike {Y = Y} f (z ∷ xs) zero x y e = ap (λ (o : Option Y). cons_option o (filter_map f xs)) e
+kept-alike {Y = Y} f (z ∷ xs) (suc i) x y e = ap (λ (l : List Y). cons_option (f z) l) (kept-alike f xs i x y e)
+
+module _ (scope : Scope) (keeps : KeepsNumber scope) (kind : Kind) (leaves : View → Name → ℕ → ℕ → ℕ → View) (core : Core) (step : Step) (at : IsViewAt core step.seat step.view) (pass : IsPass step.view step.number) where
+  -- the other kind
+  abbrev pub other : Kind
+  other = record kind { leaves = leaves }
+
+  -- each pass has what each has after the other step, if the stepping one has it
+  pub each-swap : (P Q : ℕ → View → Type 0) → EachPass (sight scope (after_step other core step)) P
+      → ((seat number : ℕ) (view : View) → seat ≢ step.seat → IsViewAt core seat view → IsPass view number → P number (seen_of scope number view) → Q number (seen_of scope number view))
+      → (P step.number (seen_of scope step.number (view_after other core step)) → Q step.number (seen_of scope step.number (view_after kind core step)))
+      → EachPass (sight scope (after_step kind core step)) Q
+  each-swap P Q h others own =
+      each-seats scope keeps (after_step kind core step) Q
+      (λ seat number view found is. go seat number view is (seat-after scope keeps kind core step at pass seat number view found is))
+    where
+      go : (seat number : ℕ) (view : View) → IsPass view number → SeatAfter scope keeps kind core step at pass seat number view → Q number (seen_of scope number view)
+      go seat number view is (stepped same one two) =
+          subst (λ (n : ℕ). Q n (seen_of scope n view)) two
+          (subst (λ (v : View). Q step.number (seen_of scope step.number v)) one
+          (own (each-seat scope keeps (after_step other core step) P h step.seat step.number (view_after other core step) (view-step other core step at) pass)))
+      go seat number view is (stayed apart old) =
+          others seat number view apart old is (each-seat scope keeps (after_step other core step) P h seat number view (view-step-other other core step seat view apart old) is)
+
+  -- and one that has something has it, if it is so of the stepping one
+  pub has-swap : (number : ℕ) (P Q : View → Type 0) → HasPass (sight scope (after_step other core step)) number P
+      → ((seat : ℕ) (view : View) → seat ≢ step.seat → IsViewAt core seat view → IsPass view number → P (seen_of scope number view) → Q (seen_of scope number view))
+      → (step.number ≡ number → P (seen_of scope step.number (view_after other core step)) → Q (seen_of scope step.number (view_after kind core step)))
+      → HasPass (sight scope (after_step kind core step)) number Q
+  has-swap number P Q h others own =
+      let from = has-seat scope keeps (after_step other core step) number P h in
+      seat-has scope keeps (after_step kind core step) number Q (go from (seat-after scope keeps other core step at pass from.seat number from.view from.at from.pass))
+    where
+      go : (from : HasSeat scope keeps (after_step other core step) number P) → SeatAfter scope keeps other core step at pass from.seat number from.view → HasSeat scope keeps (after_step kind core step) number Q
+      go from (stepped same one two) = record {
+        seat = step.seat;
+        view = view_after kind core step;
+        at = view-step kind core step at;
+        pass = pass ∙ ap Some two;
+        holds = subst (λ (n : ℕ). Q (seen_of scope n (view_after kind core step))) two
+            (own two (subst (λ (n : ℕ). P (seen_of scope n (view_after other core step))) (sym two) (subst (λ (v : View). P (seen_of scope number v)) (sym one) from.holds)));
+      }
+      go from (stayed apart old) =
+          record { seat = from.seat; view = from.view; at = view-step-other kind core step from.seat from.view apart old; pass = from.pass; holds = others from.seat from.view apart old from.pass from.holds }
+
+  -- a law that sees the same of both views
+  pub law-swap : (Law : Sight → Type 0) → scope.part (bare_view step.number) (view_after other core step) ≡ scope.part (bare_view step.number) (view_after kind core step)
+      → Law (sight scope (after_step other core step)) → Law (sight scope (after_step kind core step))
+  law-swap Law same h =
+      frame scope Law (after_step other core step) (after_step kind core step)
+      (record {
+        config = refl;
+        words = λ name reads. refl;
+        history = λ reads. refl;
+        passes = sym (kept-alike (part_of scope) core.views step.seat (view_after other core step) (view_after kind core step) (seen (view_after other core step) pass ∙ (ap Some same ∙ sym (seen (view_after kind core step) pass))));
+      }) h
+    where
+      seen : (view : View) → IsPass view step.number → part_of scope view ≡ Some (seen_of scope step.number view)
+      seen view own = ap (λ (o : Option ℕ). option_map (λ n. scope.part (bare_view n) view) o) own

@@ -1,0 +1,3 @@
+//! What is proved of the kinds of step of an update, as the layers above use it.
+
+pub mod placing;

@@ -1,1 +1,4 @@
+pub mod Swapped
+pub mod OwnUpdate
+pub mod SwappedPlaces
 pub mod PlacingLoads

@@ -1,8 +1,8 @@
 -- What the laws say of the update of the pass that steps, and of a body that it is to place.
 use Rattle.std.proofs.Common.{◌≡◌, ◌≢◌, ℕ, ◌<◌, ◌≤◌, List, true, length, map, Contains, Option, Some, refl, ap, sym, ◌∙◌, subst, inl, inr, arith}
 use Rattle.std.specs.Prelude.{IfSome, IsSomeAnd, option_map, get_or}
-use Rattle.std.proofs.lemmas.Bool.{cases_lt}
-use Rattle.std.proofs.Math.ListN.{get_or-map}
+use Rattle.std.proofs.lemmas.Bool.{cases_lt, cases_eq}
+use Rattle.std.proofs.lemmas.List.{get_or-map, get_or_default, length-map}
 use Rattle.word_map.specs.declared.name.Name.TheVariants.{State, LocA}
 use Rattle.scene_model.specs.declared.body_view.Phase.TheVariants.{Held, In}
 use Rattle.scene_model.specs.Scene.{Record, record_at}
@@ -58,7 +58,21 @@ module _ (core : Core) (step : Step) (a : Acts core step) (r : Rebuild) (has : s
 
 -- two notes of one body are one
 pub note-once : (xs : List Noted) (m n : Noted) → IsOnce (map (λ x. x.index) xs) → Contains xs m → Contains xs n → m.index ≡ n.index → m ≡ n
-note-once xs m n once one two same = _
+note-once xs m n once one two same =
+    elim (cases_eq one.0 two.0) [
+      | inl e ↦ sym one.2 ∙ (get_or_default xs one.0 m n one.1 ∙ (ap (λ (i : ℕ). get_or xs i n) e ∙ two.2))
+      | inr apart ↦
+          let at : (i : ℕ) (x : Noted) → i < length xs → get_or xs i x ≡ x → get_or (map (λ y. y.index) xs) i 0 ≡ x.index =
+          λ i x below is. get_or-map (λ (y : Noted). y.index) xs i x 0 below ∙ ap (λ (y : Noted). y.index) is
+          in
+          let first = at one.0 m one.1 one.2 in
+          let second = at two.0 n two.1 two.2 in
+          let long : length (map (λ y. y.index) xs) ≡ length xs = length-map xs (λ (y : Noted). y.index) in
+          elim (cases_lt one.0 two.0) [
+            | inl less ↦ absurd (once one.0 two.0 0 less (omega (arith, two.1, long)) (first ∙ (same ∙ sym second)))
+            | inr more ↦ absurd (once two.0 one.0 0 (omega (arith, more, apart)) (omega (arith, one.1, long)) (second ∙ (sym same ∙ sym first)))
+          ]
+    ]
 
 module _ (core : Core) (step : Step) (a : Acts core step) (index : ℕ) (p : IsToPlace step.view index) where
   -- the body is as the pass knows it
@@ -89,11 +103,11 @@ module _ (core : Core) (step : Step) (a : Acts core step) (index : ℕ) (p : IsT
   pub there : IsInOldTree a.laws.nodes (sight cover_scope core) (update_on_cover p.r) p.noted.index × IsAsNoted (sight cover_scope core) p.noted
   there =
       let notes = own-notes core step a p.r p.update in
-      notes.still_there p.noted p.among (notes.passed p.noted p.among, undone _ (update_on_cover p.r) refl refl) looks
+      notes.still_there p.noted p.among (notes.passed p.noted p.among, undone (Covering core step a p.r p.update) (update_on_cover p.r) refl refl) looks
 
   -- with its place in a new tree
   pub unexchanged-all : (l : ℕ) → length p.r.swapped ≤ l
-  unexchanged-all = unexchanged core step a p.r p.update p.noted p.among (undone _ (update_on_cover p.r) refl refl)
+  unexchanged-all = unexchanged core step a p.r p.update p.noted p.among (undone (Covering core step a p.r p.update) (update_on_cover p.r) refl refl)
 
   pub planned-at : (noted : Noted) → Contains p.r.noted noted → IsPlannedAt a.laws.nodes (sight location_scope core) step.number (Locating core step a p.r p.update) (update_on_places p.r) noted
   planned-at noted among = own-planned core step a p.r p.update noted among p.planned (unexchanged-all noted.layer)

@@ -1,6 +1,7 @@
 -- Two kinds of step that store alike and leave two views: what a law sees of the two differs in the stepping pass alone.
-use Rattle.std.proofs.Common.{◌≡◌, ◌≢◌, ℕ, zero, suc, List, [], ◌∷◌, Option, Some, refl, ap, sym, ◌∙◌, subst}
-use Rattle.std.specs.Prelude.{filter_map, option_map}
+use Rattle.std.proofs.Common.{◌≡◌, ◌≢◌, ℕ, zero, suc, List, [], ◌∷◌, ◌++◌, Option, Some, None, refl, ap, sym, ◌∙◌, subst}
+use Rattle.std.specs.Prelude.{filter_map, flat_map, option_map}
+use Rattle.std.specs.List.{cons_option}
 use lib.ListN.{set}
 use Rattle.word_map.specs.declared.name.Name.{Name}
 use Rattle.core_state.specs.declared.view.View.{View}
@@ -10,13 +11,23 @@ use Rattle.core_state.specs.Kind.{Kind, Step, view_after, after_step}
 use Rattle.core_state.specs.Scope.{Scope, Sight, sight, HasPass, EachPass, part_of, bare_view}
 use Rattle.core_state.proofs.Frames.{frame}
 use Rattle.core_state.proofs.Steps.{view-step, view-step-other}
-use Rattle.core_guard.proofs.Seats.{KeepsNumber, seen_of, each-seat, each-seats, HasSeat, has-seat, seat-has, SeatAfter, stepped, stayed, seat-after, cons_option}
+use Rattle.core_guard.proofs.Seats.{KeepsNumber, seen_of, each-seat, each-seats, HasSeat, has-seat, seat-has, SeatAfter, stepped, stayed, seat-after}
 
 -- a list is kept alike with either of two elements that are kept alike at one place
 kept-alike : {X Y : Type 0} (f : X → Option Y) (xs : List X) (i : ℕ) (x y : X) → f x ≡ f y → filter_map f (set xs i x) ≡ filter_map f (set xs i y)
 kept-alike f [] i x y e = refl
 kept-alike {Y = Y} f (z ∷ xs) zero x y e = ap (λ (o : Option Y). cons_option o (filter_map f xs)) e
 kept-alike {Y = Y} f (z ∷ xs) (suc i) x y e = ap (λ (l : List Y). cons_option (f z) l) (kept-alike f xs i x y e)
+
+flat-more : {X Y Z : Type 0} (f : X → Option Y) (g : Y → List Z) (o : Option Y) (xs ys : List Y) → flat_map g xs ≡ flat_map g ys → flat_map g (cons_option o xs) ≡ flat_map g (cons_option o ys)
+flat-more f g None xs ys e = e
+flat-more {Z = Z} f g (Some w) xs ys e = ap (λ (l : List Z). g w ++ l) e
+
+-- and so is what is collected of it, where the same is collected of what is kept of either
+flat-alike : {X Y Z : Type 0} (f : X → Option Y) (g : Y → List Z) (xs : List X) (i : ℕ) (x y : X) (u v : Y) → f x ≡ Some u → f y ≡ Some v → g u ≡ g v → flat_map g (filter_map f (set xs i x)) ≡ flat_map g (filter_map f (set xs i y))
+flat-alike f g [] i x y u v one two e = refl
+flat-alike f g (z ∷ xs) zero x y u v one two e = rw (one, two, e) refl
+flat-alike f g (z ∷ xs) (suc i) x y u v one two e = flat-more f g (f z) (filter_map f (set xs i x)) (filter_map f (set xs i y)) (flat-alike f g xs i x y u v one two e)
 
 module _ (scope : Scope) (keeps : KeepsNumber scope) (kind : Kind) (leaves : View → Name → ℕ → ℕ → ℕ → View) (core : Core) (step : Step) (at : IsViewAt core step.seat step.view) (pass : IsPass step.view step.number) where
   -- the other kind
@@ -61,6 +72,16 @@ module _ (scope : Scope) (keeps : KeepsNumber scope) (kind : Kind) (leaves : Vie
       go from (stayed apart old) =
           record { seat = from.seat; view = from.view; at = view-step-other kind core step from.seat from.view apart old; pass = from.pass; holds = others from.seat from.view apart old from.pass from.holds }
 
+  seen : (view : View) → IsPass view step.number → part_of scope view ≡ Some (seen_of scope step.number view)
+  seen view own = ap (λ (o : Option ℕ). option_map (λ n. scope.part (bare_view n) view) o) own
+
+  -- what is collected of all passes
+  pub flat-swap : {X : Type 0} (f : View → List X) → f (seen_of scope step.number (view_after kind core step)) ≡ f (seen_of scope step.number (view_after other core step))
+      → flat_map f (sight scope (after_step kind core step)).passes ≡ flat_map f (sight scope (after_step other core step)).passes
+  flat-swap f same =
+      flat-alike (part_of scope) f core.views step.seat (view_after kind core step) (view_after other core step) (seen_of scope step.number (view_after kind core step)) (seen_of scope step.number (view_after other core step))
+      (seen (view_after kind core step) pass) (seen (view_after other core step) pass) same
+
   -- a law that sees the same of both views
   pub law-swap : (Law : Sight → Type 0) → scope.part (bare_view step.number) (view_after other core step) ≡ scope.part (bare_view step.number) (view_after kind core step)
       → Law (sight scope (after_step other core step)) → Law (sight scope (after_step kind core step))
@@ -70,8 +91,5 @@ module _ (scope : Scope) (keeps : KeepsNumber scope) (kind : Kind) (leaves : Vie
         config = refl;
         words = λ name reads. refl;
         history = λ reads. refl;
-        passes = sym (kept-alike (part_of scope) core.views step.seat (view_after other core step) (view_after kind core step) (seen (view_after other core step) pass ∙ (ap Some same ∙ sym (seen (view_after kind core step) pass))));
+        passes = kept-alike (part_of scope) core.views step.seat (view_after other core step) (view_after kind core step) (seen (view_after other core step) pass ∙ (ap Some same ∙ sym (seen (view_after kind core step) pass)));
       }) h
-    where
-      seen : (view : View) → IsPass view step.number → part_of scope view ≡ Some (seen_of scope step.number view)
-      seen view own = ap (λ (o : Option ℕ). option_map (λ n. scope.part (bare_view n) view) o) own

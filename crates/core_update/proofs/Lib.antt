@@ -1,4 +1,5 @@
 pub mod Swapped
 pub mod OwnUpdate
 pub mod SwappedPlaces
+pub mod PlacedBody
 pub mod PlacingLoads

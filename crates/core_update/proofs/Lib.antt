@@ -3,3 +3,4 @@ pub mod OwnUpdate
 pub mod SwappedPlaces
 pub mod PlacedBody
 pub mod PlacingLoads
+pub mod PlacingWidens

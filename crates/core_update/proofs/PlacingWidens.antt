@@ -25,19 +25,19 @@ use Rattle.core_state.specs.Core.{Core, word_of, scene_of, IsViewAt}
 use Rattle.core_state.specs.Encoding.{place, Sides, sides_of}
 use Rattle.core_state.specs.Guards.{KeepsGuards}
 use Rattle.core_state.specs.Bodies.{MovesBody}
-use Rattle.core_state.specs.Kind.{Kind, Step, found_by, left_by, learned, after_step, log_after}
+use Rattle.core_state.specs.Kind.{Kind, Step, Steps, found_by, left_by, learned, after_step, log_after}
 use Rattle.core_state.specs.Moving.{HasComeTo, at_start}
 use Rattle.core_state.specs.Nodes.{Nodes, Home, made, IsLive, Stands, IsOfLayer, Above}
-use Rattle.core_state.specs.Operation.{Operation}
-use Rattle.core_state.specs.Parts.{call_by_task, call_on_places, task_at_place, update_on_places, update_on_readers}
-use Rattle.core_state.specs.Placing.{IsToPlace, IsPlannedPlace, MayWidenToPlace, begins_placing, goes_on_placing, widened_to_place}
+use Rattle.core_state.specs.Operation.{Operation, fetch_min, fetch_max}
+use Rattle.core_state.specs.Parts.{call_at, call_by_task, call_on_places, task_at_place, update_on_cover, update_on_places, update_on_readers}
+use Rattle.core_state.specs.Placing.{IsToPlace, IsPlannedPlace, MayWidenToPlace, begins_placing, goes_on_placing, widened_to_place, MayWidenLowToPlace, MayWidenHighToPlace, widen_low_placing, widen_high_placing}
 use Rattle.core_state.specs.Scope.{Scope, Sight, sight, bare_view}
 use Rattle.core_state.specs.Space.{HadAs, IsInLayer}
 use Rattle.core_state.specs.Updates.{IsNoted, IsPlacing, IsStillMerged}
 use Rattle.core_state.specs.LocksAgree.{lock_scope}
 use Rattle.core_state.specs.BodiesAgree.{body_scope}
 use Rattle.core_state.specs.NodesInOnePlace.{node_scope}
-use Rattle.core_state.specs.TreesSound.{tree_scope}
+use Rattle.core_state.specs.TreesSound.{tree_scope, BoundsOnlyWiden}
 use Rattle.core_state.specs.LocationsHold.{LocationsHold, location_scope, ClimbsFrom, IsPlannedAt, IsPublishedAt, IsSecondFor, Removes}
 use Rattle.core_state.specs.BodiesCovered.{BodiesCovered, BodiesCoveredIn, cover_scope}
 use Rattle.core_state.specs.ReadersCounted.{ReadersCounted, ReadersCountedIn, reader_scope}
@@ -46,7 +46,8 @@ use Rattle.core_state.proofs.Beginning.{record_body, last_point}
 use Rattle.core_state.proofs.Frames.{frame, step-same}
 use Rattle.core_state.proofs.Opening.{only}
 use Rattle.core_state.proofs.Steps.{word-step, word-step-other, view-step}
-use Rattle.core_guard.proofs.Holders.{keeps}
+use Rattle.core_guard.proofs.Holders.{keeps, IsGuarded, guarded}
+use Rattle.core_guard.proofs.Touched.{IsKept, kept}
 use Rattle.core_guard.proofs.Leaving.{Acts, After, Last, Stays, Leaves, LeadsWithin, sound-leads, scene-plain, above-forth, stays-by, body_of, idle-unhandled}
 use Rattle.core_guard.proofs.PlacesLeft.{SeenUpdate, LocationsHold-stays}
 use Rattle.core_guard.proofs.PlacesStay.{PassIsPlaced, pass-placed, pass-forth, begun-placed, acting, seen-task, places-handles}
@@ -54,17 +55,19 @@ use Rattle.core_guard.proofs.ReadersLeft.{TightSide, climbs-own, ReadersCounted-
 use Rattle.core_guard.proofs.Seats.{each-seat, each-seats, seen_of}
 use Rattle.core_guard.proofs.Owners.{same-view}
 use Rattle.core_guard.proofs.Unowned.{stands-unowned}
-use Rattle.core_guard.proofs.WidenedBound.{WidensBound, widened-leaves, TreesSound-widens, WalksLead-widens, side-or}
+use Rattle.core_guard.proofs.WidenedBound.{WidensBound, widened-leaves, TreesSound-widens, WalksLead-widens, side-or, side-widens}
 use Rattle.core_guard.proofs.Recalled.{Recalls, recalled, call-is}
 use Rattle.core_guard.proofs.OnBody.{OnBody, LocksAgree-on, IsOn, NodesInOnePlace-on}
 use Rattle.core_guard.proofs.InPlace.{stays-in_place}
 use Rattle.core_guard.proofs.Still.{come-up}
 use Rattle.core_guard.proofs.CallsAgree.{BodiesAgree-beside}
 use Rattle.core_move.proofs.MoveSteps.{above-home}
-use Rattle.core_move.proofs.Widening.{IsWider}
+use Rattle.core_move.proofs.Widening.{IsWider, min-wider, max-wider}
 use Rattle.core_update.proofs.OwnUpdate.{known, body, unheld, there, own-notes, one-note, planned-at}
 use Rattle.core_update.proofs.PlacedBody.{PlacesOnly, nothing_yet, places_it, places-so, side-range, box-words, planned-home}
 use Rattle.core_update.proofs.PlacingLoads.{planned-seen}
+use Rattle.core_update.proofs.Swapped.{law-swap}
+use Rattle.core_update.proofs.SwappedCover.{UpdateIsRight, FirstCover, SecondCover, BodiesCovered-swap, right-again, removed-again, places-from_cover}
 use Rattle.core_update.proofs.SwappedPlaces.{TwoUpdate, First, Second, SwapsPlaces, LocationsHold-swap, pass-again, planned-again}
 
 -- ---- both kinds
@@ -424,3 +427,90 @@ module _ (operation : Operation) (index : ℕ) (core : Core) (step : Step) (a : 
         (each-seat location_scope (λ k v. refl) core _ a.laws.locations.published step.seat step.number step.view a.at a.pass);
     own = own-after;
   }
+
+  pub LocationsHold-widens : LocationsHold nodes (after_step widens core step)
+  LocationsHold-widens = LocationsHold-swap widens unnoticed core step a nodes LocationsHold-quiet swaps
+
+  -- ---- all of them
+
+  BodiesCovered-widens : BodiesCovered nodes (after_step widens core step)
+  BodiesCovered-widens =
+      let old = frame cover_scope (BodiesCoveredIn nodes) core (after_step quiet core step)
+      (step-same cover_scope quiet core step a.at a.pass (record { name = λ stored. ap cover_scope.names names; entry = λ reads v. refl; part = refl })) a.laws.cover in
+      let v = seen_of cover_scope step.number (Last quiet core step) in
+      let z = seen_of cover_scope step.number (Last widens core step) in
+      BodiesCovered-swap widens unnoticed core step a nodes old (λ j removes. absurd (places-so (λ t. ¬ Removes t j) step.view.call.task index (λ no. no) (λ no. no) only-places removes))
+      (λ right.
+      subst (λ (x : Option Rebuild). IfSome (option_map update_on_cover x) (λ r. UpdateIsRight nodes (SecondCover widens unnoticed core step a nodes) z r)) (sym (same-rebuild ∙ p.update))
+      (right-again nodes (FirstCover widens unnoticed core step a nodes) (SecondCover widens unnoticed core step a nodes).passes
+      (removed-again widens unnoticed core step a nodes (λ j removes. absurd (places-so (λ t. ¬ Removes t j) step.view.call.task index (λ no. no) (λ no. no) only-places removes))) v z (update_on_cover p.r)
+      (λ j done. elim done [ inl t ↦ inl (t.0, λ places. placed-else j t.0 (subst (λ (c : Call). IsPlacing c.task j) same-call (places-from_cover (Last widens core step).call.task j places))) | inr t ↦ inr t ])
+      (λ j done.
+      elim done [ inl t ↦ inl (t.0, λ places. places-so (λ t. ¬ IsPlacing t j) step.view.call.task index (λ no. no) (placed-else j t.0) only-places (places-from_cover step.view.call.task j places)) | inr t ↦ inr t ])
+      (subst (λ (x : Option Rebuild). IfSome (option_map update_on_cover x) (λ r. UpdateIsRight nodes (FirstCover widens unnoticed core step a nodes) v r)) p.update right)))
+
+  at-place : (task : Task) → PlacesOnly task index → task_at_place task ≡ Nothing
+  at-place task only-so = places-so (λ t. task_at_place t ≡ Nothing) task index refl refl only-so
+
+  pub Invariants-widens : Invariants (after_step widens core step)
+  Invariants-widens = record {
+    nodes = nodes;
+    locks = LocksAgree-on widens core step index Two a o (ap lock_scope.names names);
+    bodies = BodiesAgree-beside widens core step a index Two o (λ b. absurd (places-so (λ t. ¬ MovesBody t index) step.view.call.task index (λ no. no) (λ no. no) only-places b.0)) (ap body_scope.names names) (λ v. refl);
+    places = NodesInOnePlace-on widens core step index Two a o (ap node_scope.names names);
+    trees = TreesSound-widens widens core step a node child side noted-wide (ap (λ (v : View). v.written) last);
+    locations = LocationsHold-widens;
+    cover = BodiesCovered-widens;
+    walks = WalksLead-widens widens core step a node child side noted-wide (ap (λ (v : View). v.walk) last);
+    readers =
+        law-swap reader_scope (λ k v. refl) widens unnoticed core step a.at a.pass (ReadersCountedIn nodes)
+        (λ j. record (bare_view step.number) {
+          walk = sym (ap (λ (v : View). v.walk) last) j;
+          call = call_at ((at-place step.view.call.task only-places ∙ sym (ap (λ (v : View). task_at_place v.call.task) last)) j);
+          rebuild = option_map update_on_readers (sym same-rebuild j);
+        }) ReadersCounted-quiet;
+  }
+
+  -- no other pass has the node for itself
+  pub guarded-widens : KeepsGuards widens core step
+  guarded-widens =
+      keeps widens core step (Bound node child side) names
+      (λ stored seat number view apart found is. (stands-unowned core a.formed nodes a.laws.places a.laws.trees seat number view found is node w.stands, tt))
+
+-- ---- kinds 34 and 35
+
+pub Invariants-widen_low_placing : (index : ℕ) → IsKept (MayWidenLowToPlace index) (widen_low_placing index)
+Invariants-widen_low_placing index =
+    kept (MayWidenLowToPlace index) (widen_low_placing index)
+    (λ core step a asked. Invariants-widens fetch_min index core step a asked.node asked.child asked.side asked.names asked.may (min-wider asked.side (found_by core step) step.first step.second asked.is_low))
+
+pub Invariants-widen_high_placing : (index : ℕ) → IsKept (MayWidenHighToPlace index) (widen_high_placing index)
+Invariants-widen_high_placing index =
+    kept (MayWidenHighToPlace index) (widen_high_placing index)
+    (λ core step a asked. Invariants-widens fetch_max index core step a asked.node asked.child asked.side asked.names asked.may (max-wider asked.side (found_by core step) step.first step.second asked.is_high))
+
+pub GuardsHold-widen_low_placing : (index : ℕ) → IsGuarded (MayWidenLowToPlace index) (widen_low_placing index)
+GuardsHold-widen_low_placing index =
+    guarded (MayWidenLowToPlace index) (widen_low_placing index)
+    (λ core step a asked. guarded-widens fetch_min index core step a asked.node asked.child asked.side asked.names asked.may (min-wider asked.side (found_by core step) step.first step.second asked.is_low))
+
+pub GuardsHold-widen_high_placing : (index : ℕ) → IsGuarded (MayWidenHighToPlace index) (widen_high_placing index)
+GuardsHold-widen_high_placing index =
+    guarded (MayWidenHighToPlace index) (widen_high_placing index)
+    (λ core step a asked. guarded-widens fetch_max index core step a asked.node asked.child asked.side asked.names asked.may (max-wider asked.side (found_by core step) step.first step.second asked.is_high))
+
+-- ---- bounds only widen
+
+pub widen_low_placing-widens : (index : ℕ) (nodes : Nodes) (before after : Core) → Steps (MayWidenLowToPlace index) (widen_low_placing index) before after → BoundsOnlyWiden nodes before after
+widen_low_placing-widens index nodes before after steps =
+    let step = steps.step in
+    let asked = steps.allowed.asked in
+    subst (BoundsOnlyWiden nodes before) (sym steps.result)
+    (λ n k q stands. side-widens (widen_low_placing index) before step asked.node asked.child asked.side asked.names (min-wider asked.side (found_by before step) step.first step.second asked.is_low).word n k q)
+
+pub widen_high_placing-widens : (index : ℕ) (nodes : Nodes) (before after : Core) → Steps (MayWidenHighToPlace index) (widen_high_placing index) before after → BoundsOnlyWiden nodes before after
+widen_high_placing-widens index nodes before after steps =
+    let step = steps.step in
+    let asked = steps.allowed.asked in
+    subst (BoundsOnlyWiden nodes before) (sym steps.result)
+    (λ n k q stands. side-widens (widen_high_placing index) before step asked.node asked.child asked.side asked.names (max-wider asked.side (found_by before step) step.first step.second asked.is_high).word n k q)

@@ -5,3 +5,5 @@ pub mod SwappedCover
 pub mod PlacedBody
 pub mod PlacingLoads
 pub mod PlacingWidens
+pub mod OwnNodes
+pub mod SwappedReaders

@@ -7,3 +7,4 @@ pub mod PlacingLoads
 pub mod PlacingWidens
 pub mod OwnNodes
 pub mod SwappedReaders
+pub mod EarlyUpdate

@@ -1,6 +1,6 @@
 -- The law of cover of two kinds of step that store alike: where it holds after the one it holds after the other, if it is so of
 -- the stepping pass.
-use Rattle.std.proofs.Common.{◌≡◌, ◌≢◌, ℕ, ◌<◌, ◌≤◌, List, length, Contains, Option, Some, refl, ap, sym, ◌∙◌, subst}
+use Rattle.std.proofs.Common.{◌≡◌, ◌≢◌, ℕ, ◌<◌, ◌≤◌, List, [], length, map, Contains, Option, Some, refl, ap, sym, ◌∙◌, subst}
 use Rattle.std.specs.Prelude.{IfSome, option_map}
 use Rattle.scene_model.specs.declared.body_view.Phase.TheVariants.{In}
 use Rattle.scene_model.specs.Scene.{Record, record_at}
@@ -13,14 +13,16 @@ use Rattle.core_state.specs.declared.view.Task.{Task}
 use Rattle.core_state.specs.declared.view.Task.TheVariants.{Nothing, Creating, Destroying, Pooling, Moving, Removing, Placing}
 use Rattle.core_state.specs.declared.view.View.{View}
 use Rattle.core_state.specs.Core.{Core}
-use Rattle.core_state.specs.Encoding.{place, phase_join}
+use Rattle.core_state.specs.Encoding.{place, phase_join, sides_of}
 use Rattle.core_state.specs.Kind.{Kind, Step, view_after, after_step}
 use Rattle.core_state.specs.Nodes.{Nodes, superseded}
 use Rattle.core_state.specs.Parts.{task_on_cover, update_on_cover}
-use Rattle.core_state.specs.Scope.{Sight, sight, EachPass, scene_in}
-use Rattle.core_state.specs.Updates.{IsStillMerged, IsNoted, IsDone, IsPlacing}
+use Rattle.core_state.specs.Scope.{Sight, sight, EachPass, IsOnce, scene_in}
+use Rattle.core_state.specs.Space.{HadAs}
+use Rattle.core_state.specs.Updates.{IsStillMerged, IsOldTree, IsNoted, IsDone, IsPlacing}
 use Rattle.core_state.specs.LocationsHold.{IsRemoved, Removes}
-use Rattle.core_state.specs.BodiesCovered.{BodiesCovered, cover_scope, IsCovered, IsAsNoted, NotesHold, KeepsMerged, ExchangesDone}
+use Rattle.core_state.specs.BodiesCovered.{BodiesCovered, cover_scope, IsCovered, IsInOldTree, LooksAsNoted, IsAsNoted, IsOpen, NotesHold, KeepsMerged, ExchangesDone}
+use Rattle.core_state.proofs.Opening.{none_in}
 use Rattle.core_guard.proofs.Leaving.{Acts, if_some_map, if_some_both}
 use Rattle.core_guard.proofs.Seats.{seen_of, each-seat}
 use Rattle.core_update.proofs.Swapped.{each-swap, has-swap}
@@ -37,6 +39,12 @@ removes-from_cover _ i h = absurd h
 pub places-from_cover : (task : Task) (i : ℕ) → IsPlacing (task_on_cover task) i → IsPlacing task i
 places-from_cover (Placing index) i h = h
 places-from_cover _ i h = absurd h
+
+-- the same notes, but for the places of bodies
+pub record Renoted (xs ys : List Noted) : Type 0 where
+  pub forth : (n : Noted) → Contains xs n → (p : ℕ) × Contains ys (record n { place = p })
+  pub back : (m : Noted) → Contains ys m → (n : Noted) × (p : ℕ) × Contains xs n × (record n { place = p } ≡ m)
+  pub once : IsOnce (map (λ n. n.index) xs) → IsOnce (map (λ n. n.index) ys)
 
 -- what the law says of one update
 pub record UpdateIsRight (nodes : Nodes) (s : Sight) (view : View) (r : Rebuild) : Type 0 where
@@ -98,6 +106,38 @@ module _ (nodes : Nodes) (s : Sight) (passes : List View) (removed : (i : ℕ) �
         };
         merged = record { stand = h.merged.stand; read = h.merged.read; each_once = h.merged.each_once };
         exchanged = λ begun n among. forth n.index (h.exchanged begun n among);
+      }
+
+  -- and one that has given bodies other places, before it placed any
+  pub right-renoted : (v : View) (r : Rebuild) (xs : List Noted) → Renoted r.noted xs → r.placed ≡ [] → UpdateIsRight nodes s v r → UpdateIsRight nodes Then v (record r { noted = xs })
+  right-renoted v r xs again none h =
+      let notes = h.notes in
+      let replaced : (n : Noted) (p : ℕ) → IsAsNoted s n → IsAsNoted Then (record n { place = p }) =
+      λ n p was.
+      let t = as_noted-again n was in
+      record { looks = record { state = t.looks.state; location = t.looks.location }; phase = t.phase; layer = t.layer; same = t.same }
+      in
+      record {
+        to_place = λ i l t root passed merged body joins. let n = h.to_place i l t root passed merged body joins in let m = again.forth n.0 n.1 in (record n.0 { place = m.0 }, m.1, n.2, n.3);
+        notes = record {
+          all_noted = λ i opened tree. let n = notes.all_noted i opened tree in let m = again.forth n.0 n.1 in (record n.0 { place = m.0 }, m.1, n.2, replaced n.0 m.0 n.3);
+          still_there = λ m among.
+              let n = again.back m among in
+              subst (λ (x : Noted). IsOpen v r x.index → LooksAsNoted Then x → IsInOldTree nodes s r x.index × IsAsNoted Then x) n.3
+              (λ opened looks. let t = notes.still_there n.0 n.2 opened (record { state = looks.state; location = looks.location }) in (t.0, replaced n.0 n.1 t.1));
+          located = λ m among. let n = again.back m among in subst (λ (x : Noted). x.location ≢ 0) n.3 (notes.located n.0 n.2);
+          in_old = λ m among.
+              let n = again.back m among in
+              subst (λ (x : Noted). ¬ IsDone v r x.index → (a : ℕ) × (b : ℕ) × (b < 4) × (x.location ≡ place a b) × IsOldTree r (nodes.home a)) n.3 (notes.in_old n.0 n.2);
+          placed = λ i among. absurd (none_in i (subst (λ (l : List ℕ). Contains l i) none among));
+          given_up = notes.given_up;
+          once = again.once notes.once;
+          passed = λ m among. let n = again.back m among in subst (λ (x : Noted). x.index < r.passed) n.3 (notes.passed n.0 n.2);
+          boxes = λ m among. let n = again.back m among in subst (λ (x : Noted). HadAs Then r.from x (sides_of x.bounds)) n.3 (notes.boxes n.0 n.2);
+          begun = notes.begun;
+        };
+        merged = record { stand = h.merged.stand; read = h.merged.read; each_once = h.merged.each_once };
+        exchanged = λ begun m among. let n = again.back m among in subst (λ (x : Noted). IsDone v r x.index) n.3 (h.exchanged begun n.0 n.2);
       }
 
 -- ---- after the one step and after the other

@@ -8,3 +8,5 @@ pub mod PlacingWidens
 pub mod OwnNodes
 pub mod SwappedReaders
 pub mod EarlyUpdate
+pub mod OwnGuards
+pub mod NewChildren

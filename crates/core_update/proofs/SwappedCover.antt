@@ -109,8 +109,9 @@ module _ (nodes : Nodes) (s : Sight) (passes : List View) (removed : (i : ℕ) �
       }
 
   -- and one that has given bodies other places, before it placed any
-  pub right-renoted : (v : View) (r : Rebuild) (xs : List Noted) → Renoted r.noted xs → r.placed ≡ [] → UpdateIsRight nodes s v r → UpdateIsRight nodes Then v (record r { noted = xs })
-  right-renoted v r xs again none h =
+  pub right-renoted : (v w : View) (r : Rebuild) (xs : List Noted) → ((i : ℕ) → IsDone v r i → IsDone w r i) → ((i : ℕ) → IsDone w r i → IsDone v r i) → Renoted r.noted xs → r.placed ≡ []
+      → UpdateIsRight nodes s v r → UpdateIsRight nodes Then w (record r { noted = xs })
+  right-renoted v w r xs forth back again none h =
       let notes = h.notes in
       let replaced : (n : Noted) (p : ℕ) → IsAsNoted s n → IsAsNoted Then (record n { place = p }) =
       λ n p was.
@@ -118,17 +119,18 @@ module _ (nodes : Nodes) (s : Sight) (passes : List View) (removed : (i : ℕ) �
       record { looks = record { state = t.looks.state; location = t.looks.location }; phase = t.phase; layer = t.layer; same = t.same }
       in
       record {
-        to_place = λ i l t root passed merged body joins. let n = h.to_place i l t root passed merged body joins in let m = again.forth n.0 n.1 in (record n.0 { place = m.0 }, m.1, n.2, n.3);
+        to_place = λ i l t root passed merged body joins. let n = h.to_place i l t root passed merged body joins in let m = again.forth n.0 n.1 in (record n.0 { place = m.0 }, m.1, n.2, λ done. n.3 (back i done));
         notes = record {
-          all_noted = λ i opened tree. let n = notes.all_noted i opened tree in let m = again.forth n.0 n.1 in (record n.0 { place = m.0 }, m.1, n.2, replaced n.0 m.0 n.3);
+          all_noted = λ i opened tree. let n = notes.all_noted i (opened.0, λ done. opened.1 (forth i done)) tree in let m = again.forth n.0 n.1 in (record n.0 { place = m.0 }, m.1, n.2, replaced n.0 m.0 n.3);
           still_there = λ m among.
               let n = again.back m among in
-              subst (λ (x : Noted). IsOpen v r x.index → LooksAsNoted Then x → IsInOldTree nodes s r x.index × IsAsNoted Then x) n.3
-              (λ opened looks. let t = notes.still_there n.0 n.2 opened (record { state = looks.state; location = looks.location }) in (t.0, replaced n.0 n.1 t.1));
+              subst (λ (x : Noted). IsOpen w r x.index → LooksAsNoted Then x → IsInOldTree nodes s r x.index × IsAsNoted Then x) n.3
+              (λ opened looks. let t = notes.still_there n.0 n.2 (opened.0, λ done. opened.1 (forth n.0.index done)) (record { state = looks.state; location = looks.location }) in (t.0, replaced n.0 n.1 t.1));
           located = λ m among. let n = again.back m among in subst (λ (x : Noted). x.location ≢ 0) n.3 (notes.located n.0 n.2);
           in_old = λ m among.
               let n = again.back m among in
-              subst (λ (x : Noted). ¬ IsDone v r x.index → (a : ℕ) × (b : ℕ) × (b < 4) × (x.location ≡ place a b) × IsOldTree r (nodes.home a)) n.3 (notes.in_old n.0 n.2);
+              subst (λ (x : Noted). ¬ IsDone w r x.index → (a : ℕ) × (b : ℕ) × (b < 4) × (x.location ≡ place a b) × IsOldTree r (nodes.home a)) n.3
+              (λ undone. notes.in_old n.0 n.2 (λ done. undone (forth n.0.index done)));
           placed = λ i among. absurd (none_in i (subst (λ (l : List ℕ). Contains l i) none among));
           given_up = notes.given_up;
           once = again.once notes.once;
@@ -137,7 +139,7 @@ module _ (nodes : Nodes) (s : Sight) (passes : List View) (removed : (i : ℕ) �
           begun = notes.begun;
         };
         merged = record { stand = h.merged.stand; read = h.merged.read; each_once = h.merged.each_once };
-        exchanged = λ begun m among. let n = again.back m among in subst (λ (x : Noted). IsDone v r x.index) n.3 (h.exchanged begun n.0 n.2);
+        exchanged = λ begun m among. let n = again.back m among in subst (λ (x : Noted). IsDone w r x.index) n.3 (forth n.0.index (h.exchanged begun n.0 n.2));
       }
 
 -- ---- after the one step and after the other

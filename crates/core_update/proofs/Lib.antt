@@ -10,3 +10,4 @@ pub mod SwappedReaders
 pub mod EarlyUpdate
 pub mod OwnGuards
 pub mod NewChildren
+pub mod PlacedNotes

@@ -11,3 +11,4 @@ pub mod EarlyUpdate
 pub mod OwnGuards
 pub mod NewChildren
 pub mod PlacedNotes
+pub mod PlacedLocations

@@ -171,16 +171,16 @@ module _ (core : Core) (step : Step) (a : Acts core step) (asked : MayPlaceNoted
       subst (λ (c : Call). PassIsPlaced nodes Was c (SeenUpdate place_noted core step)) (ap (λ (t : Task). call_by_task t step.view.call) asked.task)
       (each-seat location_scope (λ k v. refl) core (λ k v. PassIsPlaced nodes Was v.call v.rebuild) (pass-placed nodes Was a.laws.locations) step.seat step.number step.view a.at a.pass)
 
-  box-same : (q : ℕ) → q < 6 → known_word step.view (BoxWord index q) ≡ sides_of (words_of b.bounds) q
+  pub box-same : (q : ℕ) → q < 6 → known_word step.view (BoxWord index q) ≡ sides_of (words_of b.bounds) q
   box-same q below =
       ap (λ (j : ℕ). known_word step.view (BoxWord j q)) (sym p.of_body) ∙ (sym ((known core step a index p).words (BoxWord p.noted.index q) refl) ∙ box-words core step a index p (places_it asked.task) place_noted q below)
 
-  word-box : (q : ℕ) → q < 6 → known_word step.view (BoxWord index q) ≡ word_of (After place_noted core step) (BoxWord index q)
+  pub word-box : (q : ℕ) → q < 6 → known_word step.view (BoxWord index q) ≡ word_of (After place_noted core step) (BoxWord index q)
   word-box q below =
       box-same q below ∙ (sym (box-words core step a index p (places_it asked.task) place_noted q below) ∙ (ap (λ (j : ℕ). word_of core (BoxWord j q)) p.of_body ∙ sym (word-same (BoxWord index q) (λ e. absurd cc))))
 
   -- all bounds from there up contain the box
-  encloses : (box : Sides) → ((q : ℕ) → q < 6 → known_word step.view (BoxWord index q) ≡ box q) → Encloses Is asked.node asked.child box
+  pub encloses : (box : Sides) → ((q : ℕ) → q < 6 → known_word step.view (BoxWord index q) ≡ box q) → Encloses Is asked.node asked.child box
   encloses box same x y up =
       encloses-forth quiet core step a nodes (λ n. ⊥) m asked.node asked.child box (subst Stands (sym home) tt)
       (λ c d above. covers-same _ (λ q. known_word step.view (BoxWord asked.index q)) box same

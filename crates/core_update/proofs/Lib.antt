@@ -12,3 +12,4 @@ pub mod OwnGuards
 pub mod NewChildren
 pub mod PlacedNotes
 pub mod PlacedLocations
+pub mod PlacedSteps

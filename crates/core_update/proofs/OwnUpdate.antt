@@ -1,8 +1,9 @@
 -- What the laws say of the update of the pass that steps, and of a body that it is to place.
 use Rattle.std.proofs.Common.{◌≡◌, ◌≢◌, ℕ, ◌<◌, ◌≤◌, List, true, length, map, Contains, Option, Some, refl, ap, sym, ◌∙◌, subst, inl, inr, arith}
-use Rattle.std.specs.Prelude.{IfSome, IsSomeAnd, option_map, get_or}
+use Rattle.std.specs.Prelude.{IfSome, IsSome, IsSomeAnd, option_map, get_or}
 use Rattle.std.proofs.lemmas.Bool.{cases_lt, cases_eq}
 use Rattle.std.proofs.lemmas.List.{get_or-map, get_or_default, length-map}
+use Rattle.std.proofs.lemmas.Option.{same_Some}
 use Rattle.word_map.specs.declared.name.Name.TheVariants.{State, LocA}
 use Rattle.scene_model.specs.declared.body_view.Phase.TheVariants.{Held, In}
 use Rattle.scene_model.specs.Scene.{Record, record_at}
@@ -10,7 +11,8 @@ use Rattle.scene_model.specs.Step.{HasBody}
 use Rattle.core_state.specs.declared.view.Noted.{Noted}
 use Rattle.core_state.specs.declared.view.Rebuild.{Rebuild}
 use Rattle.core_state.specs.declared.view.View.{View}
-use Rattle.core_state.specs.Core.{Core, scene_of}
+use Rattle.core_state.specs.View.{IsPass, number_of}
+use Rattle.core_state.specs.Core.{Core, scene_of, IsViewAt}
 use Rattle.core_state.specs.Kind.{Step}
 use Rattle.core_state.specs.Nodes.{Nodes}
 use Rattle.core_state.specs.Parts.{update_on_cover, update_on_places}
@@ -20,7 +22,8 @@ use Rattle.core_state.specs.Updates.{IsDone, IsSameBody}
 use Rattle.core_state.specs.LocationsHold.{location_scope, IsPlannedAt}
 use Rattle.core_state.specs.BodiesCovered.{cover_scope, NotesHold, ExchangesDone, LooksAsNoted, IsInOldTree, IsAsNoted}
 use Rattle.core_state.proofs.Beginning.{body_record, record_body}
-use Rattle.core_guard.proofs.Leaving.{Acts, in_held}
+use Rattle.core_guard.proofs.Leaving.{Acts, in_held, other-number}
+use Rattle.core_guard.proofs.OneUpdate.{one-update}
 use Rattle.core_guard.proofs.Seats.{seen_of, each-seat}
 use Rattle.core_guard.proofs.Settled.{StandsStill, settled-still}
 
@@ -114,3 +117,9 @@ module _ (core : Core) (step : Step) (a : Acts core step) (index : ℕ) (p : IsT
 
   pub one-note : (noted : Noted) → Contains p.r.noted noted → noted.index ≡ index → noted ≡ p.noted
   one-note noted among same = note-once p.r.noted noted p.noted (own-notes core step a p.r p.update).once among p.among (same ∙ sym p.of_body)
+
+-- no other pass has an update
+pub sole-update : (core : Core) (step : Step) → Acts core step → IsSome step.view.rebuild → (seat number : ℕ) (view : View) → seat ≢ step.seat → IsViewAt core seat view → IsPass view number → ¬ IsSome view.rebuild
+sole-update core step a own seat number view apart found is other =
+    let one : view ≡ step.view = one-update core a.formed a.laws.nodes a.laws.places seat step.seat number step.number view step.view found a.at is a.pass other own in
+    other-number core step a seat number view apart found is (same_Some number step.number (sym is ∙ (ap (λ (v : View). number_of v) one ∙ a.pass)))

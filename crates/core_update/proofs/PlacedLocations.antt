@@ -214,7 +214,7 @@ module _ (core : Core) (step : Step) (a : Acts core step) (asked : MayPlaceNoted
       index-of : LocB i ≡ LocB j → i ≡ j
       index-of same = ap index_in same
 
-  location-on : (j n k : ℕ) → IsLocation Was j n k → IsLocation Is j n k
+  pub location-on : (j n k : ℕ) → IsLocation Was j n k → IsLocation Is j n k
   location-on j n k location = (
     location.0,
     elim (location.1) [

@@ -1,6 +1,6 @@
 -- The law of cover of two kinds of step that store alike: where it holds after the one it holds after the other, if it is so of
 -- the stepping pass.
-use Rattle.std.proofs.Common.{◌≡◌, ◌≢◌, ℕ, ◌<◌, ◌≤◌, List, [], length, map, Contains, Option, Some, refl, ap, sym, ◌∙◌, subst}
+use Rattle.std.proofs.Common.{◌≡◌, ◌≢◌, ℕ, ◌<◌, ◌≤◌, List, [], length, map, Contains, Option, Some, refl, ap, sym, ◌∙◌, subst, ◌⊎◌, inl, inr}
 use Rattle.std.specs.Prelude.{IfSome, option_map}
 use Rattle.scene_model.specs.declared.body_view.Phase.TheVariants.{In}
 use Rattle.scene_model.specs.Scene.{Record, record_at}
@@ -140,6 +140,33 @@ module _ (nodes : Nodes) (s : Sight) (passes : List View) (removed : (i : ℕ) �
         };
         merged = record { stand = h.merged.stand; read = h.merged.read; each_once = h.merged.each_once };
         exchanged = λ begun m among. let n = again.back m among in subst (λ (x : Noted). IsDone w r x.index) n.3 (forth n.0.index (h.exchanged begun n.0 n.2));
+      }
+
+  -- and one that has placed or given up a body more
+  pub right-more : (v w : View) (r : Rebuild) (xs ys : List ℕ) → ((i : ℕ) → IsDone v r i → IsDone w (record r { placed = xs; given_up = ys }) i)
+      → ((i l t root : ℕ) → IsStillMerged r l t root → HasBody (scene_in s) i (λ b. b.layer ≡ l) → s.word (Phase i) ≡ phase_join t → IsDone w (record r { placed = xs; given_up = ys }) i → IsDone v r i)
+      → ((i : ℕ) → Contains xs i → Contains r.placed i ⊎ IsNoted r i (λ n. s.word (LocB i) ≡ n.place)) → ((i : ℕ) → Contains ys i → Contains r.given_up i ⊎ ¬ IsInOldTree nodes s r i)
+      → UpdateIsRight nodes s v r → UpdateIsRight nodes Then w (record r { placed = xs; given_up = ys })
+  right-more v w r xs ys forth back placed given h =
+      let notes = h.notes in
+      record {
+        to_place = λ i l t root passed merged body joins. let n = h.to_place i l t root passed merged body joins in (n.0, n.1, n.2, λ done. n.3 (back i l t root merged body joins done));
+        notes = record {
+          all_noted = λ i opened tree. let n = notes.all_noted i (opened.0, λ done. opened.1 (forth i done)) tree in (n.0, n.1, n.2, as_noted-again n.0 n.3);
+          still_there = λ n among opened looks.
+              let t = notes.still_there n among (opened.0, λ done. opened.1 (forth n.index done)) (record { state = looks.state; location = looks.location }) in
+              (t.0, as_noted-again n t.1);
+          located = notes.located;
+          in_old = λ n among undone. notes.in_old n among (λ done. undone (forth n.index done));
+          placed = λ i among tree. elim (placed i among) [ inl old ↦ notes.placed i old tree | inr new ↦ new ];
+          given_up = λ i among tree. elim (given i among) [ inl old ↦ notes.given_up i old tree | inr new ↦ new tree ];
+          once = notes.once;
+          passed = notes.passed;
+          boxes = notes.boxes;
+          begun = notes.begun;
+        };
+        merged = record { stand = h.merged.stand; read = h.merged.read; each_once = h.merged.each_once };
+        exchanged = λ begun n among. forth n.index (h.exchanged begun n among);
       }
 
 -- ---- after the one step and after the other

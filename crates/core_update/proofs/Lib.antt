@@ -13,3 +13,5 @@ pub mod NewChildren
 pub mod PlacedNotes
 pub mod PlacedLocations
 pub mod PlacedSteps
+pub mod OldTrees
+pub mod ClearedNew

@@ -8,16 +8,17 @@ use Rattle.core_state.specs.Core.{Core, word_of}
 use Rattle.core_state.specs.Encoding.{NamesRoot, Sides, body_child, node_child}
 use Rattle.core_state.specs.Nodes.{Nodes, IsLive, itself}
 use Rattle.core_state.specs.Scope.{Sight, sight, EachPass}
-use Rattle.core_state.specs.TreesSound.{tree_scope, TreesSoundIn}
+use Rattle.core_state.specs.TreesSound.{TreesSound, tree_scope}
 use Rattle.core_state.specs.Walking.{Query, Spot, resting, at_child, at_bound, Position, Follows, position_of}
-use Rattle.core_state.specs.WalksLead.{WalksLeadIn, walk_scope, HoldsOne, Way, to_entry, to_node, Leads, is_entry, by_node, ChildLeads, LeadsBySpot, LeadsByPart, IsAhead, OnlyWidens, WalkLeads}
+use Rattle.core_state.specs.WalksLead.{WalksLead, WalksLeadIn, walk_scope, HoldsOne, Way, to_entry, to_node, Leads, is_entry, by_node, ChildLeads, LeadsBySpot, LeadsByPart, IsAhead, OnlyWidens, WalkLeads}
 use Rattle.core_state.specs.WalksLead.{is_found, by_slot, by_main}
 use Rattle.core_state.specs.WalksLead as walks
-use Rattle.core_state.specs.ReadersCounted.{ReadersCountedIn, reader_scope, WalkStays, Reaches, ReachesBySpot, the_node, the_node_of_bound}
+use Rattle.core_state.specs.ReadersCounted.{ReadersCounted, reader_scope, Reaches, ReachesBySpot, the_node, the_node_of_bound}
 use Rattle.core_state.specs.ReadersCounted as readers
 use Rattle.core_state.specs.Space.{HadSince}
 use Rattle.core_guard.proofs.Cleared.{cleared_in}
-use Rattle.core_guard.proofs.Leaving.{LeadsWithin, live-stands}
+use Rattle.core_guard.proofs.Leaving.{LeadsWithin, sound-leads, live-stands}
+use Rattle.core_guard.proofs.Seats.{each-seat, each-seats}
 
 module _ (core : Core) (nodes : Nodes) (leads : LeadsWithin nodes (word_of core)) (c : ℕ → ℕ → ℕ) (same : (n k : ℕ) → IsLive (nodes.home n) → c n k ≡ word_of core (Child n k)) where
   abbrev s : Sight
@@ -89,3 +90,25 @@ module _ (core : Core) (nodes : Nodes) (leads : LeadsWithin nodes (word_of core)
       once = h.once;
       bodies = h.bodies;
     }
+
+-- all walks
+pub WalksLead-unreached : (core : Core) (nodes : Nodes) → TreesSound nodes core → ReadersCounted nodes core → WalksLead core → (c : ℕ → ℕ → ℕ) → ((n k : ℕ) → IsLive (nodes.home n) → c n k ≡ word_of core (Child n k)) → WalksLeadIn (cleared_in (sight walk_scope core) c)
+WalksLead-unreached core nodes trees counted h c same = record {
+  leads =
+      each-seats walk_scope (λ k v. refl) core
+      (λ number v. v.walk.is_on ≡ true → (query : Query) → Follows core.config query v.walk.loads → WalkLeads (cleared_in (sight walk_scope core) c) v.walk query (position_of core.config query v.walk.loads))
+      (λ seat number view found is on query follows.
+      let at = position_of core.config query view.walk.loads in
+      let stays = each-seat reader_scope (λ k v. refl) core _ counted.stays seat number view found is on query follows in
+      walk-forth core nodes leads c same view.walk at roots (λ x reaches. (stays.live x reaches).0) query
+      (each-seat walk_scope (λ k v. refl) core _ h.leads seat number view found is on query follows));
+  begun = h.begun;
+}
+  where
+    leads : LeadsWithin nodes (word_of core)
+    leads = let t = sound-leads nodes (sight tree_scope core) trees in record { up = t.up; down = t.down }
+
+    roots : (name : Name) (root : ℕ) → NamesRoot name (word_of core name) root → IsLive (nodes.home root)
+    roots (Main l) root names = subst IsLive (sym (trees.roots (Main l) root names).0) tt
+    roots (Slot l t) root names = subst IsLive (sym (trees.roots (Slot l t) root names).0) tt
+    roots _ root names = absurd names

@@ -15,3 +15,4 @@ pub mod PlacedLocations
 pub mod PlacedSteps
 pub mod OldTrees
 pub mod ClearedNew
+pub mod GivenUpPlaces

@@ -84,7 +84,7 @@ abbrev pub unnoticed : View → Name → ℕ → ℕ → ℕ → View
 unnoticed view name found first second = view
 
 -- a new tree is of one pass, and one layer
-made-once : (p q k l : ℕ) → made p k ≡ made q l → p ≡ q
+pub made-once : (p q k l : ℕ) → made p k ≡ made q l → p ≡ q
 made-once p q k l e = ap pass_in e
   where
     pass_in : Home → ℕ

@@ -16,3 +16,4 @@ pub mod PlacedSteps
 pub mod OldTrees
 pub mod ClearedNew
 pub mod GivenUpPlaces
+pub mod GivenUpSteps

@@ -204,3 +204,9 @@ module _ (kind : Kind) (leaves : View → Name → ℕ → ℕ → ℕ → View)
       let v = seen_of cover_scope number view in
       if_some_map (option_map update_on_cover view.rebuild) (λ r. UpdateIsRight nodes FirstCover v r) (λ r. UpdateIsRight nodes SecondCover v r)
       (λ r right. right-again nodes FirstCover SecondCover.passes (removed-again removes) v v r (λ i done. done) (λ i done. done) right) old) own)
+
+-- of the own update
+pub own-right : (core : Core) (step : Step) (a : Acts core step) (r : Rebuild) → step.view.rebuild ≡ Some r → UpdateIsRight a.laws.nodes (sight cover_scope core) (seen_of cover_scope step.number step.view) (update_on_cover r)
+own-right core step a r has =
+    subst (λ (o : Option Rebuild). IfSome (option_map update_on_cover o) (λ u. UpdateIsRight a.laws.nodes (sight cover_scope core) (seen_of cover_scope step.number step.view) u)) has
+    (each-seat cover_scope (λ k v. refl) core (λ number v. IfSome v.rebuild (λ u. UpdateIsRight a.laws.nodes (sight cover_scope core) v u)) (all-right a.laws.nodes core a.laws.cover) step.seat step.number step.view a.at a.pass)

@@ -2,7 +2,7 @@
 ghost use Rattle.std.specs.Prelude.{ℕ};
 ghost use Rattle.core_state.specs.Core.{Core};
 ghost use Rattle.core_state.specs.Kind.{Steps};
-ghost use Rattle.core_state.specs.Placing.{MayLoadParentPlacing, load_parent_placing, MayWidenLowToPlace, MayWidenHighToPlace, widen_low_placing, widen_high_placing};
+ghost use Rattle.core_state.specs.Placing.{MayLoadParentPlacing, load_parent_placing, MayWidenLowToPlace, MayWidenHighToPlace, widen_low_placing, widen_high_placing, MayPlaceNoted, place_noted, MayGiveUp, give_up};
 ghost use Rattle.core_state.specs.Formed.{IsFormed};
 ghost use Rattle.core_state.specs.Guards.{GuardsHold};
 ghost use Rattle.core_state.specs.Invariants.{Invariants};
@@ -26,4 +26,18 @@ pub fn bounds_are_widened_to_place()
     ensures high_guarded { (index : ℕ) (before after : Core) → Steps (MayWidenHighToPlace index) (widen_high_placing index) before after → IsFormed before → Invariants before → GuardsHold before → GuardsHold after }
     ensures low_widens { (index : ℕ) (nodes : Nodes) (before after : Core) → Steps (MayWidenLowToPlace index) (widen_low_placing index) before after → BoundsOnlyWiden nodes before after }
     ensures high_widens { (index : ℕ) (nodes : Nodes) (before after : Core) → Steps (MayWidenHighToPlace index) (widen_high_placing index) before after → BoundsOnlyWiden nodes before after }
+{}
+
+/// Placing a body keeps all invariants: its second location is the place that is planned for it in the new tree of its layer,
+/// every bound above it contains the box, and no batch holds the body. No other pass has its stripe.
+pub fn bodies_are_placed()
+    ensures keeps { (before after : Core) → Steps MayPlaceNoted place_noted before after → IsFormed before → GuardsHold before → Invariants before → Invariants after }
+    ensures guarded { (before after : Core) → Steps MayPlaceNoted place_noted before after → IsFormed before → Invariants before → GuardsHold before → GuardsHold after }
+{}
+
+/// Giving a body up keeps all invariants: its entry in the new tree is a location of no body, no walk comes to it, and the body
+/// is in none of the trees that the update replaces. The node stands in a tree, so its words are nobody's own.
+pub fn bodies_are_given_up()
+    ensures keeps { (index : ℕ) (before after : Core) → Steps (MayGiveUp index) (give_up index) before after → IsFormed before → GuardsHold before → Invariants before → Invariants after }
+    ensures guarded { (index : ℕ) (before after : Core) → Steps (MayGiveUp index) (give_up index) before after → IsFormed before → Invariants before → GuardsHold before → GuardsHold after }
 {}

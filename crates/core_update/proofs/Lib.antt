@@ -17,3 +17,4 @@ pub mod OldTrees
 pub mod ClearedNew
 pub mod GivenUpPlaces
 pub mod GivenUpSteps
+pub mod PlanNodes

@@ -1,6 +1,6 @@
 -- Two kinds of step that store alike and leave two views: what a law sees of the two differs in the stepping pass alone.
 use Rattle.std.proofs.Common.{◌≡◌, ◌≢◌, ℕ, zero, suc, List, [], ◌∷◌, ◌++◌, Option, Some, None, refl, ap, sym, ◌∙◌, subst}
-use Rattle.std.specs.Prelude.{filter_map, flat_map, option_map}
+use Rattle.std.specs.Prelude.{filter_map, flat_map, fold, option_map}
 use Rattle.std.specs.List.{cons_option}
 use lib.ListN.{set}
 use Rattle.word_map.specs.declared.name.Name.{Name}
@@ -28,6 +28,17 @@ flat-alike : {X Y Z : Type 0} (f : X → Option Y) (g : Y → List Z) (xs : List
 flat-alike f g [] i x y u v one two e = refl
 flat-alike f g (z ∷ xs) zero x y u v one two e = rw (one, two, e) refl
 flat-alike f g (z ∷ xs) (suc i) x y u v one two e = flat-more f g (f z) (filter_map f (set xs i x)) (filter_map f (set xs i y)) (flat-alike f g xs i x y u v one two e)
+
+-- and what it adds up to
+fold-more : {X Y Z : Type 0} (f : X → Option Y) (add : Z → Y → Z) (o : Option Y) (xs ys : List Y) → ((start : Z) → fold add start xs ≡ fold add start ys) → (start : Z) → fold add start (cons_option o xs) ≡ fold add start (cons_option o ys)
+fold-more f add None xs ys e start = e start
+fold-more f add (Some w) xs ys e start = e (add start w)
+
+fold-alike : {X Y Z : Type 0} (f : X → Option Y) (add : Z → Y → Z) (xs : List X) (i : ℕ) (x y : X) (u v : Y) → f x ≡ Some u → f y ≡ Some v → ((start : Z) → add start u ≡ add start v)
+    → (start : Z) → fold add start (filter_map f (set xs i x)) ≡ fold add start (filter_map f (set xs i y))
+fold-alike f add [] i x y u v one two e start = refl
+fold-alike {Z = Z} f add (z ∷ xs) zero x y u v one two e start = rw (one, two) (ap (λ (s : Z). fold add s (filter_map f xs)) (e start))
+fold-alike f add (z ∷ xs) (suc i) x y u v one two e start = fold-more f add (f z) (filter_map f (set xs i x)) (filter_map f (set xs i y)) (fold-alike f add xs i x y u v one two e) start
 
 module _ (scope : Scope) (keeps : KeepsNumber scope) (kind : Kind) (leaves : View → Name → ℕ → ℕ → ℕ → View) (core : Core) (step : Step) (at : IsViewAt core step.seat step.view) (pass : IsPass step.view step.number) where
   -- the other kind
@@ -80,6 +91,12 @@ module _ (scope : Scope) (keeps : KeepsNumber scope) (kind : Kind) (leaves : Vie
       → flat_map f (sight scope (after_step kind core step)).passes ≡ flat_map f (sight scope (after_step other core step)).passes
   flat-swap f same =
       flat-alike (part_of scope) f core.views step.seat (view_after kind core step) (view_after other core step) (seen_of scope step.number (view_after kind core step)) (seen_of scope step.number (view_after other core step))
+      (seen (view_after kind core step) pass) (seen (view_after other core step) pass) same
+
+  pub fold-swap : {Z : Type 0} (add : Z → View → Z) → ((start : Z) → add start (seen_of scope step.number (view_after kind core step)) ≡ add start (seen_of scope step.number (view_after other core step)))
+      → (start : Z) → fold add start (sight scope (after_step kind core step)).passes ≡ fold add start (sight scope (after_step other core step)).passes
+  fold-swap add same =
+      fold-alike (part_of scope) add core.views step.seat (view_after kind core step) (view_after other core step) (seen_of scope step.number (view_after kind core step)) (seen_of scope step.number (view_after other core step))
       (seen (view_after kind core step) pass) (seen (view_after other core step) pass) same
 
   -- a law that sees the same of both views

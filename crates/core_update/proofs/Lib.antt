@@ -18,3 +18,4 @@ pub mod ClearedNew
 pub mod GivenUpPlaces
 pub mod GivenUpSteps
 pub mod PlanNodes
+pub mod PlanTrees

@@ -19,3 +19,4 @@ pub mod GivenUpPlaces
 pub mod GivenUpSteps
 pub mod PlanNodes
 pub mod PlanTrees
+pub mod NewParents

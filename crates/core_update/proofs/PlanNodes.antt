@@ -68,7 +68,7 @@ in-other : (config : Config) (o : Option ℕ) (n : ℕ) → IsSomeAnd o (λ old.
 in-other config None n t = absurd t
 in-other config (Some old) n t = let low = t.0 in omega arith
 
-owned-made : (p q l : ℕ) → owned p ≢ made q l
+pub owned-made : (p q l : ℕ) → owned p ≢ made q l
 owned-made p q l e = absurd cc
 
 module _ (change : Name → ℕ → Rebuild → Rebuild) (core : Core) (step : Step) (a : Acts core step) (r : Rebuild) (has : step.view.rebuild ≡ Some r) (early : r.is_planned ≡ false) (M : List NewNode) (R : List ℕ) (planned : Bool)

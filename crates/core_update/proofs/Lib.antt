@@ -20,3 +20,5 @@ pub mod GivenUpSteps
 pub mod PlanNodes
 pub mod PlanTrees
 pub mod NewParents
+pub mod PlanWhole
+pub mod PlanStands

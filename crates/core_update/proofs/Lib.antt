@@ -22,3 +22,5 @@ pub mod PlanTrees
 pub mod NewParents
 pub mod PlanWhole
 pub mod PlanStands
+pub mod Rehomed
+pub mod PlanSteps

@@ -32,7 +32,7 @@ use Rattle.core_update.proofs.PlanNodes.{MakesHomes, planning}
 use Rattle.core_update.proofs.PlanTrees.{PlansTrees, Second}
 use Rattle.core_update.proofs.PlanWhole.{kind, M, R, N, W, K, whole, agree, child-now, parent-now, bound-now, later, made-home, made-depth, HomeThen, as_before, in_new, home-then}
 
-made-layer : (p q k l : ℕ) → made p k ≡ made q l → k ≡ l
+pub made-layer : (p q k l : ℕ) → made p k ≡ made q l → k ≡ l
 made-layer p q k l e = ap layer_of_home e
   where
     layer_of_home : Home → ℕ

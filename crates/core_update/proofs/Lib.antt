@@ -24,3 +24,4 @@ pub mod PlanWhole
 pub mod PlanStands
 pub mod Rehomed
 pub mod PlanSteps
+pub mod PlacedPhases

@@ -1,13 +1,12 @@
 -- Walks lead on where the entry of a body is cleared in a new tree: no walk comes to a node of it.
-use Rattle.std.proofs.Common.{◌≡◌, ◌≢◌, ℕ, ◌+◌, ◌<◌, ◌≤◌, List, [], ◌∷◌, true, refl, ap, sym, ◌∙◌, subst, inl, inr, arith, Contains}
+use Rattle.std.proofs.Common.{◌≡◌, ℕ, ◌+◌, ◌<◌, [], ◌∷◌, true, refl, sym, ◌∙◌, subst}
 use Rattle.word_map.specs.declared.name.Name.{Name}
 use Rattle.word_map.specs.declared.name.Name.TheVariants.{Child, Main, Slot}
-use Rattle.core_state.specs.declared.view.Waiting.{Waiting}
 use Rattle.core_state.specs.declared.view.Walk.{Walk}
 use Rattle.core_state.specs.Core.{Core, word_of}
-use Rattle.core_state.specs.Encoding.{NamesRoot, Sides, body_child, node_child}
+use Rattle.core_state.specs.Encoding.{NamesRoot, Sides, node_child}
 use Rattle.core_state.specs.Nodes.{Nodes, IsLive, itself}
-use Rattle.core_state.specs.Scope.{Sight, sight, EachPass}
+use Rattle.core_state.specs.Scope.{Sight, sight}
 use Rattle.core_state.specs.TreesSound.{TreesSound, tree_scope}
 use Rattle.core_state.specs.Walking.{Query, Spot, resting, at_child, at_bound, Position, Follows, position_of}
 use Rattle.core_state.specs.WalksLead.{WalksLead, WalksLeadIn, walk_scope, HoldsOne, Way, to_entry, to_node, Leads, is_entry, by_node, ChildLeads, LeadsBySpot, LeadsByPart, IsAhead, OnlyWidens, WalkLeads}

@@ -1,6 +1,6 @@
 -- An update that has planned no trees yet: what the laws say of it and of its nodes, and that they hold where it changes in
 -- such things alone.
-use Rattle.std.proofs.Common.{◌≡◌, ◌≢◌, ℕ, ◌<◌, ◌≤◌, List, true, false, length, Contains, Option, Some, refl, ap, sym, ◌∙◌, subst, inl, inr}
+use Rattle.std.proofs.Common.{◌≡◌, ◌≢◌, ℕ, ◌<◌, ◌≤◌, List, true, false, length, Contains, Option, Some, refl, ap, sym, ◌∙◌, subst}
 use Rattle.std.specs.Prelude.{IfSome, IsSomeAnd, option_map, flat_map, slice_index_or}
 use Rattle.std.proofs.lemmas.Bool.{false≢true}
 use Rattle.std.proofs.lemmas.List.Elements.{Contains-append_right}
@@ -18,7 +18,6 @@ use Rattle.core_state.specs.Kind.{Kind, Step, after_step}
 use Rattle.core_state.specs.Nodes.{Nodes, owned, made, IsOwnedBy, nodes_in}
 use Rattle.core_state.specs.Noting.{IsEarly}
 use Rattle.core_state.specs.Parts.{call_by_task, call_on_places, update_on_nodes, update_on_places}
-use Rattle.core_state.specs.Scope.{sight}
 use Rattle.core_state.specs.Updates.{IsMadeIn, IsStillMerged, IsPlacing, merged_tree}
 use Rattle.core_state.specs.LocationsHold.{LocationsHold, location_scope, IsSecondFor, IsPlannedAt, IsPublishedAt, Removes}
 use Rattle.core_state.specs.NodesInOnePlace.{node_scope}
@@ -27,7 +26,7 @@ use Rattle.core_guard.proofs.Owners.{same-view, owned-by}
 use Rattle.core_guard.proofs.PlacesStay.{PassIsPlaced, begun-placed}
 use Rattle.core_guard.proofs.Seats.{has-seat, seen_of}
 use Rattle.core_batch.proofs.Owning.{owned_home}
-use Rattle.core_update.proofs.SwappedPlaces.{One, Two, First, Second, OneUpdate, TwoUpdate, SwapsPlaces, LocationsHold-swap}
+use Rattle.core_update.proofs.SwappedPlaces.{One, Two, First, Second, OneUpdate, TwoUpdate, LocationsHold-swap}
 
 module _ (core : Core) (step : Step) (a : Acts core step) (r : Rebuild) (has : step.view.rebuild ≡ Some r) (early : IsEarly r) where
   abbrev nodes : Nodes

@@ -1,13 +1,13 @@
 -- The law of locations holds after an update has given a body up: its entry, at the place that was planned for it in a new tree,
 -- is cleared, and is a location of no body.
-use Rattle.std.proofs.Common.{◌≡◌, ◌≢◌, ◌⊎◌, ℕ, ◌<◌, ◌≤◌, List, [], ◌∷◌, ◌++◌, true, length, Contains, Option, Some, None, refl, ap, sym, ◌∙◌, subst, inl, inr, arith}
+use Rattle.std.proofs.Common.{◌≡◌, ◌≢◌, ℕ, ◌≤◌, List, [], ◌∷◌, ◌++◌, true, length, Contains, Option, Some, refl, ap, sym, ◌∙◌, subst, inl, inr, arith}
 use Rattle.std.specs.Prelude.{IfSome, IsSomeAnd, option_map}
 use Rattle.std.proofs.lemmas.Bool.{cases_eq}
 use Rattle.std.proofs.lemmas.List.Elements.{Contains-append_left, Contains-append_right, Contains-append_cases}
 use Rattle.scene_model.specs.declared.body_view.Phase.TheVariants.{In}
 use Rattle.scene_model.specs.Scene.{Record, record_at}
 use Rattle.word_map.specs.declared.name.Name.{Name}
-use Rattle.word_map.specs.declared.name.Name.TheVariants.{Child, LocA, LocB}
+use Rattle.word_map.specs.declared.name.Name.TheVariants.{Child, LocB}
 use Rattle.core_state.specs.declared.view.Batch.{Batch}
 use Rattle.core_state.specs.declared.view.Call.{Call}
 use Rattle.core_state.specs.declared.view.Noted.{Noted}
@@ -20,17 +20,16 @@ use Rattle.core_state.specs.Core.{Core, word_of, scene_of}
 use Rattle.core_state.specs.Encoding.{body_child, place, Sides}
 use Rattle.core_state.specs.Kind.{Step, after_step}
 use Rattle.core_state.specs.Nodes.{Nodes, made, IsLive, Stands}
-use Rattle.core_state.specs.Bodies.{all_batches}
 use Rattle.core_state.specs.Parts.{call_by_task, call_on_places, update_on_places}
 use Rattle.core_state.specs.Placing.{MayGiveUp, give_up}
 use Rattle.core_state.specs.Scope.{Sight, sight, HasPass}
-use Rattle.core_state.specs.Updates.{EachUpdate, HasUpdate, IsNoted, IsPlacing, IsDone, IsStillMerged}
+use Rattle.core_state.specs.Updates.{HasUpdate, IsNoted, IsPlacing, IsDone, IsStillMerged}
 use Rattle.core_state.specs.LocationsHold.{LocationsHold, LocationsHoldIn, location_scope, IsLocation, IsAt, Encloses, IsWhere, in_slot, in_main, in_old, in_merged, IsSecondFor, IsPlannedAt, IsPublishedAt, IsTakenOut, IsUnheld, IsRemoved, IsPlacedNow, Removes, ClimbsFrom}
 use Rattle.core_state.proofs.Opening.{only}
 use Rattle.core_state.proofs.Steps.{word-step}
 use Rattle.core_guard.proofs.Cleared.{IsGone, ClearsEntries, above-same, none-kept, some-back, cleared_in, child-sight, child-clears, child-where}
 use Rattle.core_guard.proofs.Leaving.{Acts, After, Last, if_some_map, other-number}
-use Rattle.core_guard.proofs.PlacesStay.{BodyIsPlaced, PassIsPlaced, EachPlaced, acting, body-placed, pass-placed, taken-out, begun-placed}
+use Rattle.core_guard.proofs.PlacesStay.{PassIsPlaced, EachPlaced, acting, pass-placed, taken-out, begun-placed}
 use Rattle.core_guard.proofs.Seats.{each-step, has-step, seen_of, flat-step}
 use Rattle.core_move.proofs.PhaseStores.{where-live}
 use Rattle.core_update.proofs.OwnUpdate.{Covering, Locating, own-notes, own-planned, unexchanged, note-once}

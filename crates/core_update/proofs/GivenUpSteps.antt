@@ -1,5 +1,5 @@
 -- All laws hold after an update has given a body up: no walk comes to its entry, and it is in no tree that is replaced.
-use Rattle.std.proofs.Common.{◌≡◌, ◌≢◌, ◌⊎◌, ℕ, zero, suc, ◌<◌, ◌≤◌, List, [], ◌∷◌, ◌++◌, true, length, Contains, Option, Some, refl, ap, sym, ◌∙◌, subst, inl, inr, arith}
+use Rattle.std.proofs.Common.{◌≡◌, ℕ, zero, suc, ◌<◌, ◌≤◌, [], ◌∷◌, ◌++◌, true, Option, Some, refl, ap, sym, ◌∙◌, subst, inl, inr, arith}
 use Rattle.std.specs.Prelude.{IfSome, IsSomeAnd, option_map, ◌-◌}
 use Rattle.std.proofs.lemmas.Bool.{false≢true, le-ltb}
 use Rattle.std.proofs.lemmas.Option.{same_Some}
@@ -8,7 +8,7 @@ use Rattle.scene_model.specs.declared.body_view.Phase.TheVariants.{In}
 use Rattle.scene_model.specs.Scene.{Record, record_at}
 use Rattle.scene_model.specs.Step.{HasBody}
 use Rattle.word_map.specs.declared.name.Name.{Name}
-use Rattle.word_map.specs.declared.name.Name.TheVariants.{Phase, LocA, LocB, Child, Slot}
+use Rattle.word_map.specs.declared.name.Name.TheVariants.{Phase, LocA, Child, Slot}
 use Rattle.core_state.specs.declared.view.Rebuild.{Rebuild}
 use Rattle.core_state.specs.declared.view.View.{View}
 use Rattle.core_state.specs.Core.{Core, word_of, scene_of}
@@ -18,8 +18,8 @@ use Rattle.core_state.specs.Nodes.{Nodes, under, Stands}
 use Rattle.core_state.specs.Bodies.{phase_by, phase_by_slot}
 use Rattle.core_state.specs.Parts.{call_at, task_on_pool, task_at_place, update_on_nodes, update_on_trees, update_on_cover, update_on_readers}
 use Rattle.core_state.specs.Placing.{MayGiveUp, give_up}
-use Rattle.core_state.specs.Scope.{Scope, Sight, sight, bare_view}
-use Rattle.core_state.specs.Updates.{IsOldTree, IsDone, IsStillMerged}
+use Rattle.core_state.specs.Scope.{Sight, sight, bare_view}
+use Rattle.core_state.specs.Updates.{IsOldTree, IsStillMerged}
 use Rattle.core_state.specs.LocksAgree.{lock_scope}
 use Rattle.core_state.specs.BodiesAgree.{body_scope, BodiesAgreeIn}
 use Rattle.core_state.specs.NodesInOnePlace.{node_scope, NodesInOnePlaceIn}
@@ -42,7 +42,7 @@ use Rattle.core_guard.proofs.Touched.{IsKept, kept}
 use Rattle.core_guard.proofs.Unowned.{stands-unowned}
 use Rattle.core_update.proofs.ClearedNew.{WalksLead-unreached}
 use Rattle.core_update.proofs.GivenUpPlaces.{home, clears, live-same, LocationsHold-given_up}
-use Rattle.core_update.proofs.OldTrees.{second-none, not-in_old, undone-yet}
+use Rattle.core_update.proofs.OldTrees.{second-none, not-in_old}
 use Rattle.core_update.proofs.SwappedCover.{own-right}
 use Rattle.core_update.proofs.PlacingWidens.{unnoticed}
 use Rattle.core_update.proofs.SwappedCover.{UpdateIsRight, FirstCover, SecondCover, BodiesCovered-swap, right-more, removed-again}

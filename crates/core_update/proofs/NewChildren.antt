@@ -1,21 +1,19 @@
 -- Storing a child, or a side of a bound, in a new tree keeps all laws: the node is the pass's own and stands in no tree. With
 -- the entry of a body its place is noted, which no law reads before the trees are planned.
-use Rattle.std.proofs.Common.{◌≡◌, ◌≢◌, ℕ, ◌∷◌, [], List, Bool, true, false, map, Contains, Option, Some, refl, ap, sym, ◌∙◌, subst, inl, inr}
-use Rattle.std.specs.Prelude.{◌+◌, ◌*◌, ◌/◌, ◌%◌, ◌==◌, if◌then◌else◌, cond, IfSome, option_map}
+use Rattle.std.proofs.Common.{◌≡◌, ℕ, ◌∷◌, [], List, Bool, true, false, map, Contains, Option, Some, refl, ap, sym, ◌∙◌, subst}
+use Rattle.std.specs.Prelude.{◌/◌, ◌%◌, ◌==◌, if◌then◌else◌, IfSome, option_map}
 use Rattle.std.proofs.lemmas.Bool.{false≢true}
 use Rattle.word_map.specs.declared.name.Name.{Name}
-use Rattle.word_map.specs.declared.name.Name.TheVariants.{Child, Bound}
 use Rattle.core_state.specs.declared.view.Noted.{Noted}
 use Rattle.core_state.specs.declared.view.Rebuild.{Rebuild}
-use Rattle.core_state.specs.declared.view.View.{View}
 use Rattle.core_state.specs.Batches.{also_written, store_node}
 use Rattle.core_state.specs.Core.{Core}
 use Rattle.core_state.specs.Encoding.{place}
-use Rattle.core_state.specs.Kind.{Kind, Step, after_step}
+use Rattle.core_state.specs.Kind.{Step, after_step}
 use Rattle.core_state.specs.Nodes.{Nodes, owned, node_in}
 use Rattle.core_state.specs.Noting.{MayStoreNewChild, store_new_child, MayStoreNewBound, store_new_bound, placed_note, noted_at, with_entry}
-use Rattle.core_state.specs.Parts.{call_at, task_on_pool, task_on_cover, task_at_place, update_on_nodes, update_on_trees, update_on_cover, update_on_readers}
-use Rattle.core_state.specs.Scope.{Sight, sight, IsOnce, bare_view}
+use Rattle.core_state.specs.Parts.{call_at, task_on_pool, update_on_nodes, update_on_trees, update_on_cover, update_on_readers}
+use Rattle.core_state.specs.Scope.{IsOnce, bare_view}
 use Rattle.core_state.specs.LocksAgree.{lock_scope, LocksAgreeIn}
 use Rattle.core_state.specs.BodiesAgree.{body_scope, BodiesAgreeIn}
 use Rattle.core_state.specs.NodesInOnePlace.{node_scope, NodesInOnePlaceIn}

@@ -1,16 +1,15 @@
 -- Storing a parent in a new tree keeps all laws: the node is the pass's own and stands in no tree, and that it is one of the new
 -- tree, or its root, no law reads before the trees are planned.
-use Rattle.std.proofs.Common.{◌≡◌, ◌≢◌, ℕ, List, Bool, true, Option, Some, refl, ap, sym, ◌∙◌, subst, inl}
+use Rattle.std.proofs.Common.{◌≡◌, ℕ, List, Option, Some, refl, ap, sym, ◌∙◌, inl}
 use Rattle.std.specs.Prelude.{option_map}
 use Rattle.std.proofs.lemmas.Bool.{false≢true}
 use Rattle.word_map.specs.declared.name.Name.{Name}
 use Rattle.core_state.specs.declared.view.NewNode.{NewNode}
 use Rattle.core_state.specs.declared.view.Rebuild.{Rebuild}
-use Rattle.core_state.specs.declared.view.View.{View}
 use Rattle.core_state.specs.Batches.{store_node}
 use Rattle.core_state.specs.Core.{Core}
 use Rattle.core_state.specs.Kind.{Kind, Step, after_step}
-use Rattle.core_state.specs.Nodes.{Nodes, node_in, owned, made}
+use Rattle.core_state.specs.Nodes.{Nodes, node_in, owned}
 use Rattle.core_state.specs.Noting.{MayStoreNewParent, store_new_parent, made_with, roots_with, with_new_node}
 use Rattle.core_state.specs.Parts.{call_at, call_on_places, task_on_cover, task_at_place, update_on_places, update_on_cover, update_on_readers}
 use Rattle.core_state.specs.Scope.{bare_view}

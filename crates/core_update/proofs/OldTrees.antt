@@ -1,6 +1,6 @@
 -- A body that an update is to give up is in none of the trees that the update replaces: who is, is in the broad phase, and is as
 -- it was noted.
-use Rattle.std.proofs.Common.{◌≡◌, ◌≢◌, ℕ, ◌<◌, ◌≤◌, List, true, length, Contains, Option, Some, None, refl, ap, sym, ◌∙◌, subst, inl, inr, arith}
+use Rattle.std.proofs.Common.{◌≡◌, ◌≢◌, ℕ, ◌≤◌, Contains, Option, Some, None, refl, ap, sym, ◌∙◌, subst, inl, inr, arith}
 use Rattle.std.specs.Prelude.{IsNone, ◌-◌}
 use Rattle.std.proofs.lemmas.Bool.{cases_eq}
 use Rattle.std.proofs.lemmas.Option.{same_Some}
@@ -19,10 +19,9 @@ use Rattle.core_state.specs.declared.view.View.{View}
 use Rattle.core_state.specs.View.{IsPass, Holds, known_word}
 use Rattle.core_state.specs.Log.{word}
 use Rattle.core_state.specs.Core.{Core, word_of, scene_of, IsViewAt}
-use Rattle.core_state.specs.Encoding.{place, phase_in, phase_join}
+use Rattle.core_state.specs.Encoding.{phase_join}
 use Rattle.core_state.specs.Guards.{by_lock}
 use Rattle.core_state.specs.Kind.{Kind, Step}
-use Rattle.core_state.specs.Nodes.{Home}
 use Rattle.core_state.specs.Bodies.{phase_by}
 use Rattle.core_state.specs.Parts.{update_on_cover}
 use Rattle.core_state.specs.Placing.{MayGiveUp, is_out, is_elsewhere, is_another}
@@ -30,7 +29,7 @@ use Rattle.core_state.specs.Scope.{Sight, sight}
 use Rattle.core_state.specs.Updates.{IsDone, IsOldTree, IsStillMerged}
 use Rattle.core_state.specs.LocationsHold.{location_scope, IsRemoved, IsWhere, in_slot, in_main, in_old, in_merged, Removes}
 use Rattle.core_state.specs.BodiesCovered.{cover_scope, IsInOldTree, LooksAsNoted}
-use Rattle.core_state.proofs.Beginning.{body_record, record_body}
+use Rattle.core_state.proofs.Beginning.{record_body}
 use Rattle.core_state.proofs.Guarding.{live-still}
 use Rattle.core_guard.proofs.BodiesStep.{known-now}
 use Rattle.core_guard.proofs.BodyTouch.{stripe-alone}
@@ -42,8 +41,7 @@ use Rattle.core_guard.proofs.Seats.{has-seat, seen_at}
 use Rattle.core_guard.proofs.Settled.{sound, settled-still}
 use Rattle.core_batch.proofs.HeldFacts.{mark-off}
 use Rattle.core_state.specs.BodiesAgree.{body_scope}
-use Rattle.core_update.proofs.OwnUpdate.{Covering, own-notes, unexchanged, note-once}
-use Rattle.core_update.proofs.SwappedCover.{removes-from_cover}
+use Rattle.core_update.proofs.OwnUpdate.{Covering, own-notes, note-once}
 
 module _ (core : Core) (step : Step) (a : Acts core step) where
   abbrev Old : Sight

@@ -1,5 +1,5 @@
 -- A node that a pass owns, and that stands in no tree, no other pass has for itself.
-use Rattle.std.proofs.Common.{◌≡◌, ◌≢◌, ◌⊎◌, ℕ, List, [], ◌++◌, Bool, true, false, Option, Some, None, refl, ap, sym, ◌∙◌, subst, inl, inr, arith}
+use Rattle.std.proofs.Common.{◌≡◌, ◌≢◌, ◌⊎◌, ℕ, [], ◌++◌, Bool, true, false, Option, Some, None, refl, sym, ◌∙◌, subst, inl, inr}
 use Rattle.std.specs.Prelude.{IfSome, Contains, map, flat_map, option_map, cond}
 use Rattle.std.proofs.lemmas.Option.{none-some, same_Some}
 use Rattle.std.proofs.lemmas.List.Elements.{Contains-append_left, Contains-append_right, Contains-append_cases}
@@ -12,7 +12,7 @@ use Rattle.core_state.specs.View.{IsPass}
 use Rattle.core_state.specs.Core.{Core, IsViewAt}
 use Rattle.core_state.specs.Guards.{KeepsGuards, private_nodes}
 use Rattle.core_state.specs.Kind.{Kind, Step}
-use Rattle.core_state.specs.Nodes.{Home, node_in, owned, made, returning, IsOwnedBy, nodes_of, nodes_in}
+use Rattle.core_state.specs.Nodes.{node_in, owned, returning, IsOwnedBy, nodes_of, nodes_in}
 use Rattle.core_state.specs.Parts.{update_on_trees}
 use Rattle.core_state.specs.Scope.{sight}
 use Rattle.core_state.specs.TreesSound.{tree_scope, AreTops}

@@ -1,5 +1,5 @@
 -- A word of a node that the pass owns, and that stands in no tree, is stored: trees, bodies and walks are left.
-use Rattle.std.proofs.Common.{◌≡◌, ◌≢◌, ℕ, List, [], ◌∷◌, ◌++◌, Bool, true, false, Option, Some, None, refl, ap, sym, ◌∙◌, subst, inl, inr}
+use Rattle.std.proofs.Common.{◌≡◌, ◌≢◌, ℕ, false, Option, Some, None, refl, ap, sym, ◌∙◌, subst, inl, inr}
 use Rattle.std.specs.Prelude.{IfSome, Contains, filter, not}
 use Rattle.std.proofs.lemmas.Bool.{false≢true}
 use Rattle.std.proofs.lemmas.Option.{none-some, same_Some}
@@ -10,10 +10,9 @@ use Rattle.core_state.specs.declared.item.Store.{Store}
 use Rattle.core_state.specs.Batches.{store_node}
 use Rattle.core_state.specs.Core.{Core, word_of}
 use Rattle.core_state.specs.Encoding.{layer_of}
-use Rattle.core_state.specs.Guards.{KeepsGuards}
-use Rattle.core_state.specs.Kind.{Kind, Step, after_step}
+use Rattle.core_state.specs.Kind.{Step, after_step}
 use Rattle.core_state.specs.Names.{same_name}
-use Rattle.core_state.specs.Nodes.{Nodes, Home, node_in, owned, returning, IsOwnedBy, IsInTree}
+use Rattle.core_state.specs.Nodes.{Nodes, Home, node_in, owned, IsOwnedBy, IsInTree}
 use Rattle.core_state.specs.LocksAgree.{LocksAgree, lock_scope}
 use Rattle.core_state.specs.BodiesAgree.{BodiesAgree, body_scope, BodiesAgreeIn}
 use Rattle.core_state.specs.NodesInOnePlace.{NodesInOnePlace, node_scope, NodesInOnePlaceIn}
@@ -22,7 +21,6 @@ use Rattle.core_state.specs.LocationsHold.{LocationsHold, is_location_store}
 use Rattle.core_state.specs.BodiesCovered.{BodiesCovered}
 use Rattle.core_state.specs.WalksLead.{WalksLead}
 use Rattle.core_state.specs.ReadersCounted.{ReadersCounted}
-use Rattle.core_state.specs.Scope.{sight}
 use Rattle.core_state.specs.Invariants.{Invariants}
 use Rattle.core_state.proofs.Frames.{frame, step-same}
 use Rattle.core_state.proofs.SameNames.{same_name-refl}

@@ -4,7 +4,7 @@ use Rattle.std.specs.Prelude.{IfSome, IsSome, IsSomeAnd, option_map, get_or}
 use Rattle.std.proofs.lemmas.Bool.{cases_lt, cases_eq}
 use Rattle.std.proofs.lemmas.List.{get_or-map, get_or_default, length-map}
 use Rattle.std.proofs.lemmas.Option.{same_Some}
-use Rattle.word_map.specs.declared.name.Name.TheVariants.{State, LocA}
+use Rattle.word_map.specs.declared.name.Name.TheVariants.{State}
 use Rattle.scene_model.specs.declared.body_view.Phase.TheVariants.{Held, In}
 use Rattle.scene_model.specs.Scene.{Record, record_at}
 use Rattle.scene_model.specs.Step.{HasBody}
@@ -14,11 +14,10 @@ use Rattle.core_state.specs.declared.view.View.{View}
 use Rattle.core_state.specs.View.{IsPass, number_of}
 use Rattle.core_state.specs.Core.{Core, scene_of, IsViewAt}
 use Rattle.core_state.specs.Kind.{Step}
-use Rattle.core_state.specs.Nodes.{Nodes}
 use Rattle.core_state.specs.Parts.{update_on_cover, update_on_places}
 use Rattle.core_state.specs.Placing.{IsToPlace}
 use Rattle.core_state.specs.Scope.{sight, IsOnce}
-use Rattle.core_state.specs.Updates.{IsDone, IsSameBody}
+use Rattle.core_state.specs.Updates.{IsDone}
 use Rattle.core_state.specs.LocationsHold.{location_scope, IsPlannedAt}
 use Rattle.core_state.specs.BodiesCovered.{cover_scope, NotesHold, ExchangesDone, LooksAsNoted, IsInOldTree, IsAsNoted}
 use Rattle.core_state.proofs.Beginning.{body_record, record_body}

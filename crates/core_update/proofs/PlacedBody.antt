@@ -1,5 +1,5 @@
 -- A body that an update is to place: its box is what its words say, and the place that is planned for it is in a new tree.
-use Rattle.std.proofs.Common.{◌≡◌, ◌≢◌, ◌⊎◌, ℕ, zero, suc, ◌<◌, ◌≤◌, Contains, Option, Some, refl, ap, sym, ◌∙◌, subst, inl, inr, arith}
+use Rattle.std.proofs.Common.{◌≡◌, ℕ, zero, suc, ◌<◌, ◌≤◌, refl, sym, subst, inl, inr, arith}
 use Rattle.std.specs.Prelude.{slice_index}
 use Rattle.std.proofs.lemmas.Bool.{cases_eq}
 use Rattle.fixed_box.specs.FixBox.{words_of}
@@ -11,24 +11,22 @@ use Rattle.word_map.specs.Names.{stripe_of}
 use Rattle.core_state.specs.declared.view.Mode.TheVariants.{Write}
 use Rattle.core_state.specs.declared.view.Task.{Task}
 use Rattle.core_state.specs.declared.view.Task.TheVariants.{Nothing, Moving, Placing}
-use Rattle.core_state.specs.declared.view.Noted.{Noted}
 use Rattle.core_state.specs.declared.view.View.{View}
-use Rattle.core_state.specs.View.{IsPass, Holds}
+use Rattle.core_state.specs.View.{Holds}
 use Rattle.core_state.specs.Core.{Core, word_of, IsViewAt}
 use Rattle.core_state.specs.Encoding.{place}
 use Rattle.core_state.specs.Kind.{Kind, Step}
-use Rattle.core_state.specs.Nodes.{Nodes, made}
+use Rattle.core_state.specs.Nodes.{made}
 use Rattle.core_state.specs.Bodies.{HasWholeBox, IsBetweenBoxes, MovesBody}
 use Rattle.core_state.specs.BodiesAgree.{body_scope}
 use Rattle.core_state.specs.Placing.{IsToPlace}
 use Rattle.core_state.specs.Scope.{sight}
 use Rattle.core_guard.proofs.BodyTouch.{stripe-others}
 use Rattle.core_guard.proofs.Leaving.{Acts, IsHandled}
-use Rattle.core_guard.proofs.OnBody.{IsOn}
 use Rattle.core_guard.proofs.Seats.{has-seat}
 use Rattle.core_guard.proofs.Settled.{sound}
 use Rattle.core_state.proofs.Lookups.{at_one}
-use Rattle.core_update.proofs.OwnUpdate.{known, body, planned-at}
+use Rattle.core_update.proofs.OwnUpdate.{body, planned-at}
 
 -- sides of boxes are words of coordinates
 pub side-range : (bounds : FixBox) (side : ℕ) → side < 6 → (1 ≤ slice_index (words_of bounds) side) × (slice_index (words_of bounds) side ≤ 16777216)

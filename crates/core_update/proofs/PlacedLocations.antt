@@ -1,11 +1,11 @@
 -- The law of locations holds after an update has placed a body.
-use Rattle.std.proofs.Common.{◌≡◌, ◌≢◌, ◌⊎◌, ℕ, ◌+◌, ◌<◌, ◌≤◌, List, [], ◌∷◌, ◌++◌, true, length, Contains, Option, Some, None, refl, ap, sym, ◌∙◌, subst, inl, inr, arith}
+use Rattle.std.proofs.Common.{◌≡◌, ◌≢◌, ℕ, ◌≤◌, List, [], ◌∷◌, true, length, Contains, Option, Some, refl, ap, sym, ◌∙◌, subst, inl, inr, arith}
 use Rattle.std.specs.Prelude.{IfSome, IsSomeAnd, option_map}
 use Rattle.std.proofs.lemmas.Bool.{cases_eq}
 use Rattle.std.proofs.lemmas.Option.{same_Some}
 use Rattle.std.proofs.lemmas.List.Elements.{Contains-append_left, Contains-append_right, Contains-append_cases}
 use Rattle.fixed_box.specs.FixBox.{words_of}
-use Rattle.scene_model.specs.declared.body_view.Phase.TheVariants.{Out, Held, In}
+use Rattle.scene_model.specs.declared.body_view.Phase.TheVariants.{Out, Held}
 use Rattle.scene_model.specs.Scene.{Record, record_at}
 use Rattle.scene_model.specs.Step.{HasBody}
 use Rattle.word_map.specs.declared.name.Name.{Name}
@@ -18,31 +18,30 @@ use Rattle.core_state.specs.declared.view.Rebuild.{Rebuild}
 use Rattle.core_state.specs.declared.view.Task.{Task}
 use Rattle.core_state.specs.declared.view.Task.TheVariants.{Nothing, Placing}
 use Rattle.core_state.specs.declared.view.View.{View}
-use Rattle.core_state.specs.View.{IsPass}
-use Rattle.core_state.specs.Core.{Core, word_of, scene_of, IsViewAt}
-use Rattle.core_state.specs.Encoding.{body_child, place, Sides, sides_of}
+use Rattle.core_state.specs.Core.{Core, word_of, scene_of}
+use Rattle.core_state.specs.Encoding.{place, Sides, sides_of}
 use Rattle.core_state.specs.Kind.{Step, after_step}
-use Rattle.core_state.specs.Nodes.{Nodes, made, Stands, IsPublished}
+use Rattle.core_state.specs.Nodes.{Nodes, Stands}
 use Rattle.core_state.specs.Parts.{call_on_places, update_on_places}
 use Rattle.core_state.specs.Placing.{MayPlaceNoted, place_noted}
 use Rattle.core_state.specs.Scope.{Sight, sight, HasPass, scene_in}
 use Rattle.core_state.specs.Bodies.{all_batches}
-use Rattle.core_state.specs.Updates.{HasUpdate, IsStillMerged, IsNoted, IsPlacing, IsDone, IsSameBody}
-use Rattle.core_state.specs.LocationsHold.{LocationsHold, location_scope, IsLocation, IsAt, Encloses, box_in, IsWhere, in_slot, in_main, in_old, in_merged, IsSecondFor, IsPlannedAt, IsPublishedAt, IsPlannedIn, IsUnheld}
+use Rattle.core_state.specs.Updates.{HasUpdate, IsStillMerged, IsNoted, IsPlacing, IsDone}
+use Rattle.core_state.specs.LocationsHold.{LocationsHold, location_scope, IsLocation, IsAt, Encloses, box_in, IsWhere, in_slot, in_main, in_old, in_merged, IsSecondFor, IsPlannedAt, IsPublishedAt, IsPlannedIn}
 use Rattle.core_state.proofs.Beginning.{record_body}
 use Rattle.core_state.proofs.Opening.{only}
 use Rattle.core_state.proofs.Steps.{view-step}
 use Rattle.core_guard.proofs.Leaving.{Acts, After, Last, IsHandled, out_in, held-once, if_some_map, some_and_map, idle-unhandled}
-use Rattle.core_guard.proofs.InPlace.{InPlace, stays-in_place}
+use Rattle.core_guard.proofs.InPlace.{stays-in_place}
 use Rattle.core_guard.proofs.NodesLeft.{flat_from}
 use Rattle.core_guard.proofs.OnBody.{others-else}
 use Rattle.core_guard.proofs.PlacesStay.{BodyIsPlaced, PassIsPlaced, EachPlaced, acting, body-placed, pass-placed, placed-forth, stays-enclosed, encloses-forth, pass-forth, planned-forth, begun-placed, handled-seen, taken-out, seen-task, places-handles}
 use Rattle.core_guard.proofs.Scenes.{none_here}
 use Rattle.core_guard.proofs.Seats.{each-step, has-step, seat-has, seen_of, seen_at, flat-step}
 use Rattle.core_guard.proofs.Alone.{marked-held}
-use Rattle.core_update.proofs.OwnUpdate.{Locating, unheld, there, planned-at, one-note, unexchanged-all}
+use Rattle.core_update.proofs.OwnUpdate.{unheld, there, planned-at, one-note, unexchanged-all}
 use Rattle.core_update.proofs.PlacedBody.{places_it, planned-home}
-use Rattle.core_update.proofs.PlacedNotes.{index, p, u, quiet, placing_on, going_on, o, last, same-call, new-rebuild, next_task, task-joins, task-or, word-same, second-now, second-none, b, b-is, b-in, record-same, m, stays, home, entry, encloses, box-same, word-box}
+use Rattle.core_update.proofs.PlacedNotes.{u, quiet, placing_on, going_on, o, last, same-call, new-rebuild, task-joins, task-or, word-same, second-now, second-none, b, b-is, b-in, record-same, m, stays, home, entry, encloses, box-same, word-box}
 use Rattle.core_update.proofs.SwappedPlaces.{First, OneUpdate, TwoUpdate, OwnGoesOn, goes-on, pass-again, planned-again, body-again}
 
 module _ (core : Core) (step : Step) (a : Acts core step) (asked : MayPlaceNoted step.view step.name step.first step.second) where
@@ -297,8 +296,8 @@ module _ (core : Core) (step : Step) (a : Acts core step) (asked : MayPlaceNoted
       let held = marked-held core a.laws.bodies from.seat from.number from.view from.at from.pass batch marked (subst (λ (v : View). Contains v.batches batch) (sym from.is) from_list.2) inside in
       let here = some_and_map (record_at (scene_of core) marked.index) _ _ (λ r both. both.0) held in
       let apart : marked.index ≢ i = λ one.
-          held-once (record_at (scene_of core) i) (subst (λ (j : ℕ). HasBody (scene_of core) j (λ r. r.phase ≢ Held)) asked.to_place.of_body (unheld core step a asked.index asked.to_place))
-          (subst (λ (j : ℕ). HasBody (scene_of core) j (λ r. r.phase ≡ Held)) one here)
+      held-once (record_at (scene_of core) i) (subst (λ (j : ℕ). HasBody (scene_of core) j (λ r. r.phase ≢ Held)) asked.to_place.of_body (unheld core step a asked.index asked.to_place))
+      (subst (λ (j : ℕ). HasBody (scene_of core) j (λ r. r.phase ≡ Held)) one here)
       in
       let s = stays core step a asked marked.index apart in
       let old = a.laws.locations.held batch marked was inside in

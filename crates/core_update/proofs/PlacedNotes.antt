@@ -1,48 +1,43 @@
 -- An update places a body: its second location is stored. What the law of locations says of the body, of the pass and of all
 -- others then.
-use Rattle.std.proofs.Common.{◌≡◌, ◌≢◌, ◌⊎◌, ℕ, ◌+◌, ◌<◌, ◌≤◌, List, [], ◌∷◌, ◌++◌, Bool, true, false, length, Contains, Option, Some, None, refl, ap, sym, ◌∙◌, subst, inl, inr, arith}
-use Rattle.std.specs.Prelude.{IfSome, IsSomeAnd, option_map, slice_index, if◌then◌else◌, ◌==◌}
+use Rattle.std.proofs.Common.{◌≡◌, ◌≢◌, ℕ, ◌+◌, ◌<◌, [], ◌∷◌, ◌++◌, Bool, true, false, Some, None, refl, ap, sym, ◌∙◌, subst, inl, inr, arith}
+use Rattle.std.specs.Prelude.{option_map, if◌then◌else◌, ◌==◌}
 use Rattle.std.proofs.lemmas.Bool.{cases_eq, ne_eqb}
-use Rattle.std.proofs.lemmas.Option.{none-some, same_Some}
-use Rattle.std.proofs.lemmas.List.Elements.{Contains-append_left, Contains-append_right, Contains-append_cases}
+use Rattle.std.proofs.lemmas.Option.{same_Some}
 use Rattle.fixed_box.specs.FixBox.{words_of}
-use Rattle.scene_model.specs.declared.body_view.Phase.TheVariants.{Out, Held, In}
+use Rattle.scene_model.specs.declared.body_view.Phase.TheVariants.{In}
 use Rattle.scene_model.specs.Scene.{Record, record_at}
-use Rattle.scene_model.specs.Step.{HasBody}
 use Rattle.word_map.specs.declared.name.Name.{Name}
-use Rattle.word_map.specs.declared.name.Name.TheVariants.{Phase, BoxWord, LocA, LocB, Child}
+use Rattle.word_map.specs.declared.name.Name.TheVariants.{Phase, BoxWord, LocB, Child}
 use Rattle.word_map.specs.Names.{stripe_of}
 use Rattle.core_state.specs.declared.view.Mode.TheVariants.{Write}
 use Rattle.core_state.specs.declared.view.Call.{Call}
-use Rattle.core_state.specs.declared.view.Noted.{Noted}
 use Rattle.core_state.specs.declared.view.Rebuild.{Rebuild}
 use Rattle.core_state.specs.declared.view.Task.{Task}
 use Rattle.core_state.specs.declared.view.Task.TheVariants.{Nothing, Placing}
 use Rattle.core_state.specs.declared.view.View.{View}
 use Rattle.core_state.specs.View.{Holds, known_word}
 use Rattle.core_state.specs.Core.{Core, word_of, scene_of}
-use Rattle.core_state.specs.Encoding.{body_child, place, phase_in, phase_join, Sides, sides_of, Covers}
-use Rattle.core_state.specs.Kind.{Kind, Step, learned, after_step, log_after}
+use Rattle.core_state.specs.Encoding.{body_child, phase_in, phase_join, Sides, sides_of, Covers}
+use Rattle.core_state.specs.Kind.{Kind, Step, learned, log_after}
 use Rattle.core_state.specs.Lists.{with_task}
 use Rattle.core_state.specs.Nodes.{Nodes, made, Stands}
-use Rattle.core_state.specs.Parts.{call_by_task, call_on_places, update_on_places}
+use Rattle.core_state.specs.Parts.{call_by_task, update_on_places}
 use Rattle.core_state.specs.Placing.{IsToPlace, MayPlaceNoted, place_noted, placed_by}
 use Rattle.core_state.specs.Scope.{Sight, sight}
-use Rattle.core_state.specs.Updates.{IsNoted, IsSameBody}
-use Rattle.core_state.specs.LocationsHold.{location_scope, IsLocation, IsAt, Encloses, IsWhere, in_slot, in_main, in_old, in_merged, IsSecondFor}
-use Rattle.core_state.proofs.Steps.{word-step, word-step-other, view-step}
+use Rattle.core_state.specs.LocationsHold.{location_scope, Encloses}
+use Rattle.core_state.proofs.Steps.{word-step, word-step-other}
 use Rattle.core_guard.proofs.BodiesStep.{found-now}
 use Rattle.core_guard.proofs.BodyAnew.{turn-leaves}
-use Rattle.core_guard.proofs.Leaving.{Acts, After, Last, Stays, Leaves, scene-plain, stays-by, body_of, out_in}
+use Rattle.core_guard.proofs.Leaving.{Acts, After, Last, Stays, Leaves, scene-plain, stays-by, body_of}
 use Rattle.core_guard.proofs.OnBody.{OnBody, IsOn, removes-else, places-else}
 use Rattle.core_guard.proofs.OneUpdate.{second-placed}
 use Rattle.core_guard.proofs.PlacesLeft.{SeenUpdate}
-use Rattle.core_guard.proofs.PlacesStay.{BodyIsPlaced, PassIsPlaced, pass-placed, encloses-forth}
+use Rattle.core_guard.proofs.PlacesStay.{PassIsPlaced, pass-placed, encloses-forth}
 use Rattle.core_guard.proofs.Recalled.{with_known}
-use Rattle.core_guard.proofs.Seats.{each-seat, seat-has}
-use Rattle.core_guard.proofs.Settled.{StandsStill}
+use Rattle.core_guard.proofs.Seats.{each-seat}
 use Rattle.core_move.proofs.Climbing.{climbed-encloses}
-use Rattle.core_update.proofs.OwnUpdate.{Locating, known, body, unheld, undone, there, planned-at, one-note, unexchanged-all}
+use Rattle.core_update.proofs.OwnUpdate.{Locating, known, body, undone, planned-at}
 use Rattle.core_update.proofs.PlacedBody.{places_it, box-words, planned-home}
 
 pub covers-same : (a b c : Sides) → ((q : ℕ) → q < 6 → b q ≡ c q) → Covers a b → Covers a c

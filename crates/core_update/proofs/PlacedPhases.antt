@@ -1,7 +1,7 @@
 -- Storing the phase of a body that is placed keeps all laws, where the trees are planned and the update has not given the
 -- body up: it is in a tree that is
 -- replaced, still, and from then on it is in the broad phase by its second location.
-use Rattle.std.proofs.Common.{◌≡◌, ◌≢◌, ◌⊎◌, ℕ, ◌+◌, ◌<◌, ◌≤◌, List, [], true, false, length, Contains, Option, Some, None, refl, ap, sym, ◌∙◌, subst, inl, inr, arith}
+use Rattle.std.proofs.Common.{◌≡◌, ◌≢◌, ℕ, ◌+◌, ◌<◌, ◌≤◌, [], true, length, Contains, Option, Some, None, refl, ap, sym, ◌∙◌, subst, inl, inr, arith}
 use Rattle.std.specs.Prelude.{IfSome, IsSome, IsSomeAnd, option_map, ◌-◌}
 use Rattle.std.proofs.lemmas.Bool.{cases_eq, false≢true}
 use Rattle.std.proofs.lemmas.Option.{same_Some}
@@ -20,22 +20,22 @@ use Rattle.core_state.specs.declared.view.Task.{Task}
 use Rattle.core_state.specs.declared.view.Task.TheVariants.{Nothing, Placing}
 use Rattle.core_state.specs.declared.view.View.{View}
 use Rattle.core_state.specs.Log.{history}
-use Rattle.core_state.specs.View.{IsPass, Holds, known_word, no_call}
-use Rattle.core_state.specs.Core.{Core, word_of, scene_of, IsViewAt}
+use Rattle.core_state.specs.View.{Holds, known_word, no_call}
+use Rattle.core_state.specs.Core.{Core, word_of, scene_of}
 use Rattle.core_state.specs.Encoding.{place, phase_in, phase_join, Sides, sides_of}
 use Rattle.core_state.specs.Guards.{scene_at, KeepsGuards}
 use Rattle.core_state.specs.Kind.{Kind, Step, after_step}
 use Rattle.core_state.specs.Lists.{with_task}
-use Rattle.core_state.specs.Nodes.{Nodes, under, made, Stands}
+use Rattle.core_state.specs.Nodes.{Nodes, under, Stands}
 use Rattle.core_state.specs.Bodies.{phase_by, MovesBody}
-use Rattle.core_state.specs.Parts.{call_at, call_on_places, task_on_cover, task_at_place, update_on_places, update_on_cover, update_on_readers}
+use Rattle.core_state.specs.Parts.{call_at, task_on_cover, task_at_place, update_on_places, update_on_cover, update_on_readers}
 use Rattle.core_state.specs.Placing.{MayPlacePhase, place_phase}
-use Rattle.core_state.specs.Scope.{Sight, sight, EachPass, HasPass, bare_view, scene_in}
+use Rattle.core_state.specs.Scope.{Sight, sight, EachPass, bare_view, scene_in}
 use Rattle.core_state.specs.Updates.{IsDone, IsPlacing, IsNoted, IsOldTree, IsStillMerged, HasUpdate}
 use Rattle.core_state.specs.BodiesAgree.{BodiesAgree}
 use Rattle.core_state.specs.TreesSound.{tree_scope, TreesSoundIn}
-use Rattle.core_state.specs.LocationsHold.{LocationsHold, location_scope, IsLocation, IsAt, Encloses, box_in, IsWhere, in_slot, in_main, in_old, in_merged, IsPlannedAt, IsPublishedAt, Removes, is_location_store}
-use Rattle.core_state.specs.BodiesCovered.{BodiesCovered, cover_scope, LooksAsNoted, IsInOldTree, IsAsNoted}
+use Rattle.core_state.specs.LocationsHold.{LocationsHold, location_scope, IsLocation, IsAt, Encloses, box_in, IsWhere, in_slot, in_main, in_old, in_merged, IsPlannedAt, is_location_store}
+use Rattle.core_state.specs.BodiesCovered.{BodiesCovered, cover_scope, LooksAsNoted, IsInOldTree}
 use Rattle.core_state.specs.WalksLead.{walk_scope, WalksLeadIn}
 use Rattle.core_state.specs.ReadersCounted.{reader_scope, ReadersCountedIn}
 use Rattle.core_state.specs.Invariants.{Invariants}
@@ -53,14 +53,13 @@ use Rattle.core_guard.proofs.Leaving.{Acts, After, Last, Stays, Leaves, scene-pl
 use Rattle.core_guard.proofs.LivesGuarded.{IsStripeWord, stripe-guarded}
 use Rattle.core_guard.proofs.OnBody.{OnBody, IsOn, others-else, removes-else, places-else, LocksAgree-on, NodesInOnePlace-on, body-unread}
 use Rattle.core_guard.proofs.PlacesLeft.{SeenUpdate, BodyLeft, body_stays, body_anew, pass_anew, LocationsHold-leaves}
-use Rattle.core_guard.proofs.PlacesStay.{BodyIsPlaced, PassIsPlaced, begun-placed, encloses-forth, second-forth}
+use Rattle.core_guard.proofs.PlacesStay.{BodyIsPlaced, begun-placed, encloses-forth, second-forth}
 use Rattle.core_guard.proofs.ReadersLeft.{some-all}
 use Rattle.core_guard.proofs.Recalled.{law-unseen}
 use Rattle.core_guard.proofs.Scenes.{none_here}
 use Rattle.core_guard.proofs.Seats.{each-seat, each-step, seat-has, seen_of}
 use Rattle.core_guard.proofs.Settled.{StandsStill, settled-still}
 use Rattle.core_update.proofs.OwnUpdate.{Covering, Locating, own-notes, own-planned, unexchanged, note-once, sole-update}
-use Rattle.core_update.proofs.SwappedCover.{UpdateIsRight, all-right}
 use Rattle.core_update.proofs.SwappedPlaces.{First, Second, SwapsPlaces, LocationsHold-swap}
 
 module _ (core : Core) (step : Step) (a : Acts core step) (asked : MayPlacePhase step.view step.name step.first step.second) (planned : asked.r.is_planned ≡ true) (kept : ¬ Contains asked.r.given_up asked.index) where

@@ -1,12 +1,12 @@
 -- All laws hold after an update has placed a body: that of cover counts it as placed, and the others see its second location
 -- or what the pass is at.
-use Rattle.std.proofs.Common.{◌≡◌, ◌≢◌, ◌⊎◌, ℕ, ◌+◌, ◌<◌, ◌≤◌, List, [], ◌∷◌, ◌++◌, Bool, true, false, length, Contains, Option, Some, None, refl, ap, sym, ◌∙◌, subst, inl, inr, arith}
+use Rattle.std.proofs.Common.{◌≡◌, ◌≢◌, ℕ, ◌<◌, [], ◌∷◌, ◌++◌, Option, Some, None, refl, ap, sym, ◌∙◌, subst, inl, inr, arith}
 use Rattle.std.specs.Prelude.{IfSome, IsSome, IsSomeAnd, option_map}
 use Rattle.std.proofs.lemmas.Bool.{cases_eq, false≢true}
-use Rattle.std.proofs.lemmas.Option.{none-some, same_Some}
+use Rattle.std.proofs.lemmas.Option.{same_Some}
 use Rattle.std.proofs.lemmas.List.Elements.{Contains-append_left, Contains-append_cases}
 use Rattle.scene_model.specs.declared.body_view.Phase.TheVariants.{Held}
-use Rattle.scene_model.specs.Scene.{Record, record_at}
+use Rattle.scene_model.specs.Scene.{Record}
 use Rattle.scene_model.specs.Step.{HasBody}
 use Rattle.word_map.specs.declared.name.Name.{Name}
 use Rattle.word_map.specs.declared.name.Name.TheVariants.{State, Phase, Layer, LocA, LocB, Bound, Reader}
@@ -15,21 +15,19 @@ use Rattle.core_state.specs.declared.view.Call.{Call}
 use Rattle.core_state.specs.declared.view.Noted.{Noted}
 use Rattle.core_state.specs.declared.view.Rebuild.{Rebuild}
 use Rattle.core_state.specs.declared.view.Task.{Task}
-use Rattle.core_state.specs.declared.view.Task.TheVariants.{Nothing, Placing}
 use Rattle.core_state.specs.declared.view.View.{View}
 use Rattle.core_state.specs.declared.view.Mode.TheVariants.{Write}
-use Rattle.core_state.specs.View.{IsPass, Holds}
-use Rattle.core_state.specs.Core.{Core, word_of, scene_of, IsViewAt}
+use Rattle.core_state.specs.View.{Holds}
+use Rattle.core_state.specs.Core.{Core, word_of, scene_of}
 use Rattle.core_state.specs.Bodies.{MovesBody}
 use Rattle.core_state.specs.Encoding.{phase_join}
 use Rattle.core_state.specs.Kind.{Kind, Step, after_step, log_after}
 use Rattle.core_state.specs.Nodes.{Nodes}
 use Rattle.core_state.specs.Parts.{call_at, task_on_pool, task_on_cover, task_at_place, update_on_nodes, update_on_trees, update_on_cover, update_on_readers}
 use Rattle.core_state.specs.Placing.{IsToPlace, MayPlaceNoted, place_noted}
-use Rattle.core_state.specs.Scope.{Scope, Sight, sight, EachPass, bare_view, scene_in}
+use Rattle.core_state.specs.Scope.{Scope, Sight, sight, EachPass, bare_view}
 use Rattle.core_state.specs.Space.{IsTarget}
-use Rattle.core_state.specs.Updates.{IsNoted, IsPlacing, IsDone}
-use Rattle.core_state.specs.LocksAgree.{lock_scope}
+use Rattle.core_state.specs.Updates.{IsPlacing, IsDone}
 use Rattle.core_state.specs.BodiesAgree.{body_scope, BodiesAgreeIn}
 use Rattle.core_state.specs.NodesInOnePlace.{node_scope, NodesInOnePlaceIn}
 use Rattle.core_state.specs.TreesSound.{tree_scope, TreesSoundIn}
@@ -40,25 +38,23 @@ use Rattle.core_state.specs.ReadersCounted.{ReadersCounted, ReadersCountedIn, re
 use Rattle.core_state.specs.Invariants.{Invariants}
 use Rattle.core_state.proofs.Opening.{only}
 use Rattle.core_guard.proofs.BodyAnew.{turn-leaves}
-use Rattle.core_guard.proofs.BodyTouch.{stripe-others}
 use Rattle.core_guard.proofs.CallsAgree.{BodiesAgree-beside}
 use Rattle.core_guard.proofs.CoverLeft.{BodyAfter, IsNotedRight, BodyIsCovered, as_it_was, anew, BodiesCovered-leaves}
 use Rattle.core_guard.proofs.Holders.{IsGuarded, guarded}
-use Rattle.core_guard.proofs.InPlace.{stays-in_place}
-use Rattle.core_guard.proofs.Leaving.{Acts, After, Last, IsHandled, Stays, Leaves, stays-by, body_of, lawful, some_and_map}
+use Rattle.core_guard.proofs.Leaving.{Acts, After, Last, IsHandled, Stays, Leaves, stays-by, body_of, lawful}
 use Rattle.core_guard.proofs.LivesGuarded.{IsStripeWord, stripe-guarded}
 use Rattle.core_guard.proofs.LockSteps.{LocksAgree-other}
 use Rattle.core_guard.proofs.OnBody.{OnBody, IsOn, nobody-does, others-else, removes-else, places-else, NodesInOnePlace-on, body-unread}
 use Rattle.core_guard.proofs.PlacesStay.{removes-handles}
-use Rattle.core_guard.proofs.ReadersLeft.{Counts, KeepsTargets, ReadersCounted-leaves, layers-kept, gives-kept, in_place-keeps, some-all}
+use Rattle.core_guard.proofs.ReadersLeft.{Counts, KeepsTargets, ReadersCounted-leaves, layers-kept, gives-kept, some-all}
 use Rattle.core_guard.proofs.Recalled.{law-unseen}
 use Rattle.core_guard.proofs.Seats.{each-step, has-seat, seen_of}
 use Rattle.core_guard.proofs.Touched.{IsKept, kept}
-use Rattle.core_update.proofs.OwnUpdate.{own-notes, unheld, undone, unexchanged-all, sole-update}
-use Rattle.core_update.proofs.PlacedNotes.{next_task, task-joins, task-or, word-same, second-now, second-none, last, same-call, new-rebuild, u, b, b-is, b-in, record-same, of_body}
+use Rattle.core_update.proofs.OwnUpdate.{unheld, undone, unexchanged-all, sole-update}
+use Rattle.core_update.proofs.PlacedNotes.{next_task, task-joins, task-or, word-same, second-now, second-none, last, same-call, new-rebuild, u, record-same, of_body}
 use Rattle.core_update.proofs.PlacedLocations.{LocationsHold-placed, location-on}
 use Rattle.core_update.proofs.Swapped.{law-swap}
-use Rattle.core_update.proofs.SwappedCover.{UpdateIsRight, all-right, FirstCover, SecondCover, BodiesCovered-swap, right-more, removed-again, removes-from_cover, places-from_cover}
+use Rattle.core_update.proofs.SwappedCover.{UpdateIsRight, all-right, FirstCover, SecondCover, BodiesCovered-swap, right-more, removed-again, removes-from_cover}
 
 module _ (core : Core) (step : Step) (a : Acts core step) (asked : MayPlaceNoted step.view step.name step.first step.second) where
   abbrev nodes : Nodes

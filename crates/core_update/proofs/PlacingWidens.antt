@@ -1,6 +1,6 @@
 -- Widening a side of a bound to place a body keeps all laws: the bound is in a new tree, above the place that is planned for
 -- the body, and the side is one of its box.
-use Rattle.std.proofs.Common.{◌≡◌, ◌≢◌, ◌⊎◌, ℕ, ◌<◌, ◌≤◌, List, [], ◌∷◌, ◌++◌, true, length, Contains, Option, Some, None, refl, ap, sym, ◌∙◌, subst, inl, inr, arith, ◌↔◌}
+use Rattle.std.proofs.Common.{◌≡◌, ◌≢◌, ◌⊎◌, ℕ, ◌<◌, ◌≤◌, List, [], ◌∷◌, ◌++◌, true, length, Contains, Option, Some, None, refl, ap, sym, ◌∙◌, subst, inl, inr, arith}
 use Rattle.std.specs.Prelude.{IsSomeAnd, IfSome, option_map}
 use Rattle.std.proofs.lemmas.Option.{same_Some, none-some}
 use Rattle.std.proofs.lemmas.List.Elements.{Contains-append_cases}
@@ -22,16 +22,16 @@ use Rattle.core_state.specs.declared.view.View.{View}
 use Rattle.core_state.specs.View.{IsPass, Holds, known_word}
 use Rattle.core_state.specs.declared.view.Mode.TheVariants.{Write}
 use Rattle.core_state.specs.Core.{Core, word_of, scene_of, IsViewAt}
-use Rattle.core_state.specs.Encoding.{place, Sides, sides_of}
+use Rattle.core_state.specs.Encoding.{place, sides_of}
 use Rattle.core_state.specs.Guards.{KeepsGuards}
 use Rattle.core_state.specs.Bodies.{MovesBody}
 use Rattle.core_state.specs.Kind.{Kind, Step, Steps, found_by, left_by, learned, after_step, log_after}
 use Rattle.core_state.specs.Moving.{HasComeTo, at_start}
-use Rattle.core_state.specs.Nodes.{Nodes, Home, made, IsLive, Stands, IsOfLayer, Above}
+use Rattle.core_state.specs.Nodes.{Nodes, Home, made, IsLive, Stands, Above}
 use Rattle.core_state.specs.Operation.{Operation, fetch_min, fetch_max}
 use Rattle.core_state.specs.Parts.{call_at, call_by_task, call_on_places, task_at_place, update_on_cover, update_on_places, update_on_readers}
 use Rattle.core_state.specs.Placing.{IsToPlace, IsPlannedPlace, MayWidenToPlace, begins_placing, goes_on_placing, widened_to_place, MayWidenLowToPlace, MayWidenHighToPlace, widen_low_placing, widen_high_placing}
-use Rattle.core_state.specs.Scope.{Scope, Sight, sight, bare_view}
+use Rattle.core_state.specs.Scope.{Sight, sight, bare_view}
 use Rattle.core_state.specs.Space.{HadAs, IsInLayer}
 use Rattle.core_state.specs.Updates.{IsNoted, IsPlacing, IsStillMerged}
 use Rattle.core_state.specs.LocksAgree.{lock_scope}
@@ -63,7 +63,7 @@ use Rattle.core_guard.proofs.Still.{come-up}
 use Rattle.core_guard.proofs.CallsAgree.{BodiesAgree-beside}
 use Rattle.core_move.proofs.MoveSteps.{above-home}
 use Rattle.core_move.proofs.Widening.{IsWider, min-wider, max-wider}
-use Rattle.core_update.proofs.OwnUpdate.{known, body, unheld, there, own-notes, one-note, planned-at}
+use Rattle.core_update.proofs.OwnUpdate.{known, body, unheld, there, own-notes, one-note}
 use Rattle.core_update.proofs.PlacedBody.{PlacesOnly, nothing_yet, places_it, places-so, side-range, box-words, planned-home}
 use Rattle.core_update.proofs.PlacingLoads.{planned-seen}
 use Rattle.core_update.proofs.Swapped.{law-swap}
@@ -235,7 +235,7 @@ module _ (operation : Operation) (index : ℕ) (core : Core) (step : Step) (a : 
   value : step.first ≡ sides_of (words_of (body core step a index p).0.bounds) side
   value =
       may.side ∙ (ap (λ (j : ℕ). known_word step.view (BoxWord j side)) (sym p.of_body) ∙ (sym ((known core step a index p).words (BoxWord i side) refl)
-          ∙ box-words core step a index p only-places widens side below))
+      ∙ box-words core step a index p only-places widens side below))
 
   range : (1 ≤ step.first) × (step.first ≤ 16777216)
   range = subst (λ (v : ℕ). (1 ≤ v) × (v ≤ 16777216)) (sym value) (side-range (body core step a index p).0.bounds side below)

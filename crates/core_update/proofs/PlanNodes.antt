@@ -24,12 +24,10 @@ use Rattle.core_state.specs.Nodes.{Nodes, Home, free, spare, owned, made, under,
 use Rattle.core_state.specs.Noting.{with_update, with_written}
 use Rattle.core_state.specs.Operation.{store}
 use Rattle.core_state.specs.Parts.{task_on_pool, update_on_nodes}
-use Rattle.core_state.specs.Scope.{Sight, sight, HasPass, EachPass, IsOnce}
-use Rattle.core_state.specs.Bodies.{all_batches}
+use Rattle.core_state.specs.Scope.{Sight, sight, HasPass, IsOnce}
 use Rattle.core_state.specs.Updates.{EachUpdate, HasUpdate, IsMadeIn, arena_of, arena_after}
-use Rattle.core_state.specs.NodesInOnePlace.{NodesInOnePlace, node_scope, IsPooling, PoolsUnder, IsOfReplaced, NamesArena, IsArenaUnread}
+use Rattle.core_state.specs.NodesInOnePlace.{NodesInOnePlace, node_scope, IsPooling, PoolsUnder, IsOfReplaced, NamesArena}
 use Rattle.core_guard.proofs.Leaving.{Acts, Last, other-number}
-use Rattle.core_guard.proofs.Owners.{same-view}
 use Rattle.core_guard.proofs.Seats.{has-seat, seat-has, each-seat, seat-after, stepped, stayed, seen_of}
 use Rattle.core_update.proofs.PlacingWidens.{made-once}
 use Rattle.core_update.proofs.Swapped.{each-swap, has-swap, flat-swap, fold-swap}

@@ -1,36 +1,30 @@
 -- The new trees stand once they are planned: their nodes are in them, and they are sound.
-use Rattle.std.proofs.Common.{◌≡◌, ◌≢◌, ◌⊎◌, ◌↔◌, ℕ, suc, ◌<◌, ◌≤◌, List, [], Bool, true, false, length, Contains, Option, Some, None, refl, ap, sym, ◌∙◌, subst, inl, inr, arith}
-use Rattle.std.specs.Prelude.{IfSome, IsSomeAnd, option_map, slice_index}
-use Rattle.std.proofs.lemmas.Bool.{false≢true}
+use Rattle.std.proofs.Common.{◌≡◌, ℕ, suc, ◌<◌, ◌≤◌, List, true, length, Contains, Option, Some, refl, ap, sym, ◌∙◌, subst, inl, inr, arith}
+use Rattle.std.specs.Prelude.{IsSomeAnd, option_map, slice_index}
 use Rattle.word_map.specs.declared.config.Config.{Config}
 use Rattle.word_map.specs.declared.name.Name.{Name}
-use Rattle.word_map.specs.declared.name.Name.TheVariants.{Child, Bound, Parent}
-use Rattle.core_state.specs.declared.view.Noted.{Noted}
+use Rattle.word_map.specs.declared.name.Name.TheVariants.{Child, Parent}
 use Rattle.core_state.specs.declared.view.Rebuild.{Rebuild}
-use Rattle.core_state.specs.declared.view.View.{View}
-use Rattle.core_state.specs.Batches.{store_node}
-use Rattle.core_state.specs.Core.{Core, word_of}
-use Rattle.core_state.specs.Encoding.{place, body_child, node_child, IsBox, bound_in}
-use Rattle.core_state.specs.Kind.{Kind, Step, after_step}
-use Rattle.core_state.specs.Nodes.{Nodes, Home, node_in, owned, made, IsInTree, Stands}
+use Rattle.core_state.specs.Core.{Core}
+use Rattle.core_state.specs.Encoding.{IsBox}
+use Rattle.core_state.specs.Kind.{Step, after_step}
+use Rattle.core_state.specs.Nodes.{Nodes, Home, owned, made, IsInTree}
 use Rattle.core_state.specs.Noting.{MayFinishPlan, finish_plan, with_plan, new_node, IsNewTree, IsNewPart, IsBelowNewRoot}
 use Rattle.core_state.specs.Noting as noting
 use Rattle.core_state.specs.Parts.{update_on_trees}
-use Rattle.core_state.specs.Scope.{Sight, sight}
-use Rattle.core_state.specs.Updates.{HasUpdate, IsMadeIn}
+use Rattle.core_state.specs.Scope.{Sight}
+use Rattle.core_state.specs.Updates.{HasUpdate}
 use Rattle.core_state.specs.TreesSound.{tree_scope, IsRootOf, IsChild, IsPlaced, as_root, at_place, IsSoundNode, RootsMade}
 use Rattle.core_state.specs.TreesSound as trees
-use Rattle.core_state.proofs.Opening.{none_in}
 use Rattle.core_state.proofs.Steps.{view-step}
-use Rattle.core_guard.proofs.Leaving.{Acts, After, Last}
+use Rattle.core_guard.proofs.Leaving.{Acts, Last}
 use Rattle.core_guard.proofs.Seats.{seat-has}
 use Rattle.core_guard.proofs.Settled.{sound}
 use Rattle.core_update.proofs.EarlyUpdate.{own-home, unmade}
 use Rattle.core_update.proofs.OwnUpdate.{own-notes}
-use Rattle.core_update.proofs.PlacingWidens.{made-once}
 use Rattle.core_update.proofs.PlanNodes.{MakesHomes, planning}
 use Rattle.core_update.proofs.PlanTrees.{PlansTrees, Second}
-use Rattle.core_update.proofs.PlanWhole.{kind, M, R, N, W, K, whole, agree, child-now, parent-now, bound-now, later, made-home, made-depth, HomeThen, as_before, in_new, home-then}
+use Rattle.core_update.proofs.PlanWhole.{M, R, N, W, K, whole, child-now, parent-now, bound-now, later, made-home, made-depth, as_before, in_new, home-then}
 
 pub made-layer : (p q k l : ℕ) → made p k ≡ made q l → k ≡ l
 made-layer p q k l e = ap layer_of_home e

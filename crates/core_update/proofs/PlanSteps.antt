@@ -1,27 +1,25 @@
 -- All laws hold after the last store of a plan: what they say of the new trees is what the step asks.
-use Rattle.std.proofs.Common.{◌≡◌, ◌≢◌, ◌⊎◌, ℕ, ◌+◌, ◌<◌, ◌≤◌, List, [], true, false, length, Contains, Option, Some, None, refl, ap, sym, ◌∙◌, subst, inl, inr, arith}
+use Rattle.std.proofs.Common.{◌≡◌, ◌⊎◌, ℕ, ◌+◌, ◌<◌, ◌≤◌, List, true, length, Contains, Option, Some, refl, ap, sym, ◌∙◌, subst, inl, inr, arith}
 use Rattle.std.specs.Prelude.{IfSome, IsSomeAnd, option_map}
-use Rattle.std.proofs.lemmas.Bool.{cases_eq, false≢true}
+use Rattle.std.proofs.lemmas.Bool.{false≢true}
 use Rattle.scene_model.specs.declared.entry.Made.{Made as MadeEntry}
-use Rattle.word_map.specs.declared.name.Name.{Name}
-use Rattle.word_map.specs.declared.name.Name.TheVariants.{Child, Bound}
+use Rattle.word_map.specs.declared.name.Name.TheVariants.{Child}
 use Rattle.core_state.specs.declared.view.Call.{Call}
 use Rattle.core_state.specs.declared.view.Noted.{Noted}
 use Rattle.core_state.specs.declared.view.Rebuild.{Rebuild}
 use Rattle.core_state.specs.declared.view.Task.{Task}
 use Rattle.core_state.specs.declared.view.Task.TheVariants.{Nothing}
-use Rattle.core_state.specs.declared.view.View.{View}
 use Rattle.core_state.specs.View.{no_call}
 use Rattle.core_state.specs.Batches.{store_node}
-use Rattle.core_state.specs.Core.{Core, word_of}
-use Rattle.core_state.specs.Encoding.{body_child, place, sides_of, bound_in}
+use Rattle.core_state.specs.Core.{Core}
+use Rattle.core_state.specs.Encoding.{body_child, place, sides_of}
 use Rattle.core_state.specs.Kind.{Kind, Step, after_step}
-use Rattle.core_state.specs.Nodes.{Nodes, Home, node_in, owned, made, IsLive, IsInTree}
+use Rattle.core_state.specs.Nodes.{Nodes, node_in, owned, made, IsLive, IsInTree}
 use Rattle.core_state.specs.Noting.{MayFinishPlan, finish_plan, with_plan, new_node, IsNewTree, IsNewPart, HasSideBelow}
 use Rattle.core_state.specs.Noting as noting
 use Rattle.core_state.specs.Parts.{call_at, call_by_task, call_on_places, task_on_cover, update_on_places, update_on_cover, update_on_readers}
 use Rattle.core_state.specs.Scope.{Sight, sight, HasPass, bare_view}
-use Rattle.core_state.specs.Space.{HadAs, IsInHull}
+use Rattle.core_state.specs.Space.{HadAs}
 use Rattle.core_state.specs.Updates.{HasUpdate, IsNoted, IsStillMerged}
 use Rattle.core_state.specs.LocksAgree.{lock_scope, LocksAgreeIn}
 use Rattle.core_state.specs.BodiesAgree.{body_scope, BodiesAgreeIn}
@@ -35,7 +33,7 @@ use Rattle.core_state.proofs.Opening.{none_in}
 use Rattle.core_state.proofs.Steps.{view-step}
 use Rattle.core_guard.proofs.Cleared.{above-same}
 use Rattle.core_guard.proofs.Holders.{IsGuarded, guarded}
-use Rattle.core_guard.proofs.Leaving.{Acts, After, Last, live-stands, stands-in_tree}
+use Rattle.core_guard.proofs.Leaving.{Acts, Last}
 use Rattle.core_guard.proofs.PlacesStay.{PassIsPlaced, begun-placed}
 use Rattle.core_guard.proofs.Seats.{seat-has, seen_of}
 use Rattle.core_guard.proofs.Touched.{IsKept, kept}
@@ -44,7 +42,7 @@ use Rattle.core_update.proofs.OwnGuards.{own-guarded}
 use Rattle.core_update.proofs.OwnUpdate.{own-notes}
 use Rattle.core_update.proofs.OwnNodes.{LocksAgree-own_node, BodiesAgree-own_node, NodesInOnePlace-own_node, TreesSound-own_node, LocationsHold-own_node, BodiesCovered-own_node, WalksLead-own_node, ReadersCounted-own_node}
 use Rattle.core_update.proofs.PlacingWidens.{made-once}
-use Rattle.core_update.proofs.PlanNodes.{NodesInOnePlace-plan, owned-made}
+use Rattle.core_update.proofs.PlanNodes.{NodesInOnePlace-plan}
 use Rattle.core_update.proofs.PlanTrees.{TreesSound-plan}
 use Rattle.core_update.proofs.PlanStands.{Made, Later, u, two, own-then, makes, trees-then, tree-of, made-layer}
 use Rattle.core_update.proofs.PlanWhole.{M, R, N, W, K, whole, child-now, bound-now, up-forth, made-home, as_before, in_new, home-then}

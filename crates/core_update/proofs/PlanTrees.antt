@@ -1,31 +1,27 @@
 -- A store with which the update of the pass notes nodes of its new trees, or that they stand: the trees are sound still, where
 -- the nodes that come to stand are.
-use Rattle.std.proofs.Common.{◌≡◌, ◌≢◌, ◌⊎◌, ℕ, suc, ◌<◌, ◌≤◌, List, Bool, true, false, length, map, Contains, Option, Some, None, refl, ap, sym, ◌∙◌, subst, inl, inr, arith}
+use Rattle.std.proofs.Common.{◌≡◌, ℕ, suc, ◌<◌, ◌≤◌, List, Bool, length, map, Contains, Option, Some, refl, ap, sym, ◌∙◌, subst, inl, inr, arith}
 use Rattle.std.specs.Prelude.{IfSome, IsSomeAnd, option_map, slice_index, slice_index_or}
-use Rattle.std.proofs.lemmas.Bool.{cases_eq}
 use Rattle.std.proofs.lemmas.Option.{none-some}
 use Rattle.word_map.specs.declared.name.Name.{Name}
-use Rattle.word_map.specs.declared.name.Name.TheVariants.{Child, Bound, Parent, Main, Slot}
+use Rattle.word_map.specs.declared.name.Name.TheVariants.{Child, Bound, Parent}
 use Rattle.core_state.specs.declared.item.Store.{Store}
 use Rattle.core_state.specs.declared.view.Merged.{Merged}
 use Rattle.core_state.specs.declared.view.NewNode.{NewNode}
 use Rattle.core_state.specs.declared.view.Rebuild.{Rebuild}
-use Rattle.core_state.specs.declared.view.View.{View}
 use Rattle.core_state.specs.declared.view.Waiting.{Waiting}
 use Rattle.core_state.specs.Batches.{store_node}
 use Rattle.core_state.specs.Core.{Core}
-use Rattle.core_state.specs.Encoding.{NamesRoot}
-use Rattle.core_state.specs.Kind.{Kind, Step, after_step}
+use Rattle.core_state.specs.Kind.{Step, after_step}
 use Rattle.core_state.specs.Nodes.{Nodes, Home, node_in, owned, made, under, superseded, returning, IsOwnedBy, Stands, IsInTree}
 use Rattle.core_state.specs.Noting.{IsEarly}
 use Rattle.core_state.specs.Parts.{update_on_trees}
 use Rattle.core_state.specs.Scope.{Sight, sight, HasPass, IsOnce}
 use Rattle.core_state.specs.Updates.{EachUpdate, HasUpdate, merged_tree}
-use Rattle.core_state.specs.TreesSound.{TreesSound, tree_scope, IsSupersededRoot, of_main, of_slot, IsRootOf, IsChild, nothing, a_body, a_node, IsPlaced, as_root, at_place, IsSoundNode, IsAsStored, IsLeft, as_top, below, IsLeftNode, IsTop, AreTops, RootsMade, RootsSuperseded}
-use Rattle.core_guard.proofs.Leaving.{Acts, Last, if_some_map, if_some_with, some_and_map, stands-in_tree, other-number}
-use Rattle.core_guard.proofs.Seats.{seen_of}
+use Rattle.core_state.specs.TreesSound.{TreesSound, tree_scope, IsSupersededRoot, of_main, of_slot, IsRootOf, IsChild, nothing, a_body, a_node, IsPlaced, as_root, at_place, IsSoundNode, IsAsStored, IsLeft, as_top, below, IsLeftNode, AreTops, RootsMade, RootsSuperseded}
+use Rattle.core_guard.proofs.Leaving.{Acts, if_some_map, if_some_with, some_and_map, stands-in_tree}
 use Rattle.core_update.proofs.EarlyUpdate.{unmade}
-use Rattle.core_update.proofs.PlanNodes.{planning, MakesHomes, home-forth, home-back}
+use Rattle.core_update.proofs.PlanNodes.{planning, MakesHomes, home-back}
 use Rattle.core_update.proofs.Swapped.{each-swap, has-swap}
 
 -- what stands in an own node stands in one of a new tree

@@ -1,6 +1,6 @@
 -- With the last store of a plan the new trees stand: what the pass knows of the words of its own nodes is what there is.
-use Rattle.std.proofs.Common.{◌≡◌, ◌≢◌, ◌⊎◌, ℕ, suc, ◌+◌, ◌<◌, List, [], ◌∷◌, ◌++◌, Bool, true, false, Contains, Option, Some, None, refl, ap, sym, ◌∙◌, subst, inl, inr, arith}
-use Rattle.std.specs.Prelude.{◌==◌, if◌then◌else◌, flat_map, map, slice_index}
+use Rattle.std.proofs.Common.{◌≡◌, ℕ, ◌<◌, List, [], ◌∷◌, ◌++◌, Bool, true, false, Contains, Option, Some, None, refl, ap, sym, ◌∙◌, subst, inl, inr, arith}
+use Rattle.std.specs.Prelude.{◌==◌, if◌then◌else◌, flat_map, map}
 use Rattle.std.proofs.lemmas.Bool.{cases_eq, ne_eqb, eq-eqb}
 use Rattle.std.proofs.lemmas.Option.{same_Some, none-some}
 use Rattle.std.proofs.lemmas.List.Elements.{Contains-append_left, Contains-append_right}
@@ -8,16 +8,14 @@ use Rattle.word_map.specs.declared.config.Config.{Config}
 use Rattle.word_map.specs.declared.name.Name.{Name}
 use Rattle.word_map.specs.declared.name.Name.TheVariants.{Child, Bound, Parent}
 use Rattle.core_state.specs.declared.view.NewNode.{NewNode}
-use Rattle.core_state.specs.declared.view.Noted.{Noted}
 use Rattle.core_state.specs.declared.view.Rebuild.{Rebuild}
-use Rattle.core_state.specs.View.{known_word}
 use Rattle.core_state.specs.Names.{same_name}
 use Rattle.core_state.specs.Core.{Core, word_of}
-use Rattle.core_state.specs.Encoding.{place, body_child, node_child, IsBox, bound_in}
+use Rattle.core_state.specs.Encoding.{place}
 use Rattle.core_state.specs.Guards.{private_nodes, by_node}
-use Rattle.core_state.specs.Kind.{Kind, Step, after_step}
+use Rattle.core_state.specs.Kind.{Kind, Step}
 use Rattle.core_state.specs.Nodes.{Nodes, Home, node_in, made, Above, here, higher}
-use Rattle.core_state.specs.Noting.{MayFinishPlan, finish_plan, made_with, roots_with, with_new_node, new_node, known_with, AreNewTrees, IsNewTree, HasNoTree, IsNewPart, IsBelowNewRoot, IsNewEntry}
+use Rattle.core_state.specs.Noting.{MayFinishPlan, finish_plan, made_with, roots_with, with_new_node, new_node, known_with, AreNewTrees, IsNewTree}
 use Rattle.core_state.proofs.Beginning.{cases_cons}
 use Rattle.core_state.proofs.Opening.{none_in}
 use Rattle.core_state.proofs.SameNames.{same_name-refl, cases_name, same_name-other}

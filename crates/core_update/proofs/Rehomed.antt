@@ -1,18 +1,16 @@
 -- The laws of locations and of cover where nodes come to stand in new trees, and nothing else changes.
-use Rattle.std.proofs.Common.{◌≡◌, ◌≢◌, ◌⊎◌, ℕ, ◌<◌, ◌≤◌, List, true, length, Contains, Option, Some, refl, ap, sym, ◌∙◌, subst, inl, inr}
-use Rattle.std.specs.Prelude.{IfSome}
-use Rattle.word_map.specs.declared.name.Name.{Name}
-use Rattle.word_map.specs.declared.name.Name.TheVariants.{Main, Child}
+use Rattle.std.proofs.Common.{◌≡◌, ◌⊎◌, ℕ, ◌<◌, ◌≤◌, true, length, Contains, sym, ◌∙◌, subst, inl, inr}
+use Rattle.word_map.specs.declared.name.Name.TheVariants.{Child}
 use Rattle.core_state.specs.declared.view.Noted.{Noted}
 use Rattle.core_state.specs.declared.view.Rebuild.{Rebuild}
 use Rattle.core_state.specs.declared.view.View.{View}
 use Rattle.core_state.specs.Encoding.{body_child, place}
-use Rattle.core_state.specs.Nodes.{Nodes, Home, under, superseded, made, IsLive, Stands, IsInTree, IsPublished, IsOfLayer}
+use Rattle.core_state.specs.Nodes.{Nodes, Home, under, made, IsLive, Stands, IsInTree, IsPublished, IsOfLayer}
 use Rattle.core_state.specs.Scope.{Sight, HasPass}
 use Rattle.core_state.specs.Updates.{HasUpdate, IsNoted, IsOldTree}
 use Rattle.core_state.specs.LocationsHold.{LocationsHoldIn, IsWhere, in_slot, in_main, in_old, in_merged, IsPlannedAt, IsTakenOut}
 use Rattle.core_state.specs.BodiesCovered.{BodiesCoveredIn, NotesHold, IsInOldTree}
-use Rattle.core_guard.proofs.Leaving.{if_some_map, live-stands, stands-in_tree, old-stands, published-stands}
+use Rattle.core_guard.proofs.Leaving.{if_some_map, live-stands, stands-in_tree, old-stands}
 use Rattle.core_update.proofs.SwappedReaders.{OnlyMakes}
 
 module _ (nodes later : Nodes) (k : OnlyMakes nodes later) (s : Sight) where
@@ -51,7 +49,7 @@ module _ (nodes later : Nodes) (k : OnlyMakes nodes later) (s : Sight) where
   -- the entries of the new trees are noted
   pub LocationsHold-rehomed : LocationsHoldIn nodes s
       → ((i n x number l : ℕ) → later.home n ≡ made number l → x < 4 → s.word (Child n x) ≡ body_child i
-          → (nodes.home n ≡ made number l) ⊎ HasPass s number (λ view. HasUpdate view (λ r. IsNoted r i (λ noted. (noted.place ≡ place n x) × (noted.layer ≡ l)))))
+      → (nodes.home n ≡ made number l) ⊎ HasPass s number (λ view. HasUpdate view (λ r. IsNoted r i (λ noted. (noted.place ≡ place n x) × (noted.layer ≡ l)))))
       → LocationsHoldIn later s
   LocationsHold-rehomed h new = record {
     at = λ i r n x e inside location. let t = h.at i r n x e inside location in record { stands = stands-then n t.stands; entry = t.entry; bounds = t.bounds; box_words = t.box_words };

@@ -1,6 +1,6 @@
 -- The law of cover of two kinds of step that store alike: where it holds after the one it holds after the other, if it is so of
 -- the stepping pass.
-use Rattle.std.proofs.Common.{◌≡◌, ◌≢◌, ℕ, ◌<◌, ◌≤◌, List, [], length, map, Contains, Option, Some, refl, ap, sym, ◌∙◌, subst, ◌⊎◌, inl, inr}
+use Rattle.std.proofs.Common.{◌≡◌, ◌≢◌, ℕ, ◌<◌, List, [], map, Contains, Option, Some, refl, subst, ◌⊎◌, inl, inr}
 use Rattle.std.specs.Prelude.{IfSome, option_map}
 use Rattle.scene_model.specs.declared.body_view.Phase.TheVariants.{In}
 use Rattle.scene_model.specs.Scene.{Record, record_at}
@@ -10,7 +10,7 @@ use Rattle.word_map.specs.declared.name.Name.TheVariants.{Phase, LocA, LocB}
 use Rattle.core_state.specs.declared.view.Noted.{Noted}
 use Rattle.core_state.specs.declared.view.Rebuild.{Rebuild}
 use Rattle.core_state.specs.declared.view.Task.{Task}
-use Rattle.core_state.specs.declared.view.Task.TheVariants.{Nothing, Creating, Destroying, Pooling, Moving, Removing, Placing}
+use Rattle.core_state.specs.declared.view.Task.TheVariants.{Removing, Placing}
 use Rattle.core_state.specs.declared.view.View.{View}
 use Rattle.core_state.specs.Core.{Core}
 use Rattle.core_state.specs.Encoding.{place, phase_join, sides_of}

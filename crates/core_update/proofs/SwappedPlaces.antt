@@ -1,9 +1,8 @@
 -- The law of locations of two kinds of step that store alike: where it holds after the one it holds after the other, if it is
 -- so of the stepping pass.
-use Rattle.std.proofs.Common.{◌≡◌, ◌≢◌, ℕ, ◌<◌, ◌≤◌, List, true, length, Contains, Option, Some, None, refl, ap, sym, ◌∙◌, subst, inl, inr, ◌↔◌}
+use Rattle.std.proofs.Common.{◌≡◌, ℕ, ◌≤◌, List, true, length, Contains, Option, refl, sym, subst, inl, inr}
 use Rattle.std.specs.Prelude.{IfSome, IsSomeAnd, option_map}
-use Rattle.scene_model.specs.declared.body_view.Phase.TheVariants.{In}
-use Rattle.scene_model.specs.Scene.{Record, record_at}
+use Rattle.scene_model.specs.Scene.{Record}
 use Rattle.word_map.specs.declared.name.Name.{Name}
 use Rattle.word_map.specs.declared.name.Name.TheVariants.{Phase}
 use Rattle.core_state.specs.declared.view.Batch.{Batch}
@@ -18,11 +17,11 @@ use Rattle.core_state.specs.Encoding.{place, phase_join}
 use Rattle.core_state.specs.Kind.{Kind, Step, view_after, after_step}
 use Rattle.core_state.specs.Nodes.{Nodes, made}
 use Rattle.core_state.specs.Parts.{call_on_places, update_on_places}
-use Rattle.core_state.specs.Scope.{Sight, sight, HasPass, EachPass, scene_in}
-use Rattle.core_state.specs.Updates.{EachUpdate, HasUpdate, IsStillMerged, IsNoted, IsPlacing, IsDone}
+use Rattle.core_state.specs.Scope.{Sight, sight, HasPass}
+use Rattle.core_state.specs.Updates.{HasUpdate, IsStillMerged, IsNoted, IsPlacing, IsDone}
 use Rattle.core_state.specs.LocationsHold.{LocationsHold, location_scope, IsAt, IsTakenOut, Removes, IsRemoved, IsUnheld, IsPlacedNow, IsUnexchanged, IsWhere, in_slot, in_main, in_old, in_merged, IsSecond, IsSecondFor, IsPlannedAt, IsPublishedAt, ClimbsFrom}
 use Rattle.core_guard.proofs.Leaving.{Acts, if_some_map, some_and_map}
-use Rattle.core_guard.proofs.PlacesStay.{BodyIsPlaced, PassIsPlaced, EachPlaced, acting, body-placed, pass-placed, taken-out, removes-seen, places-seen, seen-task, places-handles}
+use Rattle.core_guard.proofs.PlacesStay.{BodyIsPlaced, PassIsPlaced, EachPlaced, acting, body-placed, pass-placed, taken-out, removes-seen, places-seen}
 use Rattle.core_guard.proofs.Seats.{seen_of}
 use Rattle.core_state.specs.Bodies.{all_batches}
 use Rattle.core_update.proofs.Swapped.{each-swap, has-swap, flat-swap}

@@ -1,10 +1,9 @@
 -- The law of readers of two kinds of step that store alike: where it holds after the one it holds after the other, also where
 -- nodes that were in no tree come to stand in a new one.
-use Rattle.std.proofs.Common.{◌≡◌, ◌≢◌, ◌⊎◌, ℕ, suc, ◌+◌, ◌<◌, ◌≤◌, List, ◌∷◌, true, Contains, Option, Some, None, refl, ap, sym, ◌∙◌, subst, inl, inr}
+use Rattle.std.proofs.Common.{◌≡◌, ◌≢◌, ℕ, suc, ◌+◌, ◌≤◌, List, true, Contains, Option, Some, None, refl, sym, ◌∙◌, subst, inl, inr}
 use Rattle.std.specs.Prelude.{IfSome, option_map}
 use Rattle.std.proofs.lemmas.Option.{same_Some, none-some}
 use Rattle.word_map.specs.declared.name.Name.{Name}
-use Rattle.word_map.specs.declared.name.Name.TheVariants.{Child}
 use Rattle.core_state.specs.declared.item.Load.{Load}
 use Rattle.core_state.specs.declared.view.Noted.{Noted}
 use Rattle.core_state.specs.declared.view.Rebuild.{Rebuild}
@@ -20,13 +19,11 @@ use Rattle.core_state.specs.Nodes.{Nodes, Home, under, superseded, made, IsLive,
 use Rattle.core_state.specs.Parts.{task_at_place, no_rebuild, update_on_readers}
 use Rattle.core_state.specs.Scope.{Sight, sight, HasPass, EachPass}
 use Rattle.core_state.specs.Space.{IsTarget, IsComing, IsInLayer, IsInHull, IsSideIn}
-use Rattle.core_state.specs.Updates.{EachUpdate}
-use Rattle.core_state.specs.Walking.{Query, Spot, resting, at_child, at_bound, Position, Follows, position_of, waiting}
-use Rattle.core_state.specs.ReadersCounted.{ReadersCounted, reader_scope, Reaches, by_stack, by_spot, ReachesBySpot, the_node, the_node_of_bound, waiting_at, IsWalkedAt, WalkStays, ReadsInSpace, layer_at_hand, AvoidsSuperseded, HasSeenOff, ClimbsInTrees, IsTight, IsSideOf}
+use Rattle.core_state.specs.Walking.{Spot, resting, at_child, at_bound, Position, position_of, waiting}
+use Rattle.core_state.specs.ReadersCounted.{ReadersCounted, reader_scope, Reaches, by_stack, by_spot, ReachesBySpot, the_node, the_node_of_bound, waiting_at, WalkStays, layer_at_hand, AvoidsSuperseded, HasSeenOff, ClimbsInTrees, IsTight, IsSideOf}
 use Rattle.core_state.proofs.Beginning.{cases_cons}
 use Rattle.core_guard.proofs.Leaving.{Acts, if_some_map, live-stands, stands-in_tree, other-number}
-use Rattle.core_guard.proofs.ReadersLeft.{target-seen, target-was, WalkIn, SpaceIn, Off}
-use Rattle.core_guard.proofs.Seats.{seen_of}
+use Rattle.core_guard.proofs.ReadersLeft.{WalkIn, SpaceIn, Off}
 use Rattle.core_update.proofs.Swapped.{each-swap, has-swap}
 
 -- a node on the stack or at hand is reached

@@ -1,27 +1,32 @@
 -- Storing a child, or a side of a bound, in a new tree keeps all laws: the node is the pass's own and stands in no tree. With
 -- the entry of a body its place is noted, which no law reads before the trees are planned.
-use Rattle.std.proofs.Common.{◌≡◌, ℕ, ◌∷◌, [], List, Bool, true, false, map, Contains, Option, Some, refl, ap, sym, ◌∙◌, subst}
+use Rattle.std.proofs.Common.{◌≡◌, ◌≢◌, ℕ, ◌∷◌, [], List, Bool, true, false, map, Contains, Option, Some, refl, ap, sym, ◌∙◌, subst, arith}
 use Rattle.std.specs.Prelude.{◌/◌, ◌%◌, ◌==◌, if◌then◌else◌, IfSome, option_map}
 use Rattle.std.proofs.lemmas.Bool.{false≢true}
+use Rattle.std.proofs.lemmas.Option.{same_Some}
 use Rattle.word_map.specs.declared.name.Name.{Name}
+use Rattle.word_map.specs.declared.name.Name.TheVariants.{Bound}
 use Rattle.core_state.specs.declared.view.Noted.{Noted}
 use Rattle.core_state.specs.declared.view.Rebuild.{Rebuild}
 use Rattle.core_state.specs.Batches.{also_written, store_node}
 use Rattle.core_state.specs.Core.{Core}
 use Rattle.core_state.specs.Encoding.{place}
-use Rattle.core_state.specs.Kind.{Step, after_step}
-use Rattle.core_state.specs.Nodes.{Nodes, owned, node_in}
+use Rattle.core_state.specs.Kind.{Step, Steps, after_step}
+use Rattle.core_state.specs.Nodes.{Nodes, owned, node_in, Stands}
 use Rattle.core_state.specs.Noting.{MayStoreNewChild, store_new_child, MayStoreNewBound, store_new_bound, placed_note, noted_at, with_entry}
 use Rattle.core_state.specs.Parts.{call_at, task_on_pool, update_on_nodes, update_on_trees, update_on_cover, update_on_readers}
 use Rattle.core_state.specs.Scope.{IsOnce, bare_view}
 use Rattle.core_state.specs.LocksAgree.{lock_scope, LocksAgreeIn}
 use Rattle.core_state.specs.BodiesAgree.{body_scope, BodiesAgreeIn}
 use Rattle.core_state.specs.NodesInOnePlace.{node_scope, NodesInOnePlaceIn}
-use Rattle.core_state.specs.TreesSound.{tree_scope, TreesSoundIn}
+use Rattle.core_state.specs.TreesSound.{tree_scope, TreesSoundIn, BoundsOnlyWiden}
 use Rattle.core_state.specs.BodiesCovered.{cover_scope}
 use Rattle.core_state.specs.WalksLead.{walk_scope, WalksLeadIn}
 use Rattle.core_state.specs.ReadersCounted.{IsTight}
 use Rattle.core_state.specs.Invariants.{Invariants}
+use Rattle.core_state.specs.Formed.{IsFormed}
+use Rattle.core_state.specs.Guards.{GuardsHold}
+use Rattle.core_state.proofs.Steps.{word-step-other}
 use Rattle.core_guard.proofs.Holders.{IsGuarded, guarded}
 use Rattle.core_guard.proofs.Leaving.{Acts}
 use Rattle.core_guard.proofs.Seats.{seen_of}
@@ -152,3 +157,16 @@ pub GuardsHold-store_new_bound : IsGuarded MayStoreNewBound store_new_bound
 GuardsHold-store_new_bound =
     guarded MayStoreNewBound store_new_bound
     (λ core step a asked. own-guarded store_new_bound core step a asked.node (ap node_in asked.names) (own-home core step a asked.r asked.stores.update asked.stores.early asked.node asked.stores.owns))
+
+-- no bound of a node that stands is stored
+pub new_bound-widens : (before after : Core) (h : Invariants before) → Steps MayStoreNewBound store_new_bound before after → IsFormed before → GuardsHold before → BoundsOnlyWiden h.nodes before after
+new_bound-widens before after h steps formed guards =
+    let step = steps.step in
+    let asked = steps.allowed.asked in
+    let a : Acts before steps.step = record { at = steps.allowed.at; pass = steps.allowed.pass; named = steps.allowed.named; formed = formed; guards = guards; laws = h } in
+    let home = own-home before step a asked.r asked.stores.update asked.stores.early asked.node asked.stores.owns in
+    subst (BoundsOnlyWiden h.nodes before) (sym steps.result)
+    (λ n k q stands.
+    let other : Bound n k q ≢ step.name = λ e. subst Stands (ap h.nodes.home (same_Some n asked.node (ap node_in (e ∙ asked.names))) ∙ home) stands in
+    let same = word-step-other store_new_bound before step (Bound n k q) other in
+    (λ low. omega arith, λ high. omega arith))

@@ -6,6 +6,7 @@ ghost use Rattle.core_state.specs.Noting.{MayStoreNewChild, store_new_child, May
 ghost use Rattle.core_state.specs.Formed.{IsFormed};
 ghost use Rattle.core_state.specs.Guards.{GuardsHold};
 ghost use Rattle.core_state.specs.Invariants.{Invariants};
+ghost use Rattle.core_state.specs.TreesSound.{BoundsOnlyWiden};
 
 /// Storing a child, or a side of a bound, in a new tree keeps all invariants: the node is the pass's own and stands in no tree.
 /// No other pass has its words for itself.
@@ -24,4 +25,9 @@ pub fn new_parents_are_stored()
     ensures last { (layer : ℕ) (before after : Core) → Steps (MayFinishPlan layer) (finish_plan layer) before after → IsFormed before → GuardsHold before → Invariants before → Invariants after }
     ensures parents_guarded { (layer : ℕ) (before after : Core) → Steps (MayStoreNewParent layer) (store_new_parent layer) before after → IsFormed before → Invariants before → GuardsHold before → GuardsHold after }
     ensures last_guarded { (layer : ℕ) (before after : Core) → Steps (MayFinishPlan layer) (finish_plan layer) before after → IsFormed before → Invariants before → GuardsHold before → GuardsHold after }
+{}
+
+/// Storing a side of a bound in a new tree leaves the bounds of all nodes that stand: it is one of a node that stands in no tree.
+pub fn new_bounds_leave_trees()
+    ensures { (before after : Core) (h : Invariants before) → Steps MayStoreNewBound store_new_bound before after → IsFormed before → GuardsHold before → BoundsOnlyWiden h.nodes before after }
 {}

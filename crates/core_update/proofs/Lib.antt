@@ -1,5 +1,5 @@
 pub mod Swapped
-pub mod OwnUpdate
+pub mod OwnNotes
 pub mod SwappedPlaces
 pub mod SwappedCover
 pub mod PlacedBody
@@ -22,6 +22,6 @@ pub mod PlanTrees
 pub mod NewParents
 pub mod PlanWhole
 pub mod PlanStands
-pub mod Rehomed
+pub mod ComeToStand
 pub mod PlanSteps
 pub mod PlacedPhases

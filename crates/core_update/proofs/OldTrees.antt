@@ -41,7 +41,7 @@ use Rattle.core_guard.proofs.Seats.{has-seat, seen_at}
 use Rattle.core_guard.proofs.Settled.{sound, settled-still}
 use Rattle.core_batch.proofs.HeldFacts.{mark-off}
 use Rattle.core_state.specs.BodiesAgree.{body_scope}
-use Rattle.core_update.proofs.OwnUpdate.{Covering, own-notes, note-once}
+use Rattle.core_update.proofs.OwnNotes.{Covering, own-notes, note-once}
 
 module _ (core : Core) (step : Step) (a : Acts core step) where
   abbrev Old : Sight

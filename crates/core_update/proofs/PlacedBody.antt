@@ -26,7 +26,7 @@ use Rattle.core_guard.proofs.Leaving.{Acts, IsHandled}
 use Rattle.core_guard.proofs.Seats.{has-seat}
 use Rattle.core_guard.proofs.Settled.{sound}
 use Rattle.core_state.proofs.Lookups.{at_one}
-use Rattle.core_update.proofs.OwnUpdate.{body, planned-at}
+use Rattle.core_update.proofs.OwnNotes.{body, planned-at}
 
 -- sides of boxes are words of coordinates
 pub side-range : (bounds : FixBox) (side : ℕ) → side < 6 → (1 ≤ slice_index (words_of bounds) side) × (slice_index (words_of bounds) side ≤ 16777216)

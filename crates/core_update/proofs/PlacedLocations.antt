@@ -39,7 +39,7 @@ use Rattle.core_guard.proofs.PlacesStay.{BodyIsPlaced, PassIsPlaced, EachPlaced,
 use Rattle.core_guard.proofs.Scenes.{none_here}
 use Rattle.core_guard.proofs.Seats.{each-step, has-step, seat-has, seen_of, seen_at, flat-step}
 use Rattle.core_guard.proofs.Alone.{marked-held}
-use Rattle.core_update.proofs.OwnUpdate.{unheld, there, planned-at, one-note, unexchanged-all}
+use Rattle.core_update.proofs.OwnNotes.{unheld, there, planned-at, one-note, unexchanged-all}
 use Rattle.core_update.proofs.PlacedBody.{places_it, planned-home}
 use Rattle.core_update.proofs.PlacedNotes.{u, quiet, placing_on, going_on, o, last, same-call, new-rebuild, task-joins, task-or, word-same, second-now, second-none, b, b-is, b-in, record-same, m, stays, home, entry, encloses, box-same, word-box}
 use Rattle.core_update.proofs.SwappedPlaces.{First, OneUpdate, TwoUpdate, OwnGoesOn, goes-on, pass-again, planned-again, body-again}

@@ -37,7 +37,7 @@ use Rattle.core_guard.proofs.PlacesStay.{PassIsPlaced, pass-placed, encloses-for
 use Rattle.core_guard.proofs.Recalled.{with_known}
 use Rattle.core_guard.proofs.Seats.{each-seat}
 use Rattle.core_move.proofs.Climbing.{climbed-encloses}
-use Rattle.core_update.proofs.OwnUpdate.{Locating, known, body, undone, planned-at}
+use Rattle.core_update.proofs.OwnNotes.{Locating, known, body, undone, planned-at}
 use Rattle.core_update.proofs.PlacedBody.{places_it, box-words, planned-home}
 
 pub covers-same : (a b c : Sides) → ((q : ℕ) → q < 6 → b q ≡ c q) → Covers a b → Covers a c

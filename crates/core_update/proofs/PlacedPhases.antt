@@ -59,7 +59,7 @@ use Rattle.core_guard.proofs.Recalled.{law-unseen}
 use Rattle.core_guard.proofs.Scenes.{none_here}
 use Rattle.core_guard.proofs.Seats.{each-seat, each-step, seat-has, seen_of}
 use Rattle.core_guard.proofs.Settled.{StandsStill, settled-still}
-use Rattle.core_update.proofs.OwnUpdate.{Covering, Locating, own-notes, own-planned, unexchanged, note-once, sole-update}
+use Rattle.core_update.proofs.OwnNotes.{Covering, Locating, own-notes, own-planned, unexchanged, note-once, sole-update}
 use Rattle.core_update.proofs.SwappedPlaces.{First, Second, SwapsPlaces, LocationsHold-swap}
 
 module _ (core : Core) (step : Step) (a : Acts core step) (asked : MayPlacePhase step.view step.name step.first step.second) (planned : asked.r.is_planned ≡ true) (kept : ¬ Contains asked.r.given_up asked.index) where

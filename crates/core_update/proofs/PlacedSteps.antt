@@ -50,7 +50,7 @@ use Rattle.core_guard.proofs.ReadersLeft.{Counts, KeepsTargets, ReadersCounted-l
 use Rattle.core_guard.proofs.Recalled.{law-unseen}
 use Rattle.core_guard.proofs.Seats.{each-step, has-seat, seen_of}
 use Rattle.core_guard.proofs.Touched.{IsKept, kept}
-use Rattle.core_update.proofs.OwnUpdate.{unheld, undone, unexchanged-all, sole-update}
+use Rattle.core_update.proofs.OwnNotes.{unheld, undone, unexchanged-all, sole-update}
 use Rattle.core_update.proofs.PlacedNotes.{next_task, task-joins, task-or, word-same, second-now, second-none, last, same-call, new-rebuild, u, record-same, of_body}
 use Rattle.core_update.proofs.PlacedLocations.{LocationsHold-placed, location-on}
 use Rattle.core_update.proofs.Swapped.{law-swap}

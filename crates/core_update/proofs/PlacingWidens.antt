@@ -63,7 +63,7 @@ use Rattle.core_guard.proofs.Still.{come-up}
 use Rattle.core_guard.proofs.CallsAgree.{BodiesAgree-beside}
 use Rattle.core_move.proofs.MoveSteps.{above-home}
 use Rattle.core_move.proofs.Widening.{IsWider, min-wider, max-wider}
-use Rattle.core_update.proofs.OwnUpdate.{known, body, unheld, there, own-notes, one-note}
+use Rattle.core_update.proofs.OwnNotes.{known, body, unheld, there, own-notes, one-note}
 use Rattle.core_update.proofs.PlacedBody.{PlacesOnly, nothing_yet, places_it, places-so, side-range, box-words, planned-home}
 use Rattle.core_update.proofs.PlacingLoads.{planned-seen}
 use Rattle.core_update.proofs.Swapped.{law-swap}

@@ -21,7 +21,7 @@ use Rattle.core_guard.proofs.Leaving.{Acts, Last}
 use Rattle.core_guard.proofs.Seats.{seat-has}
 use Rattle.core_guard.proofs.Settled.{sound}
 use Rattle.core_update.proofs.EarlyUpdate.{own-home, unmade}
-use Rattle.core_update.proofs.OwnUpdate.{own-notes}
+use Rattle.core_update.proofs.OwnNotes.{own-notes}
 use Rattle.core_update.proofs.PlanNodes.{MakesHomes, planning}
 use Rattle.core_update.proofs.PlanTrees.{PlansTrees, Second}
 use Rattle.core_update.proofs.PlanWhole.{M, R, N, W, K, whole, child-now, parent-now, bound-now, later, made-home, made-depth, as_before, in_new, home-then}

@@ -39,14 +39,14 @@ use Rattle.core_guard.proofs.Seats.{seat-has, seen_of}
 use Rattle.core_guard.proofs.Touched.{IsKept, kept}
 use Rattle.core_update.proofs.EarlyUpdate.{own-home, unmade}
 use Rattle.core_update.proofs.OwnGuards.{own-guarded}
-use Rattle.core_update.proofs.OwnUpdate.{own-notes}
+use Rattle.core_update.proofs.OwnNotes.{own-notes}
 use Rattle.core_update.proofs.OwnNodes.{LocksAgree-own_node, BodiesAgree-own_node, NodesInOnePlace-own_node, TreesSound-own_node, LocationsHold-own_node, BodiesCovered-own_node, WalksLead-own_node, ReadersCounted-own_node}
 use Rattle.core_update.proofs.PlacingWidens.{made-once}
 use Rattle.core_update.proofs.PlanNodes.{NodesInOnePlace-plan}
 use Rattle.core_update.proofs.PlanTrees.{TreesSound-plan}
 use Rattle.core_update.proofs.PlanStands.{Made, Later, u, two, own-then, makes, trees-then, tree-of, made-layer}
 use Rattle.core_update.proofs.PlanWhole.{M, R, N, W, K, whole, child-now, bound-now, up-forth, made-home, as_before, in_new, home-then}
-use Rattle.core_update.proofs.Rehomed.{LocationsHold-rehomed, BodiesCovered-rehomed}
+use Rattle.core_update.proofs.ComeToStand.{LocationsHold-rehomed, BodiesCovered-rehomed}
 use Rattle.core_update.proofs.Swapped.{law-swap}
 use Rattle.core_update.proofs.SwappedPlaces.{First, Second, OneUpdate, TwoUpdate, SwapsPlaces, LocationsHold-swap}
 use Rattle.core_update.proofs.SwappedReaders.{OnlyMakes, SecondReaders, ReadersCounted-swap}

@@ -1,4 +1,4 @@
-//! Queries of bodies that came in batches: of each body's own box, and of all space.
+//! Queries of bodies that came in batches: of the own boxes of 1,024 of them, and of all space.
 ghost use Rattle.std.specs.Prelude.{◌<◌, ◌≤◌, IfOk};
 ghost use Rattle.pass_table.specs.Passes.{IsIdle};
 ghost use Rattle.tree_query.specs.Finding.{room_of};
@@ -118,7 +118,7 @@ fn turn_all<R: Wait>(
 /// A shape of queries, and how their rows are called.
 #[derive(Clone, Copy)]
 enum Of {
-    /// Each body's own box.
+    /// The own boxes of the first bodies.
     OwnBoxes,
     /// All space.
     AllSpace,
@@ -137,7 +137,7 @@ impl Of {
         let mut boxes = Vec::new(alloc);
         match self {
             Of::OwnBoxes => {
-                for bounds in bodies {
+                for bounds in bodies.iter().take(OWN_BOXES) {
                     boxes.push(*bounds)?;
                 }
             }
@@ -150,6 +150,9 @@ impl Of {
         Ok(boxes)
     }
 }
+
+/// Of how many bodies the own boxes are asked for.
+const OWN_BOXES: usize = 1_024;
 
 /// The word of the greatest coordinate.
 const ALL: u64 = 16_777_216;

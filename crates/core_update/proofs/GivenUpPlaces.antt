@@ -29,9 +29,8 @@ use Rattle.core_state.proofs.Opening.{only}
 use Rattle.core_state.proofs.Steps.{word-step}
 use Rattle.core_guard.proofs.Cleared.{IsGone, ClearsEntries, above-same, none-kept, some-back, cleared_in, child-sight, child-clears, child-where}
 use Rattle.core_guard.proofs.Leaving.{Acts, After, Last, if_some_map, other-number}
-use Rattle.core_guard.proofs.PlacesStay.{PassIsPlaced, EachPlaced, acting, pass-placed, taken-out, begun-placed}
+use Rattle.core_guard.proofs.PlacesStay.{where-live, PassIsPlaced, EachPlaced, acting, pass-placed, taken-out, begun-placed}
 use Rattle.core_guard.proofs.Seats.{each-step, has-step, seen_of, flat-step}
-use Rattle.core_move.proofs.PhaseStores.{where-live}
 use Rattle.core_update.proofs.OwnNotes.{Covering, Locating, own-notes, own-planned, unexchanged, note-once}
 use Rattle.core_update.proofs.PlacingWidens.{made-once}
 use Rattle.core_update.proofs.OldTrees.{second-none, undone-yet}

@@ -319,7 +319,8 @@ module _ (core : Core) (step : Step) (a : Acts core step) (asked : MayPlaceNoted
             if_some_map (option_map update_on_places view.rebuild) (λ r. Planned Was number v r) (λ r. Planned Is number v r)
             (λ r planned noted among is_planned from.
             planned-again nodes Mid Is.passes number v v r r noted (λ done. done) (λ done. done)
-            (planned-forth (quiet core step a asked) core step a nodes none (m core step a asked) number v v r noted (λ t. t, λ t. t) (λ n k stands below entry e. second-on noted.index n k e) (planned noted among is_planned from))) old)
+            (planned-forth (quiet core step a asked) core step a nodes none (m core step a asked) number v v r noted (λ t. t, λ t. t) (λ n k stands below entry e. second-on noted.index n k e)
+            (λ n k c one at home. let none = c.none in let was = c.was in let same = unnamed (Child n k) (λ e. absurd cc) in absurd (omega arith)) (planned noted among is_planned from))) old)
             (λ old. subst (λ (x : Option Rebuild). IfSome x (λ r. Planned Is step.number Behind r)) (sym two) (λ noted among is_planned from. planned-own noted among));
         published =
             each-step location_scope (λ k v. refl) place_noted core step a.at a.pass (λ number v. IfSome v.rebuild Published) (λ number v. IfSome v.rebuild Published) h.published (λ seat number view apart found is old. old)

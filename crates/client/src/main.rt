@@ -7,9 +7,8 @@
 //! A call that is refused is counted and told, and the bodies that were created for it are destroyed; the threads go on. Where
 //! one was refused, which only want of memory brings about, the program fails.
 //!
-//! It shows that the contracts of the calls chain: what a call leaves is what the next one asks. Proved beside it are what
-//! its two loops keep, and one line: that the passes which are left are idle still after the next one is taken. Nothing
-//! stands on it.
+//! It shows that the contracts of the calls chain: what a call leaves is what the next one asks. Proved beside it is what its
+//! two loops keep, and nothing else by hand. Nothing stands on it.
 #![tactic(auto)]
 
 ghost use Rattle.std.specs.Prelude.{IfSome};

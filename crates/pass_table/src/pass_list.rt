@@ -1,5 +1,5 @@
 //! Opening a world.
-ghost use Rattle.std.specs.Prelude.{◌≡◌, ◌<◌, ◌+◌, ◌-◌, [], ◌∷◌, IfOk, IfErr, IfSome, MatchOption};
+ghost use Rattle.std.specs.Prelude.{◌≡◌, ◌<◌, ◌+◌, ◌-◌, [], ◌∷◌, drop, IfOk, IfErr, IfSome, MatchOption};
 ghost use Rattle.word_map.specs.Limits.{IsConfig};
 ghost use Rattle.core_state.specs.View.{blank_view};
 ghost use Rattle.core_state.specs.declared.view.Role.TheVariants.{Pass as PassRole};
@@ -37,6 +37,7 @@ impl PassList {
     pub fn next(&mut self) -> Option<Pass>
         ensures idle { (world : World) → AreIdle world self.old.passes.items → IfSome result (IsIdle world) }
         ensures others { (world : World) → AreIdle world self.old.passes.items → AreIdle world self.new.passes.items }
+        ensures rest { self.new.passes.items ≡ drop 1 self.old.passes.items }
         ensures first { MatchOption result ((self.old.passes.items ≡ []) × (self.new.passes.items ≡ [])) (λ pass. self.old.passes.items ≡ pass ∷ self.new.passes.items) }
     {
         if self.passes.is_empty() {

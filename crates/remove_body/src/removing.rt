@@ -4,7 +4,7 @@ ghost use Rattle.pass_table.specs.declared.turn.Turn.TheVariants.{More};
 ghost use Rattle.pass_table.specs.Passes.{view_of, IsOf, IsIdle};
 ghost use Rattle.pass_table.specs.Turning.{IsUnderWay};
 ghost use Rattle.remove_body.specs.declared.remove_op.RemoveStage.TheVariants.{Looking, Inside, HalfLocated, Located, TakenOut, HalfCleared, Cleared, Forgotten, Leaving};
-ghost use Rattle.remove_body.specs.stages.Removing.{IsRemoving, IsRemoveTurn};
+ghost use Rattle.remove_body.specs.stages.Removing.{IsRemoving, IsRemoveTurn, label_of};
 
 use crate::answers::RemoveRefused;
 use crate::clearing::clear_entry;
@@ -71,6 +71,7 @@ impl RemoveOp {
         ensures pass { pass.new ≡ pass.old }
         ensures begun { result.id ≡ id }
         ensures under_way { IsRemoving result (view_of pass.old) result (view_of pass.new) }
+        ensures unlabelled { label_of result ≡ None }
     {
         let look = LookOp::new(world, pass, id, Mode::Write, LookDepth::Phase);
         RemoveOp {

@@ -6,7 +6,7 @@ ghost use Rattle.pass_table.specs.declared.turn.Turn.TheVariants.{More};
 ghost use Rattle.tree_query.specs.declared.finder.Finder.{Finder as FinderValue};
 ghost use Rattle.tree_query.specs.declared.walk.WalkStage.TheVariants.{Ended};
 ghost use Rattle.tree_query.specs.Finding.{room_of};
-ghost use Rattle.tree_query.specs.stages.CollectTurns.{room_kept, IsCollectGoing, IsCollectTurn};
+ghost use Rattle.tree_query.specs.stages.CollectTurns.{room_kept, IsCollectGoing, IsCollectTurn, collect_label};
 
 use crate::collect_op::CollectOp;
 use crate::finder::Finder;
@@ -69,6 +69,7 @@ impl CollectOp {
         ensures mask { result.walk.mask ≡ mask }
         ensures room { room_kept result.finder ≡ room_of finder }
         ensures under_way { IsCollectGoing result (view_of pass.old) result (view_of pass.new) }
+        ensures unlabelled { collect_label result ≡ None }
     {
         let mut finder = finder;
         finder.clear();

@@ -6,7 +6,7 @@ ghost use Rattle.tree_query.specs.declared.finder.Finder.{Finder as FinderValue}
 ghost use Rattle.tree_query.specs.declared.walk.WalkStage.TheVariants.{Ended};
 ghost use Rattle.tree_query.specs.Finding.{room_of};
 ghost use Rattle.tree_query.specs.stages.CollectTurns.{room_kept};
-ghost use Rattle.tree_query.specs.stages.QueryStages.{IsQueryGoing, IsQueryTurn, IsChecksTurn};
+ghost use Rattle.tree_query.specs.stages.QueryStages.{IsQueryGoing, IsQueryTurn, IsChecksTurn, query_label};
 
 use crate::checks::Checks;
 use crate::finder::Finder;
@@ -71,6 +71,7 @@ impl QueryOp {
         ensures mask { result.walk.mask ≡ mask }
         ensures room { room_kept result.finder ≡ room_of finder }
         ensures under_way { IsQueryGoing result (view_of pass.old) result (view_of pass.new) }
+        ensures unlabelled { query_label result ≡ None }
     {
         let mut finder = finder;
         finder.clear();

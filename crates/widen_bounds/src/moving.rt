@@ -5,7 +5,7 @@ ghost use Rattle.pass_table.specs.Passes.{view_of, IsOf, IsIdle};
 ghost use Rattle.pass_table.specs.Turning.{IsUnderWay};
 ghost use Rattle.widen_bounds.specs.declared.move_op.MoveStage.TheVariants.{Looking, Found, HalfLocated, Widening as IsWideningStage, Storing, Leaving};
 ghost use Rattle.widen_bounds.specs.stages.Widening.{widening_label};
-ghost use Rattle.widen_bounds.specs.stages.Moving.{IsMoving, IsMoveTurn, stage_after};
+ghost use Rattle.widen_bounds.specs.stages.Moving.{IsMoving, IsMoveTurn, stage_after, label_of};
 
 use crate::answers::MoveRefused;
 use crate::move_op::{MoveOp, MoveStage};
@@ -74,6 +74,7 @@ impl MoveOp {
         ensures begun { result.id ≡ id }
         ensures target { result.to ≡ to }
         ensures under_way { IsMoving result (view_of pass.old) result (view_of pass.new) }
+        ensures unlabelled { label_of result ≡ None }
     {
         let look = LookOp::new(world, pass, id, Mode::Write, LookDepth::Phase);
         MoveOp {

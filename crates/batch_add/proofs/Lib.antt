@@ -42,3 +42,4 @@ pub mod Staying
 pub mod Unjoined
 pub mod PrepareLabel
 pub mod PreparedLists
+pub mod WholeTree

@@ -43,3 +43,4 @@ pub mod Unjoined
 pub mod PrepareLabel
 pub mod PreparedLists
 pub mod WholeTree
+pub mod WholeMarks

@@ -31,6 +31,7 @@ mod preparing;
 mod slot_search;
 mod tree_drawing;
 mod whole_batch;
+mod whole_marks;
 mod whole_tree;
 
 pub use aborting::AbortOp;

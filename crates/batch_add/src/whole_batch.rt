@@ -11,7 +11,7 @@ use crate::answers::PrepareRefused;
 use crate::prepare_op::{PrepareOp, PrepareStage, Undone};
 use crate::prepared::Prepared;
 use crossbeam_utils::Backoff;
-use pass_table::{Operation, Pass, Turn, World, drive};
+use pass_table::{Operation, Pass, Turn, World};
 use std::mem;
 use std::sync::Wait;
 
@@ -70,7 +70,7 @@ impl PrepareOp {
         ensures keeps { (first : PrepareOp) (start : View) → IsPreparing first start self.old (view_of pass.old) → IsPreparing first start self.new (view_of pass.new) }
         ensures to_draw { IsTrue result → IsToDrawTree self.new }
     {
-        match drive(rt, world, pass, &mut self.marking) {
+        match self.marking.mark_all(rt, world, pass) {
             Ok(()) => {
                 self.begin_tree(pass);
                 true

@@ -1,7 +1,7 @@
 use Rattle.batch_add.specs.stages.Preparing.{stage_label}
 use Rattle.batch_add.proofs.PrepareLabel.{label-still}
 use Rattle.pass_table.specs.declared.turn.Turn.TheVariants.{Done, More, Again}
-use Rattle.std.proofs.Common.{refl, ap, sym, ◌∙◌, Ok, inr, arith}
+use Rattle.std.proofs.Common.{refl, ap, Ok, inr, arith}
 use Rattle.std.proofs.lemmas.Option.{same_Some}
 use Rattle.pass_table.specs.Passes.{view_of}
 use Rattle.batch_add.specs.declared.tree_drawing.TreeDrawing.{TreeDrawing}

@@ -1,5 +1,4 @@
 use Rattle.std.proofs.Common.{refl}
-use Rattle.pass_table.specs.Turning.{IsUnderWay}
 use Rattle.batch_add.proofs.prepare_op.PrepareOp.finish.Goals as goal
 
 -- all is marked and drawn, or a body is refused

@@ -1,5 +1,3 @@
-use Rattle.std.proofs.Common.{refl, ap, sym, ◌∙◌}
-use Rattle.pass_table.specs.Passes.{view_of}
 use Rattle.batch_add.proofs.prepare_op.PrepareOp.mark_and_draw.Goals as goal
 
 pub draw_all-requires-clause-under_way : goal.draw_all-requires-clause-under_way

@@ -1,6 +1,6 @@
 use Rattle.pass_table.specs.Passes.{view_of}
 use Rattle.batch_add.specs.declared.draw_stage.DrawStage.TheVariants.{Child, Side, Placing}
-use Rattle.batch_add.specs.stages.DrawStages.{at_stage, next_child}
+use Rattle.batch_add.specs.stages.DrawStages.{next_child}
 use Rattle.batch_add.proofs.WholeTree.{draws-turn, draws-then, under-draws, child-nothing, child-body, child-node, sides-body, sides-node}
 use Rattle.batch_add.proofs.tree_drawing.TreeDrawing.draw_child.Goals as goal
 

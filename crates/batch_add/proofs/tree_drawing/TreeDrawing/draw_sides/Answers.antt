@@ -1,4 +1,4 @@
-use Rattle.std.proofs.Common.{◌≡◌, ◌<◌, ◌+◌, ℕ, subst, arith}
+use Rattle.std.proofs.Common.{◌≡◌, ◌+◌, ℕ, subst, arith}
 use Rattle.pass_table.specs.Passes.{view_of}
 use Rattle.pass_table.specs.Turning.{IsUnderWay}
 use Rattle.tree_plan.specs.Plan.{child_at}

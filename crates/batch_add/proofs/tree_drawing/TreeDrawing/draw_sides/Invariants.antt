@@ -1,6 +1,5 @@
 use Rattle.tree_plan.specs.Plan.{child_at}
 use Rattle.pass_table.specs.Passes.{view_of, IsOf}
-use Rattle.pass_table.specs.Turning.{IsUnderWay}
 use Rattle.batch_add.specs.declared.draw_stage.DrawStage.TheVariants.{Side}
 use Rattle.batch_add.specs.stages.DrawStages.{sides_done, Draws}
 use Rattle.batch_add.proofs.tree_drawing.TreeDrawing.draw_sides.Given as goal

@@ -1,4 +1,4 @@
-use Rattle.std.proofs.Common.{sym, subst, ap, ◌∙◌}
+use Rattle.std.proofs.Common.{ap, ◌∙◌}
 use Rattle.pass_table.specs.Passes.{view_of}
 use Rattle.batch_add.specs.declared.draw_stage.DrawStage.TheVariants.{Placing}
 use Rattle.batch_add.specs.stages.DrawStages.{at_stage, next_child}

@@ -1,6 +1,5 @@
-use Rattle.std.proofs.Common.{◌≡◌, ◌<◌, ℕ, Some, refl, sym, ap, ◌∙◌, arith}
+use Rattle.std.proofs.Common.{Some, refl, sym, ap, ◌∙◌, arith}
 use Rattle.word_map.specs.declared.name.Name.TheVariants.{Child as ChildWord}
-use Rattle.tree_plan.specs.Plan.{node_count}
 use Rattle.pass_table.specs.Passes.{view_of}
 use Rattle.pass_table.specs.declared.turn.Turn.TheVariants.{More}
 use Rattle.batch_add.specs.declared.draw_stage.DrawStage.TheVariants.{Child}

@@ -1,8 +1,8 @@
-use Rattle.std.proofs.Common.{◌+◌, suc, Some, refl, ap}
+use Rattle.std.proofs.Common.{Some, refl, ap}
 use Rattle.word_map.specs.declared.name.Name.TheVariants.{Parent as ParentWord}
 use Rattle.pass_table.specs.Passes.{view_of}
-use Rattle.pass_table.specs.declared.turn.Turn.TheVariants.{More, Done}
-use Rattle.batch_add.specs.declared.draw_stage.DrawStage.TheVariants.{Child, Parent}
+use Rattle.pass_table.specs.declared.turn.Turn.TheVariants.{Done}
+use Rattle.batch_add.specs.declared.draw_stage.DrawStage.TheVariants.{Parent}
 use Rattle.batch_add.specs.stages.DrawStages.{at_stage, planned_of, reached}
 use Rattle.batch_add.proofs.DrawTurns.{may-store, last-turn}
 use Rattle.batch_add.proofs.tree_drawing.TreeDrawing.put_last_parent.Goals as goal

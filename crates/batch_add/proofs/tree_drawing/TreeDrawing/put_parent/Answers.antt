@@ -1,7 +1,7 @@
-use Rattle.std.proofs.Common.{◌+◌, suc, Some, refl, ap}
+use Rattle.std.proofs.Common.{◌+◌, Some, refl, ap}
 use Rattle.word_map.specs.declared.name.Name.TheVariants.{Parent as ParentWord}
 use Rattle.pass_table.specs.Passes.{view_of}
-use Rattle.pass_table.specs.declared.turn.Turn.TheVariants.{More, Done}
+use Rattle.pass_table.specs.declared.turn.Turn.TheVariants.{More}
 use Rattle.batch_add.specs.declared.draw_stage.DrawStage.TheVariants.{Child, Parent}
 use Rattle.batch_add.specs.stages.DrawStages.{at_stage, planned_of, reached}
 use Rattle.batch_add.proofs.DrawTurns.{may-store, parent-turn}

@@ -1,10 +1,8 @@
-use Rattle.std.proofs.Common.{◌≡◌, ◌<◌, ◌+◌, suc, refl, sym, subst, ap, ◌∙◌, arith}
+use Rattle.std.proofs.Common.{◌<◌, ◌+◌, arith}
 use Rattle.tree_plan.specs.Plan.{node_count}
 use Rattle.pass_table.specs.Passes.{view_of}
-use Rattle.pass_table.specs.declared.turn.Turn.TheVariants.{Done}
 use Rattle.batch_add.specs.declared.draw_stage.DrawStage.TheVariants.{Child, Parent}
-use Rattle.batch_add.specs.stages.DrawStages.{at_stage, planned_of, AtDraw}
-use Rattle.batch_add.proofs.WholeTree.{under-at, turn-at, end-at}
+use Rattle.batch_add.proofs.WholeTree.{under-at, turn-at}
 use Rattle.batch_add.proofs.tree_drawing.TreeDrawing.store_parent.Goals as goal
 
 pub put_last_parent-requires-clause-under_way : goal.put_last_parent-requires-clause-under_way

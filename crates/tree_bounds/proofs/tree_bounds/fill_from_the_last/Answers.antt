@@ -2,7 +2,7 @@ use Rattle.std.proofs.Common.{◌≡◌, ℕ, ◌+◌, ◌-◌, ◌*◌, ◌/◌
 use Rattle.std.proofs.lemmas.List.{length-set}
 use Rattle.tree_plan.specs.Plan.{node_count}
 use Rattle.tree_bounds.specs.Held.{bound_in}
-use Rattle.tree_bounds.proofs.Filling.{AreBoundsFrom, AreBoundsFrom-none, AreBoundsFrom-more, AreBoundsOf-all, HaveBoxesOf-more, box_stays}
+use Rattle.tree_bounds.proofs.Filling.{AreBoundsFrom, AreBoundsFrom-none, AreBoundsFrom-more, HaveBoxesOf-more, box_stays}
 use Rattle.tree_bounds.proofs.tree_bounds.fill_from_the_last.Goals as goal
 
 pub loop-done-init : goal.loop-done-init

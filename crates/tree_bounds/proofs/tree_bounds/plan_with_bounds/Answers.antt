@@ -1,6 +1,5 @@
-use Rattle.std.proofs.Common.{◌≡◌, ◌*◌, ◌≤◌, ℕ, length, arith, sym, ap, ◌∙◌}
+use Rattle.std.proofs.Common.{arith}
 use Rattle.std.proofs.lemmas.List.Sorted.{IsPermutation-sym, Contains-permutation}
-use Rattle.scene_model.specs.Need.{need}
 use Rattle.tree_bounds.proofs.Sets.{IsPlanOf-permutation, AreBoundsOf-permutation}
 use Rattle.tree_bounds.proofs.tree_bounds.plan_with_bounds.Goals as goal
 

@@ -42,3 +42,5 @@ pub mod Staying
 pub mod Unjoined
 pub mod PrepareLabel
 pub mod PreparedLists
+pub mod WholeTree
+pub mod WholeMarks

@@ -123,7 +123,7 @@ module _ (operation new : Marking) (after : LookOp) (view next : View) (is : new
       (by_left (Again lock found) (turned-again BodyFound (Result (Unit {0}) MarkRefused) later view next (look_takes operation.look) (look_left operation.look) (look_left after) lock found turned))
 
 -- after the look the layer comes next, or the body is refused
-found_cases : (found : BodyFound) → (after_look found ≡ Outside) ⊎ ((refused : MarkRefused) × (after_look found ≡ Refusing refused))
+pub found_cases : (found : BodyFound) → (after_look found ≡ Outside) ⊎ ((refused : MarkRefused) × (after_look found ≡ Refusing refused))
 found_cases (FoundGone state) = inr (Gone state, refl)
 found_cases FoundLive = inl refl
 found_cases FoundOut = inl refl

@@ -312,8 +312,8 @@ module _ (before : PrepareOp) (drawing new : TreeDrawing) (view next : View) (st
         from_pool = from_pool;
       }
 
-      answers : HasPreparedOr first start next (Ok prepared)
-      answers =
+      pub draws-answers : HasPreparedOr first start next (Ok prepared)
+      draws-answers =
           subst (λ (l : ℕ). HasPrepared l (ids_of first) start next prepared) preparing.layer
           (subst (λ (l : List Id). HasPrepared before.layer l start next prepared) preparing.ids has_prepared)
 
@@ -324,5 +324,5 @@ module _ (before : PrepareOp) (drawing new : TreeDrawing) (view next : View) (st
       turned = tt;
       loads = tt;
       keeps = λ first start preparing. tt;
-      answered = λ first start preparing. answers first start preparing;
+      answered = λ first start preparing. draws-answers first start preparing;
     }

@@ -261,7 +261,7 @@ module _ (before : PrepareOp) (marking : Marking) (after : PrepareOp) (view next
       same = begins.bodies;
     }
 
-    tree_begun : IsPreparing first start after next
+    pub tree_begun : IsPreparing first start after next
     tree_begun =
         let at = all_at before marking view next stage ends first start preparing in
         let goes : IsInPart IsDrawing (CameToDraw after start) begins.drawing next = record { mid = next; first = begins.drawing; so = tree_came; goes = begins.goes } in
@@ -423,7 +423,7 @@ module _ (before : PrepareOp) (marking : Marking) (view next : View) (refused : 
         );
       }
 
-      undo_begun : IsPreparing first start after next
+      pub undo_begun : IsPreparing first start after next
       undo_begun =
           let at = some_at first start preparing in
           let goes : IsInPart IsGivingUp (CameToGive after start undone) begins.giving next = record { mid = next; first = begins.giving; so = undo_came; goes = begins.goes } in

@@ -47,7 +47,7 @@ pub fn prepare<R: Wait>(
     ensures keeps { IfErr result (λ refused. belongings_of (view_of pass.new) ≡ belongings_of (view_of pass.old)) }
 {
     match PrepareOp::new(alloc, world, pass, layer, ids) {
-        Ok(mut preparing) => drive(rt, world, pass, &mut preparing),
+        Ok(mut preparing) => preparing.finish(rt, world, pass),
         Err(_) => Err(PrepareRefused::Memory),
     }
 }

@@ -15,6 +15,7 @@ mod aborting;
 mod answers;
 mod calls;
 mod draw_stage;
+mod drawing_steps;
 mod finalizing;
 mod giving_up;
 mod kept_batch;
@@ -30,6 +31,9 @@ mod prepared_list;
 mod preparing;
 mod slot_search;
 mod tree_drawing;
+mod whole_batch;
+mod whole_marks;
+mod whole_tree;
 
 pub use aborting::AbortOp;
 pub use answers::{PrepareRefused, SlotWords};

@@ -61,7 +61,7 @@ impl Operation for Marking {
 }
 
 /// The stage after a look at a body that has found this: where the body is out, its layer is loaded next.
-fn stage_of(found: BodyFound) -> MarkStage
+pub(crate) fn stage_of(found: BodyFound) -> MarkStage
     requires asked { IsAsked ItsPhase found }
     ensures { result ≡ after_look found }
 {
@@ -136,7 +136,7 @@ impl Marking {
     }
 
     /// The id of the next body.
-    fn id(&self) -> BodyId
+    pub(crate) fn id(&self) -> BodyId
         requires next { self.now.marked < length self.now.ids.items }
         ensures { result ≡ current (marks_of self.now) }
     {

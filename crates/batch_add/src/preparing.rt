@@ -202,28 +202,25 @@ impl PrepareOp {
         ensures labelled { Labelled result (label_of self.old) (label_of self.new) }
         ensures label { KeepsLabel result self.old self.new (view_of pass.old) (view_of pass.new) }
     {
-        let Some(mut drawing) = mem::replace(&mut self.drawing, None) else {
+        let Some(drawing) = &mut self.drawing else {
             unreachable!()
         };
         match drawing.turn(world, pass) {
             Turn::Done(()) => {
+                let Some(drawn) = mem::replace(&mut self.drawing, None) else {
+                    unreachable!()
+                };
                 let indexes = mem::replace(&mut self.indexes, Vec::new(self.alloc));
                 Turn::Done(Ok(Prepared {
                     number: pass.number(),
                     layer: self.layer,
                     slot: self.slot,
                     indexes,
-                    nodes: drawing.nodes,
+                    nodes: drawn.nodes,
                 }))
             }
-            Turn::More => {
-                self.drawing = Some(drawing);
-                Turn::More
-            }
-            Turn::Again { lock, word } => {
-                self.drawing = Some(drawing);
-                Turn::Again { lock, word }
-            }
+            Turn::More => Turn::More,
+            Turn::Again { lock, word } => Turn::Again { lock, word },
         }
     }
 
@@ -255,7 +252,7 @@ impl PrepareOp {
     // ---- what comes next
 
     /// Goes on to take nodes for the batch of a slot that is reserved.
-    fn begin_nodes(&mut self, world: &World, pass: &mut Pass, slot: u32)
+    pub(crate) fn begin_nodes(&mut self, world: &World, pass: &mut Pass, slot: u32)
         requires of { IsOf world.now pass.old }
         requires some { 0 < self.old.taking.count }
         requires nodes { length self.old.taking.nodes.items ≡ self.old.taking.count }
@@ -271,7 +268,7 @@ impl PrepareOp {
     }
 
     /// Goes on to mark the bodies.
-    fn begin_marks(&mut self, world: &World, pass: &mut Pass)
+    pub(crate) fn begin_marks(&mut self, world: &World, pass: &mut Pass)
         requires of { IsOf world.now pass.old }
         requires some { 0 < length self.old.marking.ids.items }
         requires below { All (λ id. id.index < world.now.map.bodies) self.old.marking.ids.items }
@@ -288,7 +285,7 @@ impl PrepareOp {
     }
 
     /// Goes on to draw the tree over the bodies, which are marked, in the nodes.
-    fn begin_tree(&mut self, pass: &Pass)
+    pub(crate) fn begin_tree(&mut self, pass: &Pass)
         requires rest { IsAtRest (view_of pass.now) }
         requires plans { CanPlan (length self.old.marking.bodies.items) self.old.plans }
         requires batch { IsToDraw (view_of pass.now) self.old.marking.bodies.items self.old.taking.nodes.items }
@@ -306,7 +303,7 @@ impl PrepareOp {
     }
 
     /// Goes on to undo what was done, for this reason.
-    fn begin_undoing(&mut self, world: &World, pass: &mut Pass, undone: Undone)
+    pub(crate) fn begin_undoing(&mut self, world: &World, pass: &mut Pass, undone: Undone)
         requires of { IsOf world.now pass.old }
         requires begun { (before : List Batch) × (batch : Batch) × IsBegunFor (kept_of self.old undone) (view_of pass.old) before batch [] }
         ensures pass { pass.new ≡ pass.old }

@@ -1,25 +1,20 @@
 //! Drawing the planned tree over the bodies of a batch in its nodes, and placing the bodies there.
 ghost use Rattle.std.specs.Prelude.{◌≡◌, ◌<◌, ◌≤◌, length, None, ⊤};
 ghost use Rattle.std.specs.List.Sorted.{IsPermutation};
-ghost use Rattle.tree_plan.specs.Arranged.{AreApart};
-ghost use Rattle.tree_plan.specs.Plan.{node_count, child_at, parent_at, IsPlanOf};
-ghost use Rattle.tree_bounds.specs.Bounds.{side, AreBoundsOf};
-ghost use Rattle.tree_bounds.specs.Held.{bound_of};
+ghost use Rattle.tree_plan.specs.Plan.{node_count, child_at};
 ghost use Rattle.pass_table.specs.declared.turn.Turn.TheVariants.{More};
 ghost use Rattle.pass_table.specs.Holding.{IsAtRest};
 ghost use Rattle.pass_table.specs.Passes.{view_of, IsOf};
 ghost use Rattle.pass_table.specs.Turning.{IsUnderWay};
 ghost use Rattle.batch_add.specs.declared.draw_stage.DrawStage.TheVariants.{Child, Side, Placing, Parent};
-ghost use Rattle.batch_add.specs.Drawing.{node_at, child_word, parent_word};
-ghost use Rattle.batch_add.specs.stages.DrawStages.{IsToDraw, next_child, after_child, after_side, HasNodesFor, IsDrawing, IsDrawTurn};
+ghost use Rattle.batch_add.specs.stages.DrawStages.{IsToDraw, next_child, after_child, after_side, IsDrawing, IsDrawTurn};
 
 use crate::draw_stage::DrawStage;
 use fixed_box::FixBox;
-use pass_table::{Label, Operation, Pass, Turn, World, step_20, step_21, step_22, step_23};
+use pass_table::{Label, Operation, Pass, Turn, World};
 use scene_model::Made;
-use tree_bounds::{TreeBounds, sort_by_index};
+use tree_bounds::TreeBounds;
 use tree_plan::{PlanChild, Planner};
-use word_map::{ChildWord, LocationWord, Name};
 
 /// Drawing the planned tree over the bodies of the newest batch in its nodes, and placing the bodies there.
 ///
@@ -78,7 +73,7 @@ impl Operation for TreeDrawing {
 impl TreeDrawing {
     /// Plans the tree over the bodies and computes its bounds; no step is made yet, and no memory is taken.
     ///
-    /// The bodies are put in the order of their indexes.
+    /// The bodies are put in the order in which they stand in the tree.
     pub(crate) fn new(
         pass: &Pass,
         planner: Planner,
@@ -94,12 +89,13 @@ impl TreeDrawing {
         ensures nodes { result.nodes ≡ nodes }
         ensures planner { result.planner.most ≡ planner.most }
         ensures bounds { result.bounds.most ≡ bounds.most }
+        ensures first { result.stage ≡ Child 0 0 }
         ensures under_way { IsDrawing result (view_of pass.now) result (view_of pass.now) }
     {
         let mut planner = planner;
         let mut bounds = bounds;
         let mut bodies = bodies;
-        plan_over(&mut planner, &mut bounds, &mut bodies);
+        bounds.plan(&mut planner, &mut bodies);
         TreeDrawing {
             planner,
             bounds,
@@ -137,76 +133,82 @@ impl TreeDrawing {
         Turn::More
     }
 
-    // ---- what is stored
+    // ---- turns
 
-    /// The node of the table that a node of the plan becomes.
-    fn node(&self, number: u32) -> u32
-        requires below { number < length self.now.nodes.items }
-        ensures { result ≡ node_at self.now.nodes.items number }
+    /// A turn that stores the word of a child.
+    fn store_child(&mut self, world: &World, pass: &mut Pass, node: u32, child: u32) -> Turn<()>
+        requires of { IsOf world.now pass.old }
+        requires under_way { IsUnderWay IsDrawing self.old (view_of pass.old) }
+        requires stage { self.old.stage ≡ Child node child }
+        ensures of { IsOf world.now pass.new }
+        ensures turn { IsDrawTurn result self.old self.new (view_of pass.old) (view_of pass.new) }
     {
-        self.nodes[number as usize]
+        let here = self.planner.child(node, child);
+        self.put_child(world, pass, node, child, here);
+        self.go_on(after_child(node, child, here))
     }
 
-    /// The word of a child.
-    fn child_word(&self, node: u32, child: u32) -> u64
-        requires node { node < node_count self.now.planner }
-        requires child { child < 4 }
-        requires nodes { HasNodesFor self.now.planner self.now.nodes.items }
-        ensures { result ≡ child_word self.now.nodes.items (child_at self.now.planner node child) }
+    /// A turn that stores a side of the bound of a child.
+    fn store_side(
+        &mut self,
+        world: &World,
+        pass: &mut Pass,
+        node: u32,
+        child: u32,
+        side: u32,
+    ) -> Turn<()>
+        requires of { IsOf world.now pass.old }
+        requires under_way { IsUnderWay IsDrawing self.old (view_of pass.old) }
+        requires stage { self.old.stage ≡ Side node child side }
+        ensures of { IsOf world.now pass.new }
+        ensures turn { IsDrawTurn result self.old self.new (view_of pass.old) (view_of pass.new) }
     {
-        match self.planner.child(node, child) {
-            PlanChild::Nothing => ChildWord::Empty.to_word(),
-            PlanChild::Body(index) => ChildWord::Body { index }.to_word(),
-            PlanChild::Node(below) => ChildWord::Node {
-                node: self.node(below),
-            }
-            .to_word(),
+        let word = self.side(node, child, side);
+        self.put_side(world, pass, node, child, side, word);
+        let next = self.after_side(node, child, side);
+        self.go_on(next)
+    }
+
+    /// The turn that stores the location of a body.
+    fn place_body(
+        &mut self,
+        world: &World,
+        pass: &mut Pass,
+        node: u32,
+        child: u32,
+        index: u32,
+    ) -> Turn<()>
+        requires of { IsOf world.now pass.old }
+        requires under_way { IsUnderWay IsDrawing self.old (view_of pass.old) }
+        requires stage { self.old.stage ≡ Placing node child index }
+        ensures of { IsOf world.now pass.new }
+        ensures turn { IsDrawTurn result self.old self.new (view_of pass.old) (view_of pass.new) }
+    {
+        self.put_place(world, pass, node, child, index);
+        self.go_on(next_child(node, child))
+    }
+
+    /// The turn that stores the parent of a node; after that of the last node all is done.
+    fn store_parent(&mut self, world: &World, pass: &mut Pass, node: u32) -> Turn<()>
+        requires of { IsOf world.now pass.old }
+        requires under_way { IsUnderWay IsDrawing self.old (view_of pass.old) }
+        requires stage { self.old.stage ≡ Parent node }
+        ensures of { IsOf world.now pass.new }
+        ensures turn { IsDrawTurn result self.old self.new (view_of pass.old) (view_of pass.new) }
+    {
+        let count = self.planner.len();
+        if node + 1 == count {
+            self.put_last_parent(world, pass, node);
+            return Turn::Done(());
         }
-    }
-
-    /// A side of the bound of a child.
-    fn side(&self, node: u32, child: u32, number: u32) -> u64
-        requires node { node < self.now.bounds.nodes }
-        requires child { child < 4 }
-        requires number { number < 6 }
-        ensures { result ≡ side (bound_of self.now.bounds node child) number }
-    {
-        self.bounds.bound(node, child).to_words()[number as usize]
-    }
-
-    /// The word of a node's parent.
-    fn parent_word(&self, node: u32) -> u64
-        requires node { node < node_count self.now.planner }
-        requires nodes { HasNodesFor self.now.planner self.now.nodes.items }
-        ensures { result ≡ parent_word self.now.nodes.items (parent_at self.now.planner node) }
-    {
-        match self.planner.parent(node) {
-            None => LocationWord::Nowhere.to_word(),
-            Some((above, child)) => LocationWord::At {
-                node: self.node(above),
-                child,
-            }
-            .to_word(),
-        }
+        self.put_parent(world, pass, node);
+        self.go_on(DrawStage::Child {
+            node: node + 1,
+            child: 0,
+        })
     }
 
     // ---- what comes next
-
-    /// What comes after the word of a child: the sides of its bound, where something stands there.
-    fn after_child(&self, node: u32, child: u32) -> DrawStage
-        requires node { node < node_count self.now.planner }
-        requires child { child < 4 }
-        ensures { result ≡ after_child node child (child_at self.now.planner node child) }
-    {
-        match self.planner.child(node, child) {
-            PlanChild::Nothing => next_child(node, child),
-            _ => DrawStage::Side {
-                node,
-                child,
-                side: 0,
-            },
-        }
-    }
 
     /// What comes after a side: the next one, and after the last one the location of the body that stands there.
     fn after_side(&self, node: u32, child: u32, side: u32) -> DrawStage
@@ -227,106 +229,21 @@ impl TreeDrawing {
             _ => next_child(node, child),
         }
     }
-
-    // ---- turns
-
-    /// A turn that stores the word of a child.
-    fn store_child(&mut self, world: &World, pass: &mut Pass, node: u32, child: u32) -> Turn<()>
-        requires of { IsOf world.now pass.old }
-        requires under_way { IsUnderWay IsDrawing self.old (view_of pass.old) }
-        requires stage { self.old.stage ≡ Child node child }
-        ensures of { IsOf world.now pass.new }
-        ensures turn { IsDrawTurn result self.old self.new (view_of pass.old) (view_of pass.new) }
-    {
-        let at = self.node(node);
-        let word = self.child_word(node, child);
-        step_20(world, pass, Name::Child(at, child), word);
-        let next = self.after_child(node, child);
-        self.go_on(next)
-    }
-
-    /// A turn that stores a side of the bound of a child.
-    fn store_side(
-        &mut self,
-        world: &World,
-        pass: &mut Pass,
-        node: u32,
-        child: u32,
-        side: u32,
-    ) -> Turn<()>
-        requires of { IsOf world.now pass.old }
-        requires under_way { IsUnderWay IsDrawing self.old (view_of pass.old) }
-        requires stage { self.old.stage ≡ Side node child side }
-        ensures of { IsOf world.now pass.new }
-        ensures turn { IsDrawTurn result self.old self.new (view_of pass.old) (view_of pass.new) }
-    {
-        let at = self.node(node);
-        let word = self.side(node, child, side);
-        step_21(world, pass, Name::Bound(at, child, side), word);
-        let next = self.after_side(node, child, side);
-        self.go_on(next)
-    }
-
-    /// The turn that stores the location of a body.
-    fn place_body(
-        &mut self,
-        world: &World,
-        pass: &mut Pass,
-        node: u32,
-        child: u32,
-        index: u32,
-    ) -> Turn<()>
-        requires of { IsOf world.now pass.old }
-        requires under_way { IsUnderWay IsDrawing self.old (view_of pass.old) }
-        requires stage { self.old.stage ≡ Placing node child index }
-        ensures of { IsOf world.now pass.new }
-        ensures turn { IsDrawTurn result self.old self.new (view_of pass.old) (view_of pass.new) }
-    {
-        let location = LocationWord::At {
-            node: self.node(node),
-            child,
-        };
-        step_23(world, pass, Name::LocA(index), location.to_word());
-        self.go_on(next_child(node, child))
-    }
-
-    /// The turn that stores the parent of a node; after that of the last node all is done.
-    fn store_parent(&mut self, world: &World, pass: &mut Pass, node: u32) -> Turn<()>
-        requires of { IsOf world.now pass.old }
-        requires under_way { IsUnderWay IsDrawing self.old (view_of pass.old) }
-        requires stage { self.old.stage ≡ Parent node }
-        ensures of { IsOf world.now pass.new }
-        ensures turn { IsDrawTurn result self.old self.new (view_of pass.old) (view_of pass.new) }
-    {
-        let at = self.node(node);
-        let word = self.parent_word(node);
-        step_22(world, pass, Name::Parent(at), word);
-        let count = self.planner.len();
-        if node + 1 == count {
-            return Turn::Done(());
-        }
-        self.go_on(DrawStage::Child {
-            node: node + 1,
-            child: 0,
-        })
-    }
 }
 
-/// Plans the tree over some bodies, with its bounds, and puts the bodies in the order of their indexes.
-fn plan_over(planner: &mut Planner, bounds: &mut TreeBounds, bodies: &mut [(u32, FixBox)])
-    requires planner { length bodies.old ≤ planner.old.most }
-    requires bounds { length bodies.old ≤ bounds.old.most }
-    requires apart { AreApart bodies.old }
-    ensures bodies { IsPermutation bodies.old bodies.new }
-    ensures planned { IsPlanOf bodies.old planner.new }
-    ensures bounded { AreBoundsOf bodies.new planner.new (bound_of bounds.new) }
-    ensures nodes { bounds.new.nodes ≡ node_count planner.new }
-    ensures planner { planner.new.most ≡ planner.old.most }
-    ensures bounds { bounds.new.most ≡ bounds.old.most }
+/// What comes after the word of a child: the sides of its bound, where something stands there.
+fn after_child(node: u32, child: u32, here: PlanChild) -> DrawStage
+    requires { child < 4 }
+    ensures { result ≡ after_child node child here }
 {
-    planner.fill(bodies);
-    sort_by_index(bodies);
-    bounds.fill(planner, bodies);
+    match here {
+        PlanChild::Nothing => next_child(node, child),
+        _ => DrawStage::Side {
+            node,
+            child,
+            side: 0,
+        },
+    }
 }
 
 /// What comes after a child is done: the next one, and after the last one the parent of the node.

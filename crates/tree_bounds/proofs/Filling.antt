@@ -2,10 +2,10 @@
 use Rattle.std.proofs.Common.{◌≡◌, ◌≢◌, ℕ, ◌+◌, ◌*◌, ◌<◌, ◌≤◌, inl, inr, List, length, take, get_or, set, sym, ◌∙◌, ap, subst, arith, get_or-set_same, get_or-set_other}
 use Rattle.std.specs.List.{Contains}
 use Rattle.std.proofs.lemmas.Bool.{cases_eq}
-use Rattle.std.proofs.lemmas.List.{get_or-take}
+use Rattle.std.proofs.lemmas.List.{get_or-take, length-set}
 use Rattle.fixed_box.specs.declared.fix_box.FixBox.{FixBox}
 use Rattle.tree_plan.specs.declared.plan_child.PlanChild.TheVariants.{Body, Node}
-use Rattle.tree_plan.specs.Plan.{Plan, node_count, child_at, IsPlanOf}
+use Rattle.tree_plan.specs.Plan.{Plan, node_count, child_at, IsPlanOf, HaveBoxesOf}
 use Rattle.tree_bounds.specs.Bounds.{IsHullOfNode, AreBoundsOf}
 use Rattle.tree_bounds.specs.Held.{no_bound, bound_in}
 use Rattle.tree_bounds.proofs.FirstChildren.{below_later}
@@ -75,3 +75,22 @@ module _ (bodies : List (ℕ × FixBox)) (plan : Plan) (planned : IsPlanOf bodie
               (hull_stays i j m (bound_in boxes i j) from made less e (h.a_node i j m (omega arith) made less e))
         ];
   }
+
+-- the boxes of the bodies stay where a bound is written that is the box of the body there, if one stands there
+pub HaveBoxesOf-more : (bodies : List (ℕ × FixBox)) (plan : Plan) (boxes : List FixBox) (place n k : ℕ) (box : FixBox) → place < length boxes → 4 * n + k ≡ place → k < 4
+    → ((index : ℕ) → child_at plan n k ≡ Body index → Contains bodies (index, box)) → HaveBoxesOf bodies plan boxes → HaveBoxesOf bodies plan (set boxes place box)
+HaveBoxesOf-more bodies plan boxes place n k box within here few body h = λ i j index d made less inside e.
+    let size : length (set boxes place box) ≡ length boxes = length-set boxes place box in
+    elim (cases_eq (4 * i + j) place) [
+      | inl same ↦
+          let one : i ≡ n = omega arith in
+          let two : j ≡ k = omega arith in
+          let read : get_or (set boxes place box) (4 * i + j) d ≡ box = ap (λ t. get_or (set boxes place box) t d) same ∙ get_or-set_same boxes place box d within in
+          subst (λ (b : FixBox). Contains bodies (index, b)) (sym read) (body index (ap (λ x. child_at plan x k) (sym one) ∙ ap (λ x. child_at plan i x) (sym two) ∙ e))
+      | inr apart ↦ subst (λ (b : FixBox). Contains bodies (index, b)) (sym (get_or-set_other boxes place (4 * i + j) box d apart)) (h i j index d made less (omega arith) e)
+    ]
+
+-- a box that stays where it was is the body's
+pub box_stays : (bodies : List (ℕ × FixBox)) (plan : Plan) (boxes : List FixBox) (n k : ℕ) (box : FixBox) → n < node_count plan → k < 4 → 4 * n + k < length boxes → HaveBoxesOf bodies plan boxes
+    → ((index : ℕ) → child_at plan n k ≡ Body index → box ≡ bound_in boxes n k) → (index : ℕ) → child_at plan n k ≡ Body index → Contains bodies (index, box)
+box_stays bodies plan boxes n k box made few inside h stays index e = subst (λ (b : FixBox). Contains bodies (index, b)) (sym (stays index e)) (h n k index no_bound made few inside e)

@@ -1,6 +1,5 @@
 pub mod Sides
 pub mod NodeHulls
 pub mod FirstChildren
-pub mod ByIndex
 pub mod Filling
 pub mod Sets

@@ -1,58 +1,68 @@
-ghost use Rattle.std.specs.Prelude.{◌≡◌, ℕ, [], ◌*◌, ◌<◌, ◌≤◌, length, map, IfOk, Contains};
-ghost use Rattle.std.specs.List.Sorted.{IsStrictlyIncreasing};
+ghost use Rattle.std.specs.Prelude.{◌≡◌, ℕ, List, [], ◌*◌, ◌<◌, ◌≤◌, length, IfOk};
+ghost use Rattle.std.specs.List.Sorted.{IsPermutation};
+ghost use Rattle.fixed_box.specs.declared.fix_box.FixBox.{FixBox};
+ghost use Rattle.scene_model.specs.Need.{need};
+ghost use Rattle.tree_plan.specs.Arranged.{AreApart};
 ghost use Rattle.tree_plan.specs.declared.node_count.TheConstants.{MAX_TREE_BODIES};
 ghost use Rattle.tree_plan.specs.declared.plan_child.PlanChild.TheVariants.{Body, Node};
-ghost use Rattle.tree_plan.specs.Plan.{node_count, child_at, IsPlanOf};
+ghost use Rattle.tree_plan.specs.Plan.{node_count, child_at, IsPlanOf, HaveBoxesOf};
 ghost use Rattle.tree_bounds.specs.Bounds.{IsHullOfNode, AreBoundsOf};
 ghost use Rattle.tree_bounds.specs.Held.{bound_in, bound_of};
 
-use crate::by_index::box_of;
 use crate::hull::hull_of_node;
 use fixed_box::{Coord, FixBox};
 use std::alloc::{AllocError, Global};
 use std::marker::Model;
 use tree_plan::{PlanChild, Planner, need};
 
-/// The bound of one child: of a body its box, and of a node the hull of the bounds that stand at its children.
-/// Where there is no child the bound stays.
-fn bound_of_child(
-    planner: &Planner,
-    bodies: &[(u32, FixBox)],
-    bounds: &[FixBox],
-    node: u32,
-    c: u32,
-) -> FixBox
-    requires planned { IsPlanOf bodies.now planner.now }
-    requires ascending { IsStrictlyIncreasing (map (λ b. b.0) bodies.now) }
+/// The bound of one child: of a node the hull of the bounds that stand at its children. A body's box is there already, and
+/// where there is no child the bound stays.
+fn bound_of_child(planner: &Planner, bounds: &[FixBox], node: u32, c: u32) -> FixBox
+    requires planned { (bodies : List (ℕ × FixBox)) × IsPlanOf bodies planner.now }
     requires room { 4 * node_count planner.now ≤ length bounds.now }
     requires node { node < node_count planner.now }
     requires child { c < 4 }
-    ensures a_body { (index : ℕ) → child_at planner.now node c ≡ Body index → Contains bodies.now (index, result) }
+    ensures a_body { (index : ℕ) → child_at planner.now node c ≡ Body index → result ≡ bound_in bounds.now node c }
     ensures a_node { (m : ℕ) → child_at planner.now node c ≡ Node m → IsHullOfNode planner.now (bound_in bounds.now) m result }
 {
     match planner.child(node, c) {
-        PlanChild::Nothing => bounds[4 * node as usize + c as usize],
-        PlanChild::Body(index) => box_of(bodies, index),
         PlanChild::Node(below) => hull_of_node(planner, bounds, below),
+        _ => bounds[4 * node as usize + c as usize],
     }
 }
 
-/// Writes the bounds of all children, from the last of the last node to the first of the first. A node stands above
-/// those below it in number, so their bounds are there before its own.
+/// Writes the bounds of all nodes over the boxes of the bodies, from the last place to the first. A node stands above those
+/// below it in number, so their bounds are there before its own.
 fn fill_from_the_last(planner: &Planner, bodies: &[(u32, FixBox)], bounds: &mut [FixBox])
     requires planned { IsPlanOf bodies.now planner.now }
-    requires ascending { IsStrictlyIncreasing (map (λ b. b.0) bodies.now) }
+    requires boxes { HaveBoxesOf bodies.now planner.now bounds.old }
     requires room { 4 * node_count planner.now ≤ length bounds.old }
-    ensures { AreBoundsOf bodies.now planner.now (bound_in bounds.new) }
+    ensures bounds { AreBoundsOf bodies.now planner.now (bound_in bounds.new) }
+    ensures room { length bounds.new ≡ length bounds.old }
 {
     let places = 4 * planner.len() as usize;
     for done in 0..places {
         let place = places - 1 - done;
         let node = (place / 4) as u32;
         let child = (place % 4) as u32;
-        let bound = bound_of_child(planner, bodies, bounds, node, child);
+        let bound = bound_of_child(planner, bounds, node, child);
         bounds[place] = bound;
     }
+}
+
+/// Plans the tree over bodies, and writes the bounds of all children.
+fn plan_with_bounds(planner: &mut Planner, bodies: &mut [(u32, FixBox)], bounds: &mut [FixBox])
+    requires few { length bodies.old ≤ planner.old.most }
+    requires apart { AreApart bodies.old }
+    requires room { 4 * need (length bodies.old) ≤ length bounds.old }
+    ensures plan { IsPlanOf bodies.old planner.new }
+    ensures bounds { AreBoundsOf bodies.old planner.new (bound_in bounds.new) }
+    ensures room { length bounds.new ≡ length bounds.old }
+    ensures most { planner.new.most ≡ planner.old.most }
+    ensures bodies { IsPermutation bodies.old bodies.new }
+{
+    planner.fill_with_boxes(bodies, bounds);
+    fill_from_the_last(planner, bodies, bounds);
 }
 
 /// The bounds of the children of a planned tree, four for each node.
@@ -97,20 +107,21 @@ impl TreeBounds {
         })
     }
 
-    /// Computes the bounds of the tree that was planned over these bodies, in place of those before. It takes no
-    /// memory.
-    ///
-    /// The bodies come in the order of their indexes, as `sort_by_index` puts them.
-    pub fn fill(&mut self, planner: &Planner, bodies: &[(u32, FixBox)])
-        requires few { length bodies.now ≤ self.old.most }
-        requires planned { IsPlanOf bodies.now planner.now }
-        requires ascending { IsStrictlyIncreasing (map (λ b. b.0) bodies.now) }
-        ensures bounds { AreBoundsOf bodies.now planner.now (bound_of self.new) }
-        ensures nodes { self.new.nodes ≡ node_count planner.now }
+    /// Plans the tree over these bodies and computes its bounds, in place of the tree and the bounds before. It puts the
+    /// bodies in another order and takes no memory.
+    pub fn plan(&mut self, planner: &mut Planner, bodies: &mut [(u32, FixBox)])
+        requires few { length bodies.old ≤ self.old.most }
+        requires few_planned { length bodies.old ≤ planner.old.most }
+        requires apart { AreApart bodies.old }
+        ensures plan { IsPlanOf bodies.old planner.new }
+        ensures bounds { AreBoundsOf bodies.old planner.new (bound_of self.new) }
+        ensures nodes { self.new.nodes ≡ node_count planner.new }
         ensures most { self.new.most ≡ self.old.most }
+        ensures planner_most { planner.new.most ≡ planner.old.most }
+        ensures bodies { IsPermutation bodies.old bodies.new }
     {
+        plan_with_bounds(planner, bodies, &mut self.bounds);
         self.len = planner.len();
-        fill_from_the_last(planner, bodies, &mut self.bounds);
     }
 
     /// How many nodes have bounds.

@@ -21,7 +21,7 @@ use Rattle.tree_plan.proofs.Quarters.{quarter_within, need_by_quarters, part-who
 -- ---- what is still needed
 
 -- a slot that is to be filled is one of a node
-slot_under : (runs : List Run) (nodes count slot : ℕ) → slot < 4 * nodes → slot ≤ 4 * count → count + needs_from runs slot (4 * count - slot) ≡ nodes → slot < 4 * count
+pub slot_under : (runs : List Run) (nodes count slot : ℕ) → slot < 4 * nodes → slot ≤ 4 * count → count + needs_from runs slot (4 * count - slot) ≡ nodes → slot < 4 * count
 slot_under runs nodes count slot below reached still =
     elim (cases_lt slot (4 * count)) [
       | inl h ↦ h

@@ -1,6 +1,6 @@
 -- How far the nodes have been numbered. A slot is a child's place: slot 4 * n + c is that of child c of node n.
 use Rattle.std.specs.Prelude.{◌≡◌, ℕ, zero, suc, ◌+◌, ◌-◌, ◌*◌, ◌/◌, ◌%◌, ◌<◌, ◌≤◌, None, Some, List, [], ◌∷◌, ◌++◌, length, map, take, drop, slice_index_or}
-use Rattle.std.specs.List.{filter_map, range_with_len}
+use Rattle.std.specs.List.{filter_map, range_with_len, Contains}
 use Rattle.std.specs.List.Sorted.{IsPermutation}
 use Rattle.fixed_box.specs.declared.fix_box.FixBox.{FixBox}
 use Rattle.scene_model.specs.Need.{need, need_of_run}
@@ -68,3 +68,7 @@ pub record IsNumbered (bodies : List (ℕ × FixBox)) (runs : List Run) (childre
   pub parents : (n : ℕ) → 0 < n → n < count → (t : ℕ) × (t < slot) × IsNodeAt runs children count t n
   pub numbers : filter_map node_of (take slot children) ≡ range_with_len 1 (count - 1)
   pub once : IsPermutation (map (λ b. b.0) bodies) (filter_map body_of (take slot children) ++ indexes_from bodies runs slot (4 * count - slot))
+
+-- the box of each body at a slot below one stands at the slot's place, as far as there are places
+abbrev pub HaveBoxes : List (ℕ × FixBox) → List PlanChild → List FixBox → ℕ → Type 0
+HaveBoxes bodies children boxes slot = (t index : ℕ) (d : FixBox) → t < slot → t < length boxes → slot_child children t ≡ Body index → Contains bodies (index, slice_index_or boxes t d)

@@ -1,6 +1,6 @@
 -- What a planner holds.
 use Rattle.std.specs.Prelude.{◌≡◌, ◌↔◌, ℕ, zero, suc, ◌+◌, ◌-◌, ◌*◌, ◌<◌, ◌≤◌, Option, None, Some, IsSome, List, length, map, slice_index_or}
-use Rattle.std.specs.List.{filter_map, range_with_len}
+use Rattle.std.specs.List.{filter_map, range_with_len, Contains}
 use Rattle.std.specs.List.Sorted.{IsPermutation}
 use Rattle.fixed_box.specs.declared.fix_box.FixBox.{FixBox}
 use Rattle.scene_model.specs.Need.{need}
@@ -69,3 +69,8 @@ pub record IsPlanOf (bodies : List (ℕ × FixBox)) (plan : Plan) : Type 0 where
   pub once : IsPermutation (map (λ b. b.0) bodies) (filter_map body_of plan.children)
   pub breadth_first : filter_map node_of plan.children ≡ range_with_len 1 (node_count plan - 1)
   pub parents : ParentsAgree plan
+
+-- the box of each body stands where the body does in the plan, four places for each node, as far as there are places
+abbrev pub HaveBoxesOf : List (ℕ × FixBox) → Plan → List FixBox → Type 0
+HaveBoxesOf bodies plan boxes =
+    (n c index : ℕ) (d : FixBox) → n < node_count plan → c < 4 → 4 * n + c < length boxes → child_at plan n c ≡ Body index → Contains bodies (index, slice_index_or boxes (4 * n + c) d)

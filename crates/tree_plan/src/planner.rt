@@ -45,7 +45,7 @@ impl Model for Planner {
 }
 
 impl Planner {
-    ghost use Rattle.tree_plan.specs.Plan.{node_count, child_at, parent_at, IsPlanOf};
+    ghost use Rattle.tree_plan.specs.Plan.{node_count, child_at, parent_at, IsPlanOf, HaveBoxesOf};
 
     /// A planner for so many bodies at most, no more than `MAX_TREE_BODIES`. It has no nodes yet. It takes all memory that it ever needs, and fails
     /// where there is not enough.
@@ -83,11 +83,28 @@ impl Planner {
         ensures bodies { IsPermutation bodies.old bodies.new }
         ensures still_apart { AreApart bodies.new }
     {
+        let mut none: [FixBox; 0] = [];
+        self.fill_with_boxes(bodies, &mut none);
+    }
+
+    /// Plans the tree over these bodies as `fill` does, and writes the box of each body where it stands in the tree: that
+    /// of child c of node n at 4 * n + c. Places for which there is no room are left out.
+    pub fn fill_with_boxes(&mut self, bodies: &mut [(u32, FixBox)], boxes: &mut [FixBox])
+        requires few { length bodies.old ≤ self.old.most }
+        requires apart { AreApart bodies.old }
+        ensures plan { IsPlanOf bodies.old self.new }
+        ensures boxes { HaveBoxesOf bodies.old self.new boxes.new }
+        ensures boxes_room { length boxes.new ≡ length boxes.old }
+        ensures most { self.new.most ≡ self.old.most }
+        ensures bodies { IsPermutation bodies.old bodies.new }
+        ensures still_apart { AreApart bodies.new }
+    {
         arrange(bodies, &mut self.room);
         let nodes = need(bodies.len() as u32);
         self.len = nodes;
         if nodes > 0 {
-            number_nodes(bodies, &mut self.runs, &mut self.children, nodes as usize);
+            let nodes = nodes as usize;
+            number_nodes(bodies, &mut self.runs, &mut self.children, boxes, nodes);
         }
     }
 

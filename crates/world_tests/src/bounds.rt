@@ -4,7 +4,7 @@ ghost use Rattle.std.specs.Prelude.{◌≡◌, ◌≤◌};
 use fixed_box::{Coord, FixBox};
 use std::alloc::{AllocError, Global};
 use std::test::Fail;
-use tree_bounds::{TreeBounds, laws, sort_by_index};
+use tree_bounds::TreeBounds;
 use tree_plan::{Planner, indexes_rise};
 
 /// Plans the bodies, where they are few and their indexes rise, and computes the bounds.
@@ -21,10 +21,7 @@ fn fill(
 {
     let mut bodies = bodies.to_vec(alloc)?;
     if bodies.len() <= 100 && indexes_rise(&bodies) {
-        planner.fill(&mut bodies);
-        sort_by_index(&mut bodies);
-        laws::plan_is_of_the_set();
-        bounds.fill(planner, &bodies);
+        bounds.plan(planner, &mut bodies);
     }
     Ok(())
 }
@@ -109,15 +106,5 @@ fn seventeen_after_one(rt: HostRuntime) -> Result<(), Fail> {
         (1, 0, [0, -1, 0], [1010, 5, 9]),
     ];
     assert!(rt; are_bounds(&bounds, &children));
-    Ok(())
-}
-
-#[test]
-fn bodies_come_in_the_order_of_their_indexes(rt: HostRuntime) -> Result<(), Fail> {
-    let mut bodies = row(rt.alloc(), 20)?;
-    bodies.reverse();
-    assert!(rt; !indexes_rise(&bodies));
-    sort_by_index(&mut bodies);
-    assert!(rt; indexes_rise(&bodies));
     Ok(())
 }

@@ -172,6 +172,18 @@ AtDraw p start view stage = IsOfPlan p.plan stage × HasDrawnUpTo p start view (
 abbrev pub IsDrawing : TreeDrawing → View → TreeDrawing → View → Type 0
 IsDrawing first start operation view = (planned_of operation ≡ planned_of first) × AtDraw (planned_of operation) start view operation.stage
 
+-- the drawing as it is at a stage
+abbrev pub at_stage : TreeDrawing → DrawStage → TreeDrawing
+at_stage operation stage = record operation { stage = stage }
+
+-- what leads from one stage to another: the drawing goes on, since whenever it was begun
+abbrev pub Draws : TreeDrawing → DrawStage → View → DrawStage → View → Type 0
+Draws operation from view to next = (first : TreeDrawing) (start : View) → IsDrawing first start (at_stage operation from) view → IsDrawing first start (at_stage operation to) next
+
+-- so many sides of the bound of a child are stored
+abbrev pub sides_done : ℕ → ℕ → ℕ → PlanChild → DrawStage
+sides_done n k q child = if nat_lt q 6 then Side n k q else after_sides n k child
+
 -- at its end: the newest batch is drawn, in the nodes with which it was begun
 pub record HasDrawnAll (first : TreeDrawing) (start : View) (last : TreeDrawing) (next : View) : Type 0 where
   pub nodes : last.nodes.items ≡ first.nodes.items

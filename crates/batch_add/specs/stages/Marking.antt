@@ -163,6 +163,21 @@ pub record IsMarking (first : Marking) (start : View) (operation : Marking) (vie
   pub ids : operation.ids.items ≡ first.ids.items
   pub goes : GoesOnFrom start operation view
 
+-- the marks as they are at a stage, after a step that made no entry
+abbrev pub at_mark : Marking → MarkStage → Marking
+at_mark operation stage = record operation { stage = stage; made = None }
+
+-- what leads from one stage to another: the marks go on, since whenever they were begun
+abbrev pub MarksOn : Marking → View → Marking → View → Type 0
+MarksOn before view after next = (first : Marking) (start : View) → IsMarking first start before view → IsMarking first start after next
+
+-- no side is loaded yet
+abbrev pub none_loaded : List ℕ
+none_loaded = 0 ∷ 0 ∷ 0 ∷ 0 ∷ 0 ∷ 0 ∷ []
+
+abbrev pub no_sides : MarkStage
+no_sides = Sides none_loaded 0
+
 -- all bodies are marked; or some of them, and the next one is not, for this reason
 abbrev pub IsMarkAnswer : List Batch → Batch → List Id → View → View → Marking → Result (Unit {0}) MarkRefused → Type 0
 IsMarkAnswer before batch ids start next last (Ok done) = HasMarked before batch ids start next last.bodies.items

@@ -26,6 +26,7 @@ use Rattle.batch_add.specs.declared.mark_op.MarkRefused.TheVariants.{Gone, Held,
 use Rattle.batch_add.specs.declared.slot_search.SlotSearch.{SlotSearch}
 use Rattle.batch_add.specs.declared.node_taking.NodeTaking.{NodeTaking}
 use Rattle.batch_add.specs.declared.mark_op.Marking.{Marking}
+use Rattle.batch_add.specs.declared.draw_stage.DrawStage.TheVariants.{Child}
 use Rattle.batch_add.specs.declared.tree_drawing.TreeDrawing.{TreeDrawing}
 use Rattle.batch_add.specs.declared.giving_up.GivingUp.{GivingUp}
 use Rattle.batch_add.specs.declared.kept_batch.KeptBatch.{KeptBatch}
@@ -209,9 +210,17 @@ pub record BeginsTree (before after : PrepareOp) (view : View) : Type 0 where
   pub slot : after.slot ≡ before.slot
   pub ids : ids_of after ≡ ids_of before
   pub indexes : after.indexes ≡ before.indexes
+  pub first : drawing.stage ≡ Child 0 0
   pub bodies : IsPermutation before.marking.bodies.items drawing.bodies.items
   pub nodes : drawing.nodes.items ≡ before.taking.nodes.items
   pub goes : IsDrawing drawing view drawing view
+
+-- the tree is to be drawn, and nothing of it is yet
+pub record IsToDrawTree (operation : PrepareOp) : Type 0 where
+  pub stage : operation.stage ≡ Drawing
+  pub drawing : TreeDrawing
+  pub is : operation.drawing ≡ Some drawing
+  pub first : drawing.stage ≡ Child 0 0
 
 -- what is kept of the batch where it is given up: how many of its bodies are marked, and how many nodes it has
 abbrev pub marked_of : Undone → ℕ

@@ -32,35 +32,35 @@ returns-in-Ok-clause-answers g c =
     let operation = c.in-Ok.preparing in
     let begun = c.in-Ok.ensures.begun in
     let view = view_of c.args.pass.now in
-    let next = view_of c.drive.new.pass in
-    answers-so c.args.layer c.args.ids.now view next c.drive.result
-    (subst (λ (l : ℕ). IsPrepareAnswer l c.args.ids.now view next c.drive.result) begun.0
-    (subst (λ (l : List Id). IsPrepareAnswer operation.layer l view next c.drive.result) begun.1
-    (c.drive.ensures.answers operation view begun.2)))
+    let next = view_of c.finish.new.pass in
+    answers-so c.args.layer c.args.ids.now view next c.finish.result
+    (subst (λ (l : ℕ). IsPrepareAnswer l c.args.ids.now view next c.finish.result) begun.0
+    (subst (λ (l : List Id). IsPrepareAnswer operation.layer l view next c.finish.result) begun.1
+    (c.finish.ensures.answers operation view begun.2)))
 
 pub returns-in-Ok-clause-idle : goal.returns-in-Ok-clause-idle
 returns-in-Ok-clause-idle g c = record {
-  of = c.drive.ensures.of;
-  rest = prepare-rest c.args.layer c.args.ids.now (view_of c.args.pass.now) (view_of c.drive.new.pass) c.drive.result c.requires.idle.rest (returns-in-Ok-clause-answers g c);
+  of = c.finish.ensures.of;
+  rest = prepare-rest c.args.layer c.args.ids.now (view_of c.args.pass.now) (view_of c.finish.new.pass) c.finish.result c.requires.idle.rest (returns-in-Ok-clause-answers g c);
 }
 
 pub returns-in-Ok-clause-good : goal.returns-in-Ok-clause-good
-returns-in-Ok-clause-good g c = prepare-good c.args.layer c.args.ids.now (view_of c.args.pass.now) (view_of c.drive.new.pass) c.drive.result (returns-in-Ok-clause-answers g c)
+returns-in-Ok-clause-good g c = prepare-good c.args.layer c.args.ids.now (view_of c.args.pass.now) (view_of c.finish.new.pass) c.finish.result (returns-in-Ok-clause-answers g c)
 
 pub returns-in-Ok-clause-others : goal.returns-in-Ok-clause-others
-returns-in-Ok-clause-others g c = prepare-others c.args.layer c.args.ids.now (view_of c.args.pass.now) (view_of c.drive.new.pass) c.drive.result (returns-in-Ok-clause-answers g c)
+returns-in-Ok-clause-others g c = prepare-others c.args.layer c.args.ids.now (view_of c.args.pass.now) (view_of c.finish.new.pass) c.finish.result (returns-in-Ok-clause-answers g c)
 
 pub returns-in-Ok-clause-apart : goal.returns-in-Ok-clause-apart
-returns-in-Ok-clause-apart g c = prepare-apart c.args.layer c.args.ids.now (view_of c.args.pass.now) (view_of c.drive.new.pass) c.drive.result (returns-in-Ok-clause-answers g c)
+returns-in-Ok-clause-apart g c = prepare-apart c.args.layer c.args.ids.now (view_of c.args.pass.now) (view_of c.finish.new.pass) c.finish.result (returns-in-Ok-clause-answers g c)
 
 pub returns-in-Ok-clause-keeps : goal.returns-in-Ok-clause-keeps
-returns-in-Ok-clause-keeps g c = prepare-keeps c.args.layer c.args.ids.now (view_of c.args.pass.now) (view_of c.drive.new.pass) c.drive.result (returns-in-Ok-clause-answers g c)
+returns-in-Ok-clause-keeps g c = prepare-keeps c.args.layer c.args.ids.now (view_of c.args.pass.now) (view_of c.finish.new.pass) c.finish.result (returns-in-Ok-clause-answers g c)
 
 pub returns-in-Ok-clause-beside : goal.returns-in-Ok-clause-beside
-returns-in-Ok-clause-beside g c = prepare-beside c.args.layer c.args.ids.now (view_of c.args.pass.now) (view_of c.drive.new.pass) c.drive.result (returns-in-Ok-clause-answers g c)
+returns-in-Ok-clause-beside g c = prepare-beside c.args.layer c.args.ids.now (view_of c.args.pass.now) (view_of c.finish.new.pass) c.finish.result (returns-in-Ok-clause-answers g c)
 
 pub returns-in-Ok-clause-lists : goal.returns-in-Ok-clause-lists
-returns-in-Ok-clause-lists g c list = all-kept (batches_of list) (belongings_of (view_of c.args.pass.now)) (belongings_of (view_of c.drive.new.pass)) (returns-in-Ok-clause-others g c)
+returns-in-Ok-clause-lists g c list = all-kept (batches_of list) (belongings_of (view_of c.args.pass.now)) (belongings_of (view_of c.finish.new.pass)) (returns-in-Ok-clause-others g c)
 
 listed : (start : View) (answer : Result Prepared PrepareRefused) → IfOk answer (λ batch. (other : Prepared) → IsGood other start → IsApart other batch)
     → IfOk answer (λ batch. (list : PreparedList) → AreGood list start → IsBeside batch list)
@@ -68,4 +68,4 @@ listed start (Ok batch) apart = λ list. all-apart batch (batches_of list) (belo
 listed start (Err refused) apart = tt
 
 pub returns-in-Ok-clause-listed : goal.returns-in-Ok-clause-listed
-returns-in-Ok-clause-listed g c = listed (view_of c.args.pass.now) c.drive.result (returns-in-Ok-clause-apart g c)
+returns-in-Ok-clause-listed g c = listed (view_of c.args.pass.now) c.finish.result (returns-in-Ok-clause-apart g c)

@@ -1,21 +1,17 @@
-use Rattle.std.proofs.Common.{ℕ, List, [], ◌∷◌, None, ◌∙◌, ◌≡◌, refl, sym, subst, arith}
+use Rattle.std.proofs.Common.{ℕ, None, ◌∙◌, ◌≡◌, refl, sym, subst, arith}
 use Rattle.body_ident.specs.Id.{Id}
 use Rattle.word_map.specs.declared.name.Name.TheVariants.{Layer}
 use Rattle.pass_table.specs.Bodies.{IsGuarded, Loaded}
 use Rattle.pass_table.specs.Passes.{view_of}
 use Rattle.batch_add.specs.declared.mark_op.MarkRefused.TheVariants.{WrongLayer}
 use Rattle.batch_add.specs.declared.mark_op.MarkStage.TheVariants.{Outside, Sides, Refusing}
-use Rattle.batch_add.specs.stages.Marking.{marks_of}
+use Rattle.batch_add.specs.stages.Marking.{marks_of, none_loaded}
 use Rattle.batch_add.specs.stages.MarkLater.{body-guarded}
 use Rattle.batch_add.proofs.MarkTurns.{went-on}
 use Rattle.batch_add.proofs.MarkLoads.{layer-wrong}
 use Rattle.batch_add.proofs.MarkSides.{layer-here}
 use Rattle.batch_add.proofs.MarkEnds.{going-at}
 use Rattle.batch_add.proofs.mark_op.Marking.load_layer.Goals as goal
-
--- no side is loaded yet
-abbrev none_loaded : List ℕ
-none_loaded = 0 ∷ 0 ∷ 0 ∷ 0 ∷ 0 ∷ 0 ∷ []
 
 pub load_layer-layer-requires-clause-guarded : goal.load_layer-layer-requires-clause-guarded
 load_layer-layer-requires-clause-guarded c =

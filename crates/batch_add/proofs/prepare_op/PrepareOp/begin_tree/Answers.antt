@@ -15,6 +15,7 @@ returns c =
         slot = refl;
         ids = refl;
         indexes = refl;
+        first = c.new-in-Some.ensures.first;
         bodies = subst (λ (l : List (ℕ × FixBox)). IsPermutation l drawing.bodies.items) (ap (λ v. v.items) c.replace-bodies.ensures.value) c.new-in-Some.ensures.bodies;
         nodes = ap (λ v. v.items) c.new-in-Some.ensures.nodes ∙ ap (λ v. v.items) c.replace-nodes.ensures.value;
         goes = c.new-in-Some.ensures.under_way;

@@ -1,37 +1,14 @@
-use Rattle.std.proofs.Common.{◌≡◌, ◌<◌, ℕ, ap, sym, ◌∙◌, subst}
-use Rattle.word_map.specs.declared.name.Name.TheVariants.{LocA}
-use Rattle.word_map.specs.declared.config.Config.{Config}
-use Rattle.core_state.specs.Batches.{MayPlace}
-use Rattle.core_state.specs.Encoding.{place}
+use Rattle.std.proofs.Common.{ap, ◌∙◌}
 use Rattle.pass_table.specs.Passes.{view_of}
-use Rattle.batch_add.specs.Drawing.{node_at}
-use Rattle.batch_add.specs.stages.DrawStages.{planned_of, AtDraw}
-use Rattle.batch_add.proofs.DrawTurns.{may-place, index-below, placing-turn}
+use Rattle.batch_add.specs.declared.draw_stage.DrawStage.TheVariants.{Placing}
+use Rattle.batch_add.specs.stages.DrawStages.{at_stage, next_child}
+use Rattle.batch_add.proofs.WholeTree.{under-at, turn-at}
 use Rattle.batch_add.proofs.tree_drawing.TreeDrawing.place_body.Goals as goal
 
-pub step_23-requires-clause-named : goal.step_23-requires-clause-named
-step_23-requires-clause-named c =
-    let operation = c.args.self.now in
-    let view = view_of c.args.pass.now in
-    let under_way = c.requires.under_way in
-    let at = subst (AtDraw (planned_of operation) under_way.start view) c.requires.stage under_way.goes.1 in
-    let below = index-below (planned_of operation) under_way.start view c.args.node c.args.child c.args.index at in
-    subst (λ (s : Config). c.args.index < s.bodies) c.requires.of.sizes below
-
-pub step_23-requires-clause-asks : goal.step_23-requires-clause-asks
-step_23-requires-clause-asks c =
-    let operation = c.args.self.now in
-    let view = view_of c.args.pass.now in
-    let under_way = c.requires.under_way in
-    let at = subst (AtDraw (planned_of operation) under_way.start view) c.requires.stage under_way.goes.1 in
-    let is : c.to_word.result ≡ place (node_at operation.nodes.items c.args.node) c.args.child = c.to_word.ensures ∙ ap (λ (n : ℕ). place n c.args.child) c.node.ensures in
-    subst (λ (w : ℕ). MayPlace view (LocA c.args.index) w 0) (sym is) (may-place (planned_of operation) under_way.start view c.args.node c.args.child c.args.index at)
+pub put_place-requires-clause-under_way : goal.put_place-requires-clause-under_way
+put_place-requires-clause-under_way c = under-at c.args.self.now (Placing c.args.node c.args.child c.args.index) (view_of c.args.pass.now) c.requires.stage c.requires.under_way
 
 pub returns-clause-turn : goal.returns-clause-turn
 returns-clause-turn c =
-    let operation = c.args.self.now in
-    let view = view_of c.args.pass.now in
-    let under_way = c.requires.under_way in
-    let at = subst (AtDraw (planned_of operation) under_way.start view) c.requires.stage under_way.goes.1 in
-    placing-turn c.go_on.result operation c.go_on.new.self view (view_of c.step_23.new.pass) c.args.pass.now.number c.args.pass.now.numbered c.next_child.result c.go_on.ensures.more c.go_on.ensures.stage
-    c.args.node c.args.child c.args.index c.to_word.result (c.to_word.ensures ∙ ap (λ (n : ℕ). place n c.args.child) c.node.ensures) c.next_child.ensures c.requires.stage at.0.1 c.step_23.ensures.step
+    turn-at c.go_on.result c.args.self.now c.go_on.new.self (Placing c.args.node c.args.child c.args.index) (next_child c.args.node c.args.child) (view_of c.args.pass.now) (view_of c.put_place.new.pass) c.go_on.ensures.more
+    (c.go_on.ensures.stage ∙ ap (at_stage c.args.self.now) c.next_child.ensures) c.requires.stage c.put_place.ensures.turn

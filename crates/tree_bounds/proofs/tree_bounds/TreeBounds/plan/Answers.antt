@@ -7,7 +7,7 @@ use Rattle.tree_plan.proofs.Growth.{need-grows}
 use Rattle.tree_bounds.specs.Bounds.{AreBoundsOf}
 use Rattle.tree_bounds.specs.Held.{HeldBounds, bound_in}
 use Rattle.tree_bounds.proofs.Filling.{AreBoundsOf-same, bound_in-take}
-use Rattle.tree_bounds.proofs.tree_bounds.TreeBounds.fill.Goals as goal
+use Rattle.tree_bounds.proofs.tree_bounds.TreeBounds.plan.Goals as goal
 
 -- the nodes of a plan are no more than there is room for
 fits : (bodies : List (ℕ × FixBox)) (plan : Plan) (most : ℕ) → IsPlanOf bodies plan → length bodies ≤ most → node_count plan ≤ need most
@@ -24,17 +24,18 @@ shown bodies plan nodes boxes held planned count same h =
     subst (λ (xs : List FixBox). AreBoundsOf bodies plan (bound_in (take (4 * nodes) xs))) (sym same)
     (AreBoundsOf-same bodies plan (bound_in boxes) (bound_in (take (4 * nodes) boxes)) planned (λ n k made few. bound_in-take boxes nodes n k (omega arith) few) h)
 
-pub fill_from_the_last-requires-clause-room : goal.fill_from_the_last-requires-clause-room
-fill_from_the_last-requires-clause-room c =
-    omega (arith, fits c.args.bodies.now c.args.planner.now c.self.inside.most c.requires.planned (omega (arith, ap (λ (h : HeldBounds). h.most) c.self.view_is)), c.self.invariant.2, c.deref_mut.ensures.len)
+pub plan_with_bounds-requires-clause-room : goal.plan_with_bounds-requires-clause-room
+plan_with_bounds-requires-clause-room c =
+    let most = ap (λ (h : HeldBounds). h.most) c.self.view_is in
+    omega (arith, need-grows (length c.args.bodies.now) c.self.inside.most (omega arith), c.self.invariant.2, c.deref_mut.ensures.len)
 
 pub invariant_of-self : goal.invariant_of-self
 invariant_of-self c =
     let i = c.self.invariant in
-    let few = fits c.args.bodies.now c.args.planner.now c.self.inside.most c.requires.planned (omega (arith, ap (λ (h : HeldBounds). h.most) c.self.view_is)) in
+    let few = fits c.args.bodies.now c.plan_with_bounds.new.planner c.self.inside.most c.plan_with_bounds.ensures.plan (omega (arith, ap (λ (h : HeldBounds). h.most) c.self.view_is)) in
     (i.0, omega arith, i.2)
 
 pub returns-clause-bounds : goal.returns-clause-bounds
 returns-clause-bounds c =
-    shown c.args.bodies.now c.args.planner.now c.len-self-inside.result c.fill_from_the_last.new.bounds _ c.requires.planned c.len-self-inside.ensures
-    (refilled c.self.inside.bounds.len c.fill_from_the_last.new.bounds c.self.inside.bounds.items (omega (arith, c.deref_mut.ensures.len))) c.fill_from_the_last.ensures
+    shown c.args.bodies.now c.plan_with_bounds.new.planner c.len-self-inside.result c.plan_with_bounds.new.bounds _ c.plan_with_bounds.ensures.plan c.len-self-inside.ensures
+    (refilled c.self.inside.bounds.len c.plan_with_bounds.new.bounds c.self.inside.bounds.items (omega (arith, c.deref_mut.ensures.len, c.plan_with_bounds.ensures.room))) c.plan_with_bounds.ensures.bounds

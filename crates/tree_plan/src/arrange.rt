@@ -1,23 +1,11 @@
-ghost use Rattle.std.specs.Prelude.{◌≡◌, ℕ, ◌-◌, ◌/◌, ◌<◌, ◌≤◌, length, take, drop, slice_index_or};
+ghost use Rattle.std.specs.Prelude.{◌≡◌, ◌-◌, ◌/◌, ◌<◌, ◌≤◌, length, take, drop};
 ghost use Rattle.std.specs.List.Sorted.{IsPermutation};
 ghost use Rattle.scene_model.specs.Tree.{front_half, back_half};
-ghost use Rattle.fixed_box.specs.declared.fix_box.FixBox.{FixBox};
-ghost use Rattle.tree_plan.specs.Axes.{axis_number, key_of};
+ghost use Rattle.tree_plan.specs.Axes.{axis_number};
 ghost use Rattle.tree_plan.specs.Arranged.{AreApart, IsSplit, arranged};
 
 use crate::axis::{Axis, key, widest};
 use fixed_box::FixBox;
-
-/// Puts that of two bodies first whose key on an axis is the lesser.
-fn order_two(bodies: &mut [(u32, FixBox)], axis: Axis)
-    requires two { length bodies.old ≡ 2 }
-    ensures permutation { IsPermutation bodies.old bodies.new }
-    ensures ordered { (d : ℕ × FixBox) → key_of (axis_number axis) (slice_index_or bodies.new 0 d) ≤ key_of (axis_number axis) (slice_index_or bodies.new 1 d) }
-{
-    if key(&bodies[1], axis) < key(&bodies[0], axis) {
-        bodies.swap(0, 1);
-    }
-}
 
 /// Puts the bodies with the least keys on an axis first, so many of them, in any order.
 ///
@@ -29,10 +17,6 @@ fn split(bodies: &mut [(u32, FixBox)], room: &mut [(u32, FixBox)], front: usize,
     ensures permutation { IsPermutation bodies.old bodies.new }
     ensures split { IsSplit (axis_number axis) front bodies.new }
 {
-    if bodies.len() == 2 {
-        order_two(bodies, axis);
-        return;
-    }
     let (part, _) = room.split_at_mut(bodies.len());
     part.copy_from_slice(bodies);
     let (less, middle, more) = part.select_nth_unstable_by_key(front, |body| key(body, axis));

@@ -1,4 +1,4 @@
-use Rattle.std.proofs.Common.{◌≡◌, ◌<◌, ◌≤◌, ℕ, ◌∷◌, List, get_or, sym, subst, rules, arith}
+use Rattle.std.proofs.Common.{◌≡◌, ◌∷◌, subst, rules, arith}
 use Rattle.std.specs.Ordering.{nat_cmp}
 use Rattle.std.specs.List.Sorted.{IsSplitAroundByKey}
 use Rattle.std.proofs.lemmas.Fn.{always_returns_same}
@@ -23,14 +23,3 @@ returns-clause-split c =
     less.ensures.partitioned (key_of k) (always_returns_same _ (λ a r. r ≡ key_of k a.0.now) _ (λ a r q h. search rules)) in
     subst (IsSplit k c.args.front) (put_together _ _ _ _ _ _ c.copy_from_slice-2.ensures.after c.split_at_mut-one.ensures.front_len c.copy_from_slice-3.ensures.after)
     (IsSplit-from_around k c.args.front less.result.0.now less.result.1.now less.result.2.now less.ensures.front_len around)
-
--- of two bodies one stands before the other
-pub returns-then-bodies-eq2-clause-split : goal.returns-then-bodies-eq2-clause-split
-returns-then-bodies-eq2-clause-split c = λ i j d before from within.
-    let k = axis_number c.args.axis in
-    let bodies = c.order_two.new.bodies in
-    let size = length_permutation _ _ c.order_two.ensures.permutation in
-    let first : i ≡ 0 = omega (arith, size) in
-    let second : j ≡ 1 = omega (arith, size) in
-    subst (λ (n : ℕ). key_of k (get_or bodies n d) ≤ key_of k (get_or bodies j d)) (sym first)
-    (subst (λ (n : ℕ). key_of k (get_or bodies 0 d) ≤ key_of k (get_or bodies n d)) (sym second) (c.order_two.ensures.ordered d))

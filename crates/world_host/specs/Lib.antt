@@ -1,0 +1,4 @@
+pub mod Alone
+pub mod Rooms
+pub mod Answers
+pub mod Shown

@@ -1,5 +1,5 @@
 pub mod Histories
 pub mod Points
-pub mod Bodies
-pub mod Hits
-pub mod Counts
+pub mod Records
+pub mod HitLists
+pub mod LiveCounts

@@ -32,7 +32,8 @@ impl SerialWorld {
         match create_alone(rt, &self.world, &mut self.pass, layer, bounds, user) {
             Some(id) => {
                 self.live += 1;
-                self.books.keep_name(alloc, name, Some(Known { id, layer }))?;
+                self.books
+                    .keep_name(alloc, name, Some(Known { id, layer }))?;
                 Ok(Reply::Id(id))
             }
             None => {
@@ -52,12 +53,7 @@ impl SerialWorld {
     }
 
     /// Changes the body that a name stands for, and answers why it cannot.
-    pub(crate) fn change<R: Wait>(
-        &mut self,
-        rt: &R,
-        name: &Text,
-        change: Change,
-    ) -> Option<Refusal>
+    pub(crate) fn change<R: Wait>(&mut self, rt: &R, name: &Text, change: Change) -> Option<Refusal>
         requires sound { IsSound self.old }
         ensures { Attempts (change_named (table_of self.old) change name.now) self.old self.new result }
     {

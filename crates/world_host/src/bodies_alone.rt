@@ -39,12 +39,7 @@ pub(crate) fn create_alone<R: Wait>(
 }
 
 /// Destroys the body that the id names, and answers why it cannot.
-fn destroy_alone<R: Wait>(
-    rt: &R,
-    world: &World,
-    pass: &mut Pass,
-    id: BodyId,
-) -> Option<Refusal>
+fn destroy_alone<R: Wait>(rt: &R, world: &World, pass: &mut Pass, id: BodyId) -> Option<Refusal>
     requires lone { IsLone world.now pass.old }
     requires below { id.index < world.now.map.bodies }
     ensures lone { IsLone world.now pass.new }
@@ -58,12 +53,7 @@ fn destroy_alone<R: Wait>(
 }
 
 /// Takes the body that the id names out of the broad phase, and answers why it cannot.
-fn remove_alone<R: Wait>(
-    rt: &R,
-    world: &World,
-    pass: &mut Pass,
-    id: BodyId,
-) -> Option<Refusal>
+fn remove_alone<R: Wait>(rt: &R, world: &World, pass: &mut Pass, id: BodyId) -> Option<Refusal>
     requires lone { IsLone world.now pass.old }
     requires below { id.index < world.now.map.bodies }
     ensures lone { IsLone world.now pass.new }

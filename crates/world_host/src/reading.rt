@@ -109,7 +109,14 @@ impl SerialWorld {
         requires sound { IsSound self.old }
         ensures { IfOk result (Does (query_turn (table_of self.old) mask shape.now) self.old self.new) }
     {
-        query_alone(rt, &self.world, &mut self.pass, shape, mask, &mut self.finder);
+        query_alone(
+            rt,
+            &self.world,
+            &mut self.pass,
+            shape,
+            mask,
+            &mut self.finder,
+        );
         Ok(Reply::Hits(IdList::new(found(alloc, &self.finder)?)))
     }
 }

@@ -1,5 +1,9 @@
 pub mod Histories
 pub mod Points
 pub mod Records
+pub mod Parts
+pub mod Changes
+pub mod ToldWords
+pub mod KeptRooms
 pub mod HitLists
 pub mod LiveCounts

@@ -3,7 +3,14 @@ pub mod Points
 pub mod Records
 pub mod Parts
 pub mod Changes
+pub mod Viewing
 pub mod ToldWords
 pub mod KeptRooms
 pub mod HitLists
+pub mod Queried
 pub mod LiveCounts
+pub mod KnownNames
+pub mod Soundness
+pub mod Creating
+pub mod FewBodies
+pub mod ChangedBodies

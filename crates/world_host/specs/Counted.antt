@@ -2,6 +2,8 @@
 use Rattle.std.specs.Prelude.{◌≡◌, ℕ, ◌+◌, List, length, sum_by}
 use Rattle.scene_model.specs.declared.entry.Entry.{Entry}
 use Rattle.scene_model.specs.declared.entry.Entry.TheVariants.{Create, Destroy, Join, Remove}
+use Rattle.script_player.specs.declared.bodies.Change.{Change}
+use Rattle.script_player.specs.declared.bodies.Change.TheVariants as changes
 
 -- how many bodies an entry creates, and how many it destroys
 abbrev pub created_by : Entry → ℕ
@@ -27,3 +29,12 @@ CountsLive entries before after = after + sum_by destroyed_by entries ≡ before
 
 abbrev pub CountsInside : List Entry → ℕ → ℕ → Type 0
 CountsInside entries before after = after + sum_by removed_by entries ≡ before + sum_by joined_by entries
+
+-- how many bodies a change destroys, and how many it takes out of the broad phase
+abbrev pub destroys : Change → ℕ
+destroys changes.Destroy = 1
+destroys change = 0
+
+abbrev pub removes : Change → ℕ
+removes changes.Remove = 1
+removes change = 0

@@ -1,16 +1,18 @@
 -- How a shared world that a script is played on is told by a table.
-use Rattle.std.specs.Prelude.{◌≡◌, ℕ, ◌<◌, ◌≤◌, List, All, Option, IfSome}
+use Rattle.std.specs.Prelude.{◌≡◌, ℕ, ◌+◌, ◌<◌, ◌≤◌, List, All, Option, IfSome}
 use Rattle.scene_model.specs.Query.{live_count, in_count}
 use Rattle.reply_text.specs.declared.refusal.Refusal.{Refusal}
 use Rattle.reply_text.specs.declared.reply.Reply.{Reply}
 use Rattle.pass_table.specs.Passes.{view_of}
 use Rattle.tree_query.specs.Finding.{room_of}
 use Rattle.script_player.specs.declared.books.Known.{Known}
+use Rattle.script_player.specs.declared.bodies.Change.{Change}
 use Rattle.script_player.specs.Table.{Table, table_with}
 use Rattle.script_player.specs.Attempt.{Attempt}
 use Rattle.script_player.specs.Turn.{Turn, table_after}
 use Rattle.world_host.specs.declared.serial_world.SerialWorld.{SerialWorld}
 use Rattle.world_host.specs.Alone.{scene_of, IsLone}
+use Rattle.world_host.specs.Counted.{destroys, removes}
 use Rattle.world_host.specs.Rooms.{HasRooms, AreTokens}
 
 -- the sizes, the scene that the pass knows, and the books
@@ -36,6 +38,12 @@ pub record IsSound (w : SerialWorld) : Type 0 where
 pub record Shows (w : SerialWorld) (table : Table) : Type 0 where
   pub is : table ≡ table_of w
   pub sound : IsSound w
+
+-- a change of a body was counted
+pub record IsCounted (change : Change) (old new : SerialWorld) : Type 0 where
+  pub left : new ≡ record old { live = new.live; inside = new.inside }
+  pub live : new.live + destroys change ≡ old.live
+  pub inside : new.inside + removes change ≡ old.inside
 
 -- this turn is what was answered and done
 pub record Does (t : Turn) (old new : SerialWorld) (reply : Reply) : Type 0 where

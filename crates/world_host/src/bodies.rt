@@ -1,9 +1,10 @@
 //! Commands on the body of one name.
-ghost use Rattle.std.specs.Prelude.{◌≡◌, ◌<◌, Option, IfOk};
+ghost use Rattle.std.specs.Prelude.{◌<◌, ◌≤◌, Option, IfOk};
 ghost use Rattle.scene_model.specs.Scene.{next_index};
 ghost use Rattle.script_player.specs.Body.{change_named};
 ghost use Rattle.script_player.specs.Turn.{create_turn};
-ghost use Rattle.world_host.specs.Shown.{table_of, IsSound, Does, Attempts};
+ghost use Rattle.world_host.specs.Counted.{destroys, removes};
+ghost use Rattle.world_host.specs.Shown.{table_of, IsSound, IsCounted, Does, Attempts};
 
 use crate::bodies_alone::{change_alone, create_alone};
 use crate::serial_world::SerialWorld;
@@ -44,7 +45,11 @@ impl SerialWorld {
     }
 
     /// Counts a change of a body that was made.
-    fn count(&mut self, change: Change) {
+    fn count(&mut self, change: Change)
+        requires live { destroys change ≤ self.old.live }
+        requires inside { removes change ≤ self.old.inside }
+        ensures { IsCounted change self.old self.new }
+    {
         match change {
             Change::Destroy => self.live -= 1,
             Change::Remove => self.inside -= 1,
@@ -60,10 +65,12 @@ impl SerialWorld {
         let Some(known) = self.books.known(name) else {
             return Some(Refusal::NoId);
         };
-        let refusal = change_alone(rt, &self.world, &mut self.pass, known.id, change);
-        if refusal.is_none() {
-            self.count(change);
+        match change_alone(rt, &self.world, &mut self.pass, known.id, change) {
+            None => {
+                self.count(change);
+                None
+            }
+            Some(refusal) => Some(refusal),
         }
-        refusal
     }
 }

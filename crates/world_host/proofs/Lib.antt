@@ -14,3 +14,7 @@ pub mod Soundness
 pub mod Creating
 pub mod FewBodies
 pub mod ChangedBodies
+pub mod NamedTurns
+pub mod ReadItems
+pub mod OpenedWorlds
+pub mod HostAnswers

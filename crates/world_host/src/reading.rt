@@ -1,5 +1,5 @@
 //! Commands that read bodies.
-ghost use Rattle.std.specs.Prelude.{◌≡◌, ◌<◌, Option, IfOk, map, All, []};
+ghost use Rattle.std.specs.Prelude.{◌≡◌, ◌<◌, Option, IfOk, OnOk, map, All, []};
 ghost use Rattle.shape_test.specs.Touched.{is_touched};
 ghost use Rattle.script_player.specs.Body.{body_of, item_of, read_named, multi_named};
 ghost use Rattle.script_player.specs.Turn.{answered, query_turn};
@@ -39,6 +39,7 @@ fn item_alone<R: Wait>(rt: &R, world: &World, pass: &mut Pass, id: BodyId) -> Mu
 }
 
 /// What a `multi` says of these bodies.
+#[tactic(auto, using(crate::proofs::ReadItems::read_more, crate::proofs::ReadItems::read_all))]
 fn items_alone<R: Wait>(
     rt: &R,
     alloc: Global,
@@ -48,8 +49,8 @@ fn items_alone<R: Wait>(
 ) -> Result<Vec<MultiItem>, AllocError>
     requires lone { IsLone world.now pass.old }
     requires below { All (λ known. known.id.index < world.now.map.bodies) bodies.now }
-    ensures lone { IsLone world.now pass.new }
-    ensures leaves { Leaves (view_of pass.old) (view_of pass.new) [] }
+    ensures lone { OnOk result (IsLone world.now pass.new) }
+    ensures leaves { OnOk result (Leaves (view_of pass.old) (view_of pass.new) []) }
     ensures items { IfOk result (λ items. items.items ≡ map (λ known. item_of (body_of (scene_of (view_of pass.old)) known.id)) bodies.now) }
 {
     let mut items = Vec::new(alloc);

@@ -15,14 +15,14 @@ use Rattle.body_slots.specs.Answers.{IsNextId, HasCreated, IsFullAt, WasFull as 
 use Rattle.world_host.specs.Alone.{scene_of}
 use Rattle.world_host.specs.Answers.{WasCreated, WasFull}
 use Rattle.world_host.proofs.Points.{point-scene, made-before}
-use Rattle.world_host.proofs.Parts.{part-sees, part-leaves}
+use Rattle.world_host.proofs.Parts.{Part, part-sees, part-leaves}
 use Rattle.world_host.proofs.Soundness.{lone-consistent}
 
 pub was-created : (pass : Pass) (start : View) → start.config.passes ≡ 1 → (layer user : ℕ) (bounds : FixBox) (id : Id) → HasCreated layer bounds user start (view_of pass) id → Tells start (view_of pass) []
     → belongings_of (view_of pass) ≡ belongings_of start → WasCreated layer bounds user start (view_of pass) id
 was-created pass start one layer user bounds id made tells keeps =
     let entry = Create id.index layer bounds user in
-    let part = record { adds = made.adds; tells = tells; keeps = keeps } in
+    let part : Part start (view_of pass) (entry ∷ []) = record { adds = made.adds; tells = tells; keeps = keeps } in
     record {
       is = made-before start (view_of pass) entry (λ s. IsNextId s id) (part-sees pass start (entry ∷ []) one part) made.at;
       leaves = part-leaves pass start (entry ∷ []) one part;
@@ -32,7 +32,7 @@ pub was-full : (before pass : Pass) → (view_of before).config.passes ≡ 1 →
     → belongings_of (view_of pass) ≡ belongings_of (view_of before) → WasFull (view_of before) (view_of pass)
 was-full before pass one refused says tells keeps =
     let start = view_of before in
-    let part = record { adds = says.adds; tells = tells; keeps = keeps } in
+    let part : Part start (view_of pass) [] = record { adds = says.adds; tells = tells; keeps = keeps } in
     let here = point-scene start (view_of pass) (IsFullAt start.config refused.head) says.at (part-sees pass start [] one part) in
     record {
       none = (next_index-full start.config.layers (scene_of start) (lone-consistent before)).1 (subst (IsCauseAt full) here says.at.holds.every);

@@ -43,15 +43,10 @@ room-stays start next stores own keeps tells spares =
       free = word-told start next PoolFree stores refl own sizes role tells ∙ spares.free (known_word start PoolFree);
     }
 
--- how many of a list of numbers pass is told by the test at each
-count-same : (f g : ℕ → Bool) → ((n : ℕ) → f n ≡ g n) → (ns : List ℕ) → count_by f ns ≡ count_by g ns
-count-same f g same [] = refl
-count-same f g same (n ∷ ns) = (λ i. cond (same n i) 1 0 + count-same f g same ns i)
-
 taken-stays : (start next : View) → RoomStays start next → (layer : ℕ) → slots_taken next layer ≡ slots_taken start layer
 taken-stays start next stays layer =
     ap (λ (c : Config). count_by (λ t. nat_lt 0 (known_word next (Slot layer t))) (range_with_len 0 c.slots)) stays.config
-    ∙ count-same (λ t. nat_lt 0 (known_word next (Slot layer t))) (λ t. nat_lt 0 (known_word start (Slot layer t))) (λ t. ap (nat_lt 0) (stays.slot layer t)) (range_with_len 0 start.config.slots)
+    ∙ (λ i. count_by (λ t. nat_lt 0 (stays.slot layer t i)) (range_with_len 0 start.config.slots))
 
 -- books that keep as much as before
 pub rooms-stay : (start next : View) (books after : Books) → RoomStays start next → ((layer : ℕ) → slots_kept after layer ≡ slots_kept books layer) → nodes_kept after ≡ nodes_kept books → HasRooms start books

@@ -124,7 +124,7 @@ joined-live layer (index ∷ rest) scene distinct held =
 
 -- a body that is live at all
 live-body : (o : Option Record) → IsSome o → IsSomeAnd o (λ r. Unit {0})
-live-body None h = absurd h
+live-body None h = absurd (false≢true h)
 live-body (Some r) h = tt
 
 -- a change of the phase, from one to another
@@ -157,7 +157,7 @@ live-after layers scene (Unmark index) h may = let same = live-changed _ scene i
 live-after layers scene (Join layer indexes) h may = let same = joined-live layer indexes scene may.1 may.2 in omega (arith, same)
 live-after layers scene (Remove index) h may = let same = live-changed _ scene index _ may in omega (arith, same)
 live-after layers scene (Move index bounds) h may = let same = live-changed _ scene index _ may in omega (arith, same)
-live-after layers scene (SetUser index user) h may = let same = live-changed _ scene index _ (live-body (record_at scene index) may) in omega (arith, same)
+live-after layers scene (SetUser index user) h may = let same = live-changed (λ r. record r { user = user }) scene index (λ r. Unit {0}) (live-body (record_at scene index) may) in omega (arith, same)
 
 in-after : (layers : ℕ) (scene : Scene) (entry : Entry) → IsConsistent layers scene → IsPossible scene entry → in_count (after_entry scene entry) + removed_by entry ≡ in_count scene + joined_by entry
 in-after layers scene (Create index layer bounds user) h may =
@@ -172,8 +172,8 @@ in-after layers scene (Mark index) h may = let same = phase-in Held scene index 
 in-after layers scene (Unmark index) h may = let same = phase-in Out scene index Held may in omega (arith, same)
 in-after layers scene (Join layer indexes) h may = let more = joined-in layer indexes scene may.1 may.2 in omega (arith, more)
 in-after layers scene (Remove index) h may = let less = phase-in Out scene index In may in omega (arith, less)
-in-after layers scene (Move index bounds) h may = let same = same-in _ scene index _ (λ r. refl) may in omega (arith, same)
-in-after layers scene (SetUser index user) h may = let same = same-in _ scene index _ (λ r. refl) (live-body (record_at scene index) may) in omega (arith, same)
+in-after layers scene (Move index bounds) h may = let same = same-in (λ r. record r { bounds = bounds }) scene index _ (λ r. refl) may in omega (arith, same)
+in-after layers scene (SetUser index user) h may = let same = same-in (λ r. record r { user = user }) scene index (λ r. Unit {0}) (λ r. refl) (live-body (record_at scene index) may) in omega (arith, same)
 
 -- ---- all entries
 

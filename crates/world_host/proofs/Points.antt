@@ -1,5 +1,5 @@
 -- What is so at a point of a call that nobody else acted beside, is so of the scene before it.
-use Rattle.std.proofs.Common.{◌≡◌, ℕ, ◌+◌, List, [], ◌∷◌, ◌++◌, Option, Some, length, append_assoc, refl, ap, sym, ◌∙◌, subst, arith}
+use Rattle.std.proofs.Common.{◌≡◌, ℕ, suc, ◌+◌, List, [], ◌∷◌, ◌++◌, Option, Some, length, append_assoc, refl, ap, sym, ◌∙◌, subst, arith}
 use Rattle.std.specs.Prelude.{option_map}
 use Rattle.std.specs.List.{cons_option}
 use Rattle.std.proofs.lemmas.List.{append_cancel_left, append-nil, length-append}
@@ -50,7 +50,7 @@ point-before start next P sees at = subst P (point-scene start next (λ log. P (
 
 -- ---- a call that made one
 
-one-more : (item : Item) (entry : Entry) (later : List Item) → item.entry ≡ Some entry → length (history (item ∷ later)) ≡ 1 + length (history later)
+one-more : (item : Item) (entry : Entry) (later : List Item) → item.entry ≡ Some entry → length (history (item ∷ later)) ≡ suc (length (history later))
 one-more item entry later is = ap (λ (o : Option Entry). length (cons_option (option_map (λ (e : Entry). record { pass = item.pass; entry = e }) o) (history later))) is
 
 pub made-before : (start next : View) (entry : Entry) (P : Scene → Type 0) → Sees start next (entry ∷ []) → MakesAt start next entry (λ log. P (scene_at start.config log)) → P (scene_of start)

@@ -1,6 +1,6 @@
 -- What a scene says of the body that an id names.
-use Rattle.std.proofs.Common.{◌≡◌, ◌%◌, ◌==◌, Bool, true, false, cond, ⊥, Option, Some, None, refl, ap, sym, ◌∙◌, subst, eq-eqb, inl, inr}
-use Rattle.std.specs.Prelude.{IsSomeAnd, option_map, option_and_then, ℕ}
+use Rattle.std.proofs.Common.{◌≡◌, ◌%◌, ◌==◌, Bool, true, false, cond, Option, Some, None, refl, ap, sym, ◌∙◌, subst, eq-eqb, inl, inr}
+use Rattle.std.specs.Prelude.{if◌then◌else◌, IsSomeAnd, option_map, option_and_then, ℕ}
 use Rattle.std.proofs.lemmas.Bool.Decides.{eqb_tells}
 use Rattle.body_ident.specs.Id.{Id, id_of}
 use Rattle.scene_model.specs.declared.body_view.BodyView.{BodyView}

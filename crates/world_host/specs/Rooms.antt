@@ -25,5 +25,5 @@ pub record HasRooms (view : View) (books : Books) : Type 0 where
 -- the prepared batches of the books, one by one, are those that are held
 pub record AreTokens (batches : List Batch) (list : PreparedList) (view : View) : Type 0 where
   pub good : AreGood list view
-  pub same : map (λ b. (b.layer, b.indexes)) batches ≡ map (λ p. (p.layer, p.indexes.items)) (batches_of list)
+  pub same : map {B = ℕ × List ℕ} (λ b. (b.layer, b.indexes)) batches ≡ map {B = ℕ × List ℕ} (λ p. (p.layer, p.indexes.items)) (batches_of list)
   pub nodes : All (λ b. b.nodes ≡ need (length b.indexes)) batches

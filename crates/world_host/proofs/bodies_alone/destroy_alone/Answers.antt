@@ -15,7 +15,7 @@ returns-in-Ok-clause-changed g c =
 pub returns-in-Err-Gone-clause-changed : goal.returns-in-Err-Gone-clause-changed
 returns-in-Err-Gone-clause-changed g c =
     let why = c.in-Err-Gone.ensures.refused in
-    gone-changes c.destroy.new.pass (view_of c.args.pass.now) c.requires.lone.one c.args.id Destroy c.in-Err-Gone.state
+    gone-changes c.destroy.new.pass (view_of c.args.pass.now) c.requires.lone.one c.args.id Destroy _
     (record { adds = why.adds; tells = c.destroy.ensures.tells; keeps = c.destroy.ensures.keeps }) why.at
 
 pub returns-in-Err-InUse-clause-changed : goal.returns-in-Err-InUse-clause-changed

@@ -15,7 +15,7 @@ returns-in-Ok-clause-changed g c =
 pub returns-in-Err-Gone-clause-changed : goal.returns-in-Err-Gone-clause-changed
 returns-in-Err-Gone-clause-changed g c =
     let why = c.in-Err-Gone.ensures.refused in
-    gone-changes c.move_body.new.pass (view_of c.args.pass.now) c.requires.lone.one c.args.id (Move c.args.to) c.in-Err-Gone.state
+    gone-changes c.move_body.new.pass (view_of c.args.pass.now) c.requires.lone.one c.args.id (Move c.args.to) _
     (record { adds = why.adds; tells = c.move_body.ensures.tells; keeps = c.move_body.ensures.keeps }) why.at
 
 pub returns-in-Err-Held-clause-changed : goal.returns-in-Err-Held-clause-changed

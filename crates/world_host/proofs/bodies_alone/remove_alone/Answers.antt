@@ -15,7 +15,7 @@ returns-in-Ok-clause-changed g c =
 pub returns-in-Err-Gone-clause-changed : goal.returns-in-Err-Gone-clause-changed
 returns-in-Err-Gone-clause-changed g c =
     let why = c.in-Err-Gone.ensures.refused in
-    gone-changes c.remove.new.pass (view_of c.args.pass.now) c.requires.lone.one c.args.id Remove c.in-Err-Gone.state
+    gone-changes c.remove.new.pass (view_of c.args.pass.now) c.requires.lone.one c.args.id Remove _
     (record { adds = why.adds; tells = c.remove.ensures.tells; keeps = c.remove.ensures.keeps }) why.at
 
 pub returns-in-Err-NotIn-clause-changed : goal.returns-in-Err-NotIn-clause-changed

@@ -3,7 +3,7 @@ use Rattle.scene_model.specs.declared.entry.Entry.TheVariants.{SetUser}
 use Rattle.core_state.specs.declared.view.Mode.TheVariants.{Write}
 use Rattle.pass_table.specs.Passes.{view_of}
 use Rattle.script_player.specs.declared.bodies.Change.TheVariants as changes
-use Rattle.world_host.proofs.Parts.{part-then}
+use Rattle.world_host.proofs.Parts.{Part, part-then}
 use Rattle.world_host.proofs.Changes.{gone-changes}
 use Rattle.world_host.proofs.Viewing.{user-set}
 use Rattle.world_host.proofs.users_alone.set_user_alone.Goals as goal
@@ -14,7 +14,7 @@ returns-in-Ok-clause-changed g c =
     let locked = view_of c.lock_write.new.pass in
     let set = view_of c.set_user.new.pass in
     let entry = SetUser c.in-Ok.guard.id.index c.args.user in
-    let locking = record { adds = c.lock_write.ensures.adds; tells = c.lock_write.ensures.tells; keeps = c.lock_write.ensures.keeps } in
+    let locking : Part start locked [] = record { adds = c.lock_write.ensures.adds; tells = c.lock_write.ensures.tells; keeps = c.lock_write.ensures.keeps } in
     user-set c.lock_write.new.pass start c.requires.lone.one locking c.unlock.new.pass c.in-Ok.guard.number c.args.user c.in-Ok.guard.id c.args.id Write c.in-Ok.ensures.answers.good.guarding c.in-Ok.ensures.answers.now
     c.in-Ok.ensures.answers.names
     (part-then start set (view_of c.unlock.new.pass) (entry ∷ []) []

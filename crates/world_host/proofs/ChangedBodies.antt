@@ -145,6 +145,15 @@ module _ (a b : SerialWorld) (change : Change) (name : List ℕ) (known : Known)
       attempts-by None (entry_of change known.id.index ∷ []) (body_makes (table_of a) change known.id.index (body_of (table_of a).scene known.id) (sym tries.refusal_is)) tries
       (counts-live change known.id.index a.live b.live live) (counts-inside change known.id.index a.inside b.inside inside)
 
+-- the same, where the counts were set by themselves
+pub named-counted : (a mid b : SerialWorld) (change : Change) (name : List ℕ) (known : Known) → IsSound a → known_at a.books name ≡ Some known → IsLone mid.world mid.pass → mid.world.map ≡ a.world.map
+    → mid ≡ record a { world = mid.world; pass = mid.pass } → IsCounted change mid b → Tries (tried a change known) (view_of a.pass) (view_of mid.pass) None → Attempts (change_named (table_of a) change name) a b None
+named-counted a mid b change name known sound found lone sizes rest counted tries =
+    let next : SerialWorld = record mid { live = b.live; inside = b.inside } in
+    subst (λ (w : SerialWorld). Attempts (change_named (table_of a) change name) a w None) (sym counted.left)
+    (named-done a next change name known sound found lone sizes (ap (λ (w : SerialWorld). record w { live = b.live; inside = b.inside }) rest) tries (counted.live ∙ ap (λ (w : SerialWorld). w.live) rest)
+    (counted.inside ∙ ap (λ (w : SerialWorld). w.inside) rest))
+
 -- ---- there is something to count
 
 module _ (before after : Pass) (change : Change) (known : Known) (table : Table) (tries : Tries (change_body table change known.id.index (body_of table.scene known.id)) (view_of before) (view_of after) None) where

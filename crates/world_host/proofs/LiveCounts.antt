@@ -15,7 +15,7 @@ use Rattle.scene_model.specs.declared.entry.Entry.{Entry}
 use Rattle.scene_model.specs.declared.entry.Entry.TheVariants.{Create, Destroy, Mark, Unmark, Join, Remove, Move, SetUser}
 use Rattle.scene_model.specs.Phase.{is_in}
 use Rattle.scene_model.specs.Scene.{Scene, Place, Record, unused, place_at, record_at, next_of}
-use Rattle.scene_model.specs.Step.{HasBody, IsPossible, created_in, with_new_body, with_body, with_change, with_phase, after_entry}
+use Rattle.scene_model.specs.Step.{HasBody, IsPossible, in_phase, created_in, with_new_body, with_body, with_change, with_phase, after_entry}
 use Rattle.scene_model.specs.Query.{live_count, in_count}
 use Rattle.scene_model.specs.Consistent.{IsConsistent}
 use Rattle.scene_model.proofs.Places.{live_used, place_at-with_body_other}
@@ -152,11 +152,11 @@ live-after layers scene (Destroy index) h may =
     let set = tally-with_body one_live scene index None (live_used scene index _ may) in
     let was : one_live (record_at scene index) ≡ 1 = ap one_live has.1 in
     omega (arith, set, was)
-live-after layers scene (Mark index) h may = let same = live-changed _ scene index _ may in omega (arith, same)
-live-after layers scene (Unmark index) h may = let same = live-changed _ scene index _ may in omega (arith, same)
+live-after layers scene (Mark index) h may = let same = live-changed (in_phase Held) scene index _ may in omega (arith, same)
+live-after layers scene (Unmark index) h may = let same = live-changed (in_phase Out) scene index _ may in omega (arith, same)
 live-after layers scene (Join layer indexes) h may = let same = joined-live layer indexes scene may.1 may.2 in omega (arith, same)
-live-after layers scene (Remove index) h may = let same = live-changed _ scene index _ may in omega (arith, same)
-live-after layers scene (Move index bounds) h may = let same = live-changed _ scene index _ may in omega (arith, same)
+live-after layers scene (Remove index) h may = let same = live-changed (in_phase Out) scene index _ may in omega (arith, same)
+live-after layers scene (Move index bounds) h may = let same = live-changed (λ r. record r { bounds = bounds }) scene index _ may in omega (arith, same)
 live-after layers scene (SetUser index user) h may = let same = live-changed (λ r. record r { user = user }) scene index (λ r. Unit {0}) (live-body (record_at scene index) may) in omega (arith, same)
 
 in-after : (layers : ℕ) (scene : Scene) (entry : Entry) → IsConsistent layers scene → IsPossible scene entry → in_count (after_entry scene entry) + removed_by entry ≡ in_count scene + joined_by entry

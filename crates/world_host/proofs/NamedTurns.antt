@@ -1,6 +1,6 @@
 -- Turns of a script on a shared world.
 use Rattle.std.proofs.Common.{◌≡◌, ℕ, ◌+◌, ◌<◌, ◌≤◌, List, [], ◌∷◌, ◌++◌, Option, Some, None, refl, ap, sym, ◌∙◌, subst, arith, map}
-use Rattle.std.specs.Prelude.{IfSome, IfOk, Result, Ok, Err}
+use Rattle.std.specs.Prelude.{IfSome, option_map}
 use Rattle.fixed_box.specs.declared.fix_box.FixBox.{FixBox}
 use Rattle.fixed_box.specs.declared.shape.Shape.{Shape}
 use Rattle.shape_test.specs.Touched.{is_touched}
@@ -53,6 +53,10 @@ turn-does a b t reply sound goes stays books is = record {
 names-kept : (a b : SerialWorld) → b.world.map ≡ a.world.map → b.books ≡ a.books → AreNamesBelow a.world.map.bodies a.books.known → AreNamesBelow b.world.map.bodies b.books.known
 names-kept a b sizes books below =
     subst (λ (k : Books). AreNamesBelow b.world.map.bodies k.known) (sym books) (subst (λ (n : ℕ). AreNamesBelow n a.books.known) (sym (ap (λ (c : Config). c.bodies) sizes)) below)
+
+-- what was found, where something was
+pub some-of : {A B : Type 0} (o : Option A) (x : A) (f : A → B) (found : Option B) → option_map f o ≡ found → o ≡ Some x → found ≡ Some (f x)
+some-of o x f found e is = sym e ∙ ap (option_map f) is
 
 -- ---- a call after which only the pass knows more
 

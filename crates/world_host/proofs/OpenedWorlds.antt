@@ -1,6 +1,6 @@
 -- A world that was just opened for a script.
 use Rattle.std.proofs.Common.{◌≡◌, ℕ, ◌+◌, ◌^◌, ◌<◌, ◌≤◌, min, false, cond, List, [], ◌∷◌, length, refl, ap, sym, ◌∙◌, subst, arith}
-use Rattle.std.specs.Prelude.{count_by, nat_lt, map, All, slice_index_or}
+use Rattle.std.specs.Prelude.{count_by, nat_lt, map, All, IfSome, slice_index_or}
 use Rattle.std.specs.List.{range_with_len}
 use Rattle.std.proofs.lemmas.List.Elements.{All-nil}
 use Rattle.scene_model.specs.Scene.{Scene, empty_scene}
@@ -26,7 +26,7 @@ use Rattle.script_player.specs.Table.{Table, empty_table}
 use Rattle.world_host.specs.declared.serial_world.SerialWorld.{SerialWorld}
 use Rattle.world_host.specs.Alone.{scene_of, IsLone}
 use Rattle.world_host.specs.Rooms.{HasRooms, AreTokens}
-use Rattle.world_host.specs.Shown.{table_of, IsSound, Shows}
+use Rattle.world_host.specs.Shown.{table_of, AreNamesBelow, IsSound, Shows}
 
 -- the first of the passes of a world
 pub first-fresh : (world : World) (pass : Pass) (list rest : List Pass) → AreAll world list → list ≡ pass ∷ rest → IsFresh world 0 pass
@@ -63,7 +63,7 @@ module _ (w : SerialWorld) (config : Config) (fits : IsConfig config) (one : con
     tokens =
         subst (λ (k : Books). AreTokens k.prepared w.batches (view_of w.pass)) (sym books)
         (record { good = good; same = ap (map (λ (p : Prepared). (p.layer, p.indexes.items))) (sym none); nodes = All-nil _ });
-    names = subst (λ (k : Books). All _ k.known) (sym books) (All-nil _);
+    names = subst (λ (k : Books). AreNamesBelow w.world.map.bodies k.known) (sym books) (All-nil (λ o. IfSome o (λ k. k.id.index < w.world.map.bodies)));
     finder =
         let few : config.bodies ≤ 65536 = fits.bodies.1 in
         let same = ap (λ (c : Config). c.bodies) sizes in

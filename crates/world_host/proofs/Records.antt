@@ -33,8 +33,8 @@ has-body scene i P h =
 gone-viewed : (index seq : ℕ) (o : Option Record) → (IsSomeAnd o (λ r. r.generation % 256 ≡ seq) → ⊥) → viewed index seq o ≡ None
 gone-viewed index seq None h = refl
 gone-viewed index seq (Some r) h = elim (eqb_tells (r.generation % 256) seq) [
-  | inl yes ↦ absurd (h yes.1)
-  | inr no ↦ ap (λ (b : Bool). cond b (Some (view_of index r)) None) no.0
+  | inl same ↦ absurd (h same.1)
+  | inr apart ↦ ap (λ (b : Bool). cond b (Some (view_of index r)) None) apart.0
 ]
 
 pub gone-body : (scene : Scene) (i : Id) → IsCauseAt (gone i) scene → body_of scene i ≡ None

@@ -8,4 +8,4 @@ pub turn-requires-clause-fits : goal.turn-requires-clause-fits
 turn-requires-clause-fits g c = told-fits (λ h. h.played) c.args.command.now c.args.self.now c.requires.told
 
 pub returns : goal.returns
-returns g c = record { answered = answers-ok (λ h. h.played) c.args.command.now c.args.self.now c.turn.new.self c.turn.result c.turn.ensures }
+returns g c = record { answered = answers-ok (λ h. h.played) c.args.command.now c.args.self.now (record c.args.self.now { played = c.turn.new.self }) c.turn.result c.turn.ensures }

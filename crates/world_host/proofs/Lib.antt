@@ -17,4 +17,3 @@ pub mod ChangedBodies
 pub mod NamedTurns
 pub mod ReadItems
 pub mod OpenedWorlds
-pub mod HostAnswers

@@ -17,7 +17,7 @@ use std::sync::Wait;
 
 impl SerialWorld {
     /// `create NAME LAYER BOX USER`
-    pub(crate) fn create<R: Wait>(
+    pub fn create<R: Wait>(
         &mut self,
         rt: &R,
         alloc: Global,
@@ -58,7 +58,7 @@ impl SerialWorld {
     }
 
     /// Changes the body that a name stands for, and answers why it cannot.
-    pub(crate) fn change<R: Wait>(&mut self, rt: &R, name: &Text, change: Change) -> Option<Refusal>
+    pub fn change<R: Wait>(&mut self, rt: &R, name: &Text, change: Change) -> Option<Refusal>
         requires sound { IsSound self.old }
         ensures { Attempts (change_named (table_of self.old) change name.now) self.old self.new result }
     {

@@ -14,7 +14,7 @@ use word_map::Config;
 
 impl SerialWorld {
     /// Opens a world with one pass, with which nothing is done yet.
-    pub(crate) fn open(alloc: Global, config: Config) -> Result<SerialWorld, OpenFault>
+    pub fn open(alloc: Global, config: Config) -> Result<SerialWorld, OpenFault>
         requires one { config.passes ≡ 1 }
         ensures opened { IfOk result (λ w. Shows w (empty_table config)) }
         ensures fault { IfErr result (IsFaultOf config) }

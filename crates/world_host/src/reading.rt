@@ -69,7 +69,7 @@ fn found(alloc: Global, finder: &Finder) -> Result<Vec<BodyId>, AllocError>
 
 impl SerialWorld {
     /// `read NAME`
-    pub(crate) fn read<R: Wait>(&mut self, rt: &R, name: &Text) -> Reply
+    pub fn read<R: Wait>(&mut self, rt: &R, name: &Text) -> Reply
         requires sound { IsSound self.old }
         ensures { Does (answered (table_of self.old) (read_named (table_of self.old) name.now)) self.old self.new result }
     {
@@ -83,7 +83,7 @@ impl SerialWorld {
     }
 
     /// `multi NAME..`
-    pub(crate) fn multi<R: Wait>(
+    pub fn multi<R: Wait>(
         &mut self,
         rt: &R,
         alloc: Global,
@@ -100,7 +100,7 @@ impl SerialWorld {
     }
 
     /// The bodies that touch a shape: `box`, `point` and `ray`.
-    pub(crate) fn query<R: Wait>(
+    pub fn query<R: Wait>(
         &mut self,
         rt: &R,
         alloc: Global,

@@ -6,7 +6,7 @@ use tree_query::Finder;
 
 /// A shared world with its one pass, and what a script keeps of it. Contracts see it as a table (`table_of`).
 #[derive(Drop)]
-pub(crate) struct SerialWorld {
+pub struct SerialWorld {
     pub(crate) world: World,
     pub(crate) pass: Pass,
     /// What finds bodies; it has room for each body of the world.

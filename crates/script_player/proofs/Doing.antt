@@ -46,7 +46,7 @@ make_makes : (table : Table) (entry : Entry) (o : Option Refusal) → (make_chan
 make_makes table entry None e = refl
 make_makes table entry (Some refusal) e = absurd cc
 
-body_makes : (table : Table) (change : Change) (index : ℕ) (o : Option BodyView) → (change_body table change index o).refusal ≡ None
+pub body_makes : (table : Table) (change : Change) (index : ℕ) (o : Option BodyView) → (change_body table change index o).refusal ≡ None
     → (change_body table change index o).entries ≡ entry_of change index ∷ []
 body_makes table change index None e = absurd cc
 body_makes table change index (Some v) e = make_makes table (entry_of change index) (forbids change v.phase) e

@@ -30,7 +30,7 @@ fits_by f g to mask scene index generation h =
     weaker (record_at scene index) (λ r. (r.generation ≡ generation) × IsHit f mask r) (λ r. (r.generation ≡ generation) × IsHit g mask r)
     (λ r own. (own.0, (own.1.0, own.1.1, to r.bounds own.1.2))) h
 
-right_by : (f g : FixBox → Type 0) → ((b : FixBox) → f b → g b) → ((b : FixBox) → g b → f b) → (mask bodies : ℕ) (interval : Interval) (ids : List Id)
+pub right_by : (f g : FixBox → Type 0) → ((b : FixBox) → f b → g b) → ((b : FixBox) → g b → f b) → (mask bodies : ℕ) (interval : Interval) (ids : List Id)
     → IsRightAnswer f mask bodies interval ids → IsRightAnswer g mask bodies interval ids
 right_by f g to from mask bodies interval ids h =
     let P : (FixBox → Type 0) → Id → Type 0 = λ t i. (generation : ℕ) × IsMet t mask bodies interval i.index generation × (i ≡ id_of i.index generation) in

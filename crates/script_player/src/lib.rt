@@ -14,6 +14,8 @@ mod plain_player;
 mod playing;
 mod taking;
 
+pub use bodies::Change;
+pub use books::{Attached, Batch, Books, Known};
 pub use host::Host;
 pub use plain_player::PlainPlayer;
 pub use playing::{PlayFault, play};

@@ -1,0 +1,5 @@
+pub mod Alone
+pub mod Rooms
+pub mod Counted
+pub mod Answers
+pub mod Shown

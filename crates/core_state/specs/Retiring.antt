@@ -255,6 +255,7 @@ pub record MayEndUpdate (view : View) (name : Name) (value second : ℕ) : Type 
   pub old : ℕ
   pub names : name ≡ Update
   pub ends : IsAtEnd view r old
+  pub idle : view.call.task ≡ Nothing
   pub switched : r.is_switched ≡ true
   pub none : value ≡ 0
 

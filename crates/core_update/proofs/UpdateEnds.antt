@@ -1,5 +1,5 @@
 -- Ending an update keeps all laws: no body has a second location and no node is superseded or to be given back any more, and the
--- nodes that it did not use are spare. The pass is in the middle of nothing.
+-- nodes that it did not use are spare.
 use Rattle.std.proofs.Common.{Bool, Contains, List, None, Option, Some, [], ap, arith, cond, false, inl, inr, length, refl, set, subst, suc, sym, zero, ℕ, ◌++◌, ◌-◌, ◌<◌, ◌∙◌, ◌∷◌, ◌≡◌, ◌≢◌, ◌≤◌, ◌⊎◌}
 use Rattle.std.proofs.lemmas.Bool.{cases_eq, lt-ltb, true≢false}
 use Rattle.std.proofs.lemmas.List.{append-nil}
@@ -45,6 +45,7 @@ use Rattle.core_guard.proofs.Owners.{batch-below, nodes_split, owned-by}
 use Rattle.core_guard.proofs.PlacesLeft.{LocationsHold-touches}
 use Rattle.core_guard.proofs.ReadersLeft.{ReadersCounted-touches}
 use Rattle.core_guard.proofs.Seats.{each-seat, has-seat, seen_of}
+use Rattle.core_guard.proofs.Touched.{IsKept, kept}
 use Rattle.core_guard.proofs.TreesLeft.{TreesSound-touches}
 use Rattle.core_batch.proofs.Attached.{there-in_nodes}
 use Rattle.core_batch.proofs.Lists.{filter_from, pairs-across, pairs-left}
@@ -68,7 +69,7 @@ set-same f [] i x y same = refl
 set-same {Y = Y} f (z ∷ xs) zero x y same = ap (λ (o : Option Y). cons_option o (filter_map f xs)) same
 set-same {Y = Y} f (z ∷ xs) (suc i) x y same = ap (λ (l : List Y). cons_option (f z) l) (set-same f xs i x y same)
 
-module _ (core : Core) (step : Step) (a : Acts core step) (asked : MayEndUpdate step.view step.name step.first step.second) (idle : step.view.call.task ≡ Nothing) where
+module _ (core : Core) (step : Step) (a : Acts core step) (asked : MayEndUpdate step.view step.name step.first step.second) where
   abbrev kind : Kind
   kind = end_update
 
@@ -366,7 +367,7 @@ module _ (core : Core) (step : Step) (a : Acts core step) (asked : MayEndUpdate 
       (LocationsHold-touches Drops core step a later touches)
     where
       resting : (index : ℕ) → ¬ IsPlacing (call_on_places step.view.call).task index
-      resting index placing = subst (λ (t : Task). IsPlacing (call_by_task t step.view.call).task index) idle placing
+      resting index placing = subst (λ (t : Task). IsPlacing (call_by_task t step.view.call).task index) asked.idle placing
 
   cover : BodiesCovered later After
   cover =
@@ -400,6 +401,9 @@ module _ (core : Core) (step : Step) (a : Acts core step) (asked : MayEndUpdate 
       (λ holder. subst (λ (o : Option Rebuild). IsSomeAnd o (λ x. ⊤)) (others-update-none core a.laws a.formed step a.at a.pass asked.r asked.ends.update seat number view apart found is) holder, tt))
 
 -- ---- kind 54
+
+pub Invariants-end_update : IsKept MayEndUpdate end_update
+Invariants-end_update = kept MayEndUpdate end_update (λ core step a asked. Invariants-ends core step a asked)
 
 pub GuardsHold-end_update : IsGuarded MayEndUpdate end_update
 GuardsHold-end_update = guarded MayEndUpdate end_update (λ core step a asked. guards core step a asked)

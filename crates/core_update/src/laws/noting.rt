@@ -42,7 +42,9 @@ pub fn arenas_are_switched()
     ensures guarded { (before after : Core) → Steps MaySwitchArena switch_arena before after → IsFormed before → Invariants before → GuardsHold before → GuardsHold after }
 {}
 
-/// Ending an update stores its word, which only the pass that has the update under way stores.
+/// Ending an update keeps all invariants: no body has two locations any more, no node is superseded or to be given back, and
+/// the nodes that the update did not use are spare. Only the pass that has the update under way stores its word.
 pub fn updates_end()
-    ensures { (before after : Core) → Steps MayEndUpdate end_update before after → IsFormed before → Invariants before → GuardsHold before → GuardsHold after }
+    ensures keeps { (before after : Core) → Steps MayEndUpdate end_update before after → IsFormed before → GuardsHold before → Invariants before → Invariants after }
+    ensures guarded { (before after : Core) → Steps MayEndUpdate end_update before after → IsFormed before → Invariants before → GuardsHold before → GuardsHold after }
 {}

@@ -144,7 +144,7 @@ place_noted = record {
   leaves = λ view name found first second. placed_by view name;
 }
 
--- then storing its phase asks that it still looks as it was noted
+-- then storing its phase asks that it still looks as it was noted, and that the update has not given it up
 pub record MayPlacePhase (view : View) (name : Name) (value second : ℕ) : Type 0 where
   pub index : ℕ
   pub slot : ℕ
@@ -153,9 +153,11 @@ pub record MayPlacePhase (view : View) (name : Name) (value second : ℕ) : Type
   pub names : name ≡ Phase index
   pub task : view.call.task ≡ Placing index
   pub update : view.rebuild ≡ Some r
+  pub planned : r.is_planned ≡ true
   pub among : Contains r.noted noted
   pub of_body : noted.index ≡ index
   pub placed : Contains r.placed index
+  pub kept : ¬ Contains r.given_up index
   pub as_noted : IsKnownAsNoted view noted
   pub joined : known_word view (Phase index) ≡ phase_join slot
   pub goes_in : value ≡ phase_in

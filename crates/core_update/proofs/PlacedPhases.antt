@@ -60,6 +60,9 @@ use Rattle.core_guard.proofs.Scenes.{none_here}
 use Rattle.core_guard.proofs.Seats.{each-seat, each-step, seat-has, seen_of}
 use Rattle.core_guard.proofs.Settled.{StandsStill, settled-still}
 use Rattle.core_update.proofs.OwnNotes.{Covering, Locating, own-notes, own-planned, unexchanged, note-once, sole-update}
+use Rattle.core_guard.proofs.Holders.{IsGuarded, guarded}
+use Rattle.core_guard.proofs.Touched.{IsKept}
+use Rattle.core_guard.proofs.Touched as touched
 use Rattle.core_update.proofs.SwappedPlaces.{First, Second, SwapsPlaces, LocationsHold-swap}
 
 module _ (core : Core) (step : Step) (a : Acts core step) (asked : MayPlacePhase step.view step.name step.first step.second) (planned : asked.r.is_planned ≡ true) (kept : ¬ Contains asked.r.given_up asked.index) where
@@ -406,3 +409,11 @@ module _ (core : Core) (step : Step) (a : Acts core step) (asked : MayPlacePhase
 
   pub guarded-phase : KeepsGuards place_phase core step
   guarded-phase = stripe-guarded place_phase core step a i stripe unheld (subst (IsStripeWord asked.index) (sym asked.names) refl)
+
+-- ---- kind 45
+
+pub Invariants-place_phase : IsKept MayPlacePhase place_phase
+Invariants-place_phase = touched.kept MayPlacePhase place_phase (λ core step a asked. Invariants-phase core step a asked asked.planned asked.kept)
+
+pub GuardsHold-place_phase : IsGuarded MayPlacePhase place_phase
+GuardsHold-place_phase = guarded MayPlacePhase place_phase (λ core step a asked. guarded-phase core step a asked asked.planned asked.kept)

@@ -2,7 +2,7 @@
 ghost use Rattle.std.specs.Prelude.{ℕ};
 ghost use Rattle.core_state.specs.Core.{Core};
 ghost use Rattle.core_state.specs.Kind.{Steps};
-ghost use Rattle.core_state.specs.Placing.{MayLoadParentPlacing, load_parent_placing, MayWidenLowToPlace, MayWidenHighToPlace, widen_low_placing, widen_high_placing, MayPlaceNoted, place_noted, MayGiveUp, give_up};
+ghost use Rattle.core_state.specs.Placing.{MayLoadParentPlacing, load_parent_placing, MayWidenLowToPlace, MayWidenHighToPlace, widen_low_placing, widen_high_placing, MayPlaceNoted, place_noted, MayPlacePhase, place_phase, MayGiveUp, give_up};
 ghost use Rattle.core_state.specs.Formed.{IsFormed};
 ghost use Rattle.core_state.specs.Guards.{GuardsHold};
 ghost use Rattle.core_state.specs.Invariants.{Invariants};
@@ -33,6 +33,13 @@ pub fn bounds_are_widened_to_place()
 pub fn bodies_are_placed()
     ensures keeps { (before after : Core) → Steps MayPlaceNoted place_noted before after → IsFormed before → GuardsHold before → Invariants before → Invariants after }
     ensures guarded { (before after : Core) → Steps MayPlaceNoted place_noted before after → IsFormed before → Invariants before → GuardsHold before → GuardsHold after }
+{}
+
+/// Storing the phase of a body that is placed keeps all invariants: it is in the tree of a slot that is merged still, and has its
+/// second location, so it stays covered. No other pass has its stripe.
+pub fn phases_of_placed_bodies_are_stored()
+    ensures keeps { (before after : Core) → Steps MayPlacePhase place_phase before after → IsFormed before → GuardsHold before → Invariants before → Invariants after }
+    ensures guarded { (before after : Core) → Steps MayPlacePhase place_phase before after → IsFormed before → Invariants before → GuardsHold before → GuardsHold after }
 {}
 
 /// Giving a body up keeps all invariants: its entry in the new tree is a location of no body, no walk comes to it, and the body

@@ -227,6 +227,7 @@ module _ (kind : Kind) (core : Core) (step : Step) (a : Acts core step) (i : ℕ
           published = published;
           first = λ j r n k e inside below location. where-forth j r.layer n (h.first j r n k e inside below location);
           second = λ j other. let u = h.second j other in (u.0, has-forth u.0 (IsSecondFor Was j) u.1);
+          located = h.located;
           dead = h.dead;
           out = λ j out left. h.out j out (λ removed. left (removed-forth j removed));
           removed = λ number v among pass j removes. taken-out nodes End (acting v.call v.rebuild) v j refl ((passes number v among pass).removed j removes);

@@ -216,6 +216,7 @@ module _ (core : Core) (step : Step) (a : Acts core step) (i : ℕ) (asked : Has
   placed = record {
     at = λ r n k e inside location. absurd (unseen r e inside);
     first = λ r n k e inside below location. absurd (unseen r e inside);
+    located = λ r e inside none. unseen r e inside;
     second = second-after;
     dead = λ dead. absurd (none_here (record_at (scene_of (After clear_location core step)) i) (λ r. r.phase ≡ Out) dead out-after);
     out = λ out left. nowhere left;

@@ -133,6 +133,7 @@ module _ (core : Core) (a : Attaching core) (acts : Acts core (step_of core a)) 
           let layer : j.body.layer ≡ r.layer = ap (λ (b : Record). b.layer) (same_Some (in_phase In j.body) r (sym is ∙ e)) in
           let home : Later.home n ≡ under (Slot a.layer a.slot) = home-inside acts.laws.nodes core a n (subst (λ (x : ℕ). Contains a.batch.nodes x) at.0 j.entered.in_batch) in
           subst (λ (l : ℕ). IsWhere Later Now i l n) (sym j.in_layer ∙ layer) (in_slot a.slot (word-other core a (Phase i) (λ x. absurd cc) ∙ j.phase) home (inl joined-second));
+      located = λ r e inside none. let at = j.entered.at in let first = sym (word-other core a (LocA i) (λ x. absurd cc)) ∙ none in let there = j.first in absurd (omega arith);
       second = λ other. absurd (other joined-second);
       dead = λ none. absurd (false≢true (sym none ∙ ap is_some is));
       out = λ body kept. absurd (out_in (sym (subst (λ (o : Option Record). IsSomeAnd o (λ r. r.phase ≡ Out)) is body)));

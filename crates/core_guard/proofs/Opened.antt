@@ -234,6 +234,7 @@ module _ (s : Sight) (p : ℕ) where
       second = λ i other.
           let t = h.second i other in
           (t.0, has-more t.0 _ _ t.1 (λ v x. x));
+      located = h.located;
       dead = h.dead;
       out = λ i body kept. h.out i body (λ removed. kept (removed-more i removed));
       removed = each-more _ _ h.removed

@@ -208,6 +208,7 @@ module _ (kind : Kind) (core : Core) (step : Step) (a : Acts core step) (later :
     LocationsHold-leaves = record {
       at = λ i. (body-later i).at;
       first = λ i. (body-later i).first;
+      located = λ i. (body-later i).located;
       second = λ i. (body-later i).second;
       dead = λ i. (body-later i).dead;
       out = λ i. (body-later i).out;

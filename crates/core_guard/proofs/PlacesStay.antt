@@ -35,6 +35,7 @@ use Rattle.core_state.proofs.Opening.{none_in}
 pub record BodyIsPlaced (nodes : Nodes) (s : Sight) (i : ℕ) : Type 0 where
   pub at : (r : Record) (n k : ℕ) → record_at (scene_in s) i ≡ Some r → r.phase ≡ In → IsLocation s i n k → IsAt nodes s i r n k
   pub first : (r : Record) (n k : ℕ) → record_at (scene_in s) i ≡ Some r → r.phase ≡ In → k < 4 → s.word (LocA i) ≡ place n k → IsWhere nodes s i r.layer n
+  pub located : (r : Record) → record_at (scene_in s) i ≡ Some r → r.phase ≡ In → s.word (LocA i) ≢ 0
   pub second : s.word (LocB i) ≢ 0 → IsSecond s i
   pub dead : IsNone (record_at (scene_in s) i) → (s.word (LocA i) ≡ 0) × (s.word (LocB i) ≡ 0)
   pub out : HasBody (scene_in s) i (λ r. r.phase ≡ Out) → ¬ IsRemoved s i → (s.word (LocA i) ≡ 0) × (s.word (LocB i) ≡ 0)
@@ -85,7 +86,7 @@ abbrev pub EachPlaced : Nodes → Sight → Type 0
 EachPlaced nodes s = EachPass s (λ number v. PassIsPlaced nodes s v.call v.rebuild)
 
 pub body-placed : (nodes : Nodes) (s : Sight) → LocationsHoldIn nodes s → (i : ℕ) → BodyIsPlaced nodes s i
-body-placed nodes s h i = record { at = h.at i; first = h.first i; second = h.second i; dead = h.dead i; out = h.out i }
+body-placed nodes s h i = record { at = h.at i; first = h.first i; located = h.located i; second = h.second i; dead = h.dead i; out = h.out i }
 
 pub pass-placed : (nodes : Nodes) (s : Sight) → LocationsHoldIn nodes s → EachPlaced nodes s
 pass-placed nodes s h number v among pass = record {
@@ -287,6 +288,7 @@ module _ (kind : Kind) (core : Core) (step : Step) (a : Acts core step) (later :
       first = λ q n k e inside below location.
           let old = in-was kind core step i b q e inside in
           where-forth q.layer n (in-stays kind core step i b q e inside).word (subst (λ (l : ℕ). IsWhere nodes Was i l n) (sym old.3) (h.first old.0 n k old.1 old.2 below (sym b.loc_a ∙ location)));
+      located = λ q e inside none. let old = in-was kind core step i b q e inside in h.located old.0 old.1 old.2 (sym b.loc_a ∙ none);
       second = λ other. second-forth i b.loc_b b.body (h.second (λ none. other (b.loc_b ∙ none)));
       dead = λ none. nowhere-forth (h.dead (none-was kind core step i b none));
       out = λ body kept.
@@ -317,6 +319,7 @@ module _ (kind : Kind) (core : Core) (step : Step) (a : Acts core step) (later :
     apart-placed = record {
       at = λ r n k e inside location. absurd (b.unseen_after (record_body _ (λ x. x.phase ≡ In) r e inside));
       first = λ r n k e inside below location. absurd (b.unseen_after (record_body _ (λ x. x.phase ≡ In) r e inside));
+      located = λ r e inside none. b.unseen_after (record_body _ (λ x. x.phase ≡ In) r e inside);
       second = λ other. absurd (other b.second_after);
       dead = λ none. (b.dead none, b.second_after);
       out = λ body kept. (b.out body, b.second_after);

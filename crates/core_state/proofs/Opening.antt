@@ -224,6 +224,7 @@ LocationsHold-opening c =
       planned = each_bare s _ refl (λ number. tt);
       published = each_bare s _ refl (λ number. tt);
       first = λ i r n k e. absurd (none-some r e);
+      located = λ i r e. absurd (none-some r e);
       second = λ i other. absurd (other refl);
       dead = λ i none. (refl, refl);
       out = λ i has. absurd has;

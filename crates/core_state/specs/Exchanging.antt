@@ -112,6 +112,7 @@ pub record MayClearSlot (view : View) (name : Name) (value second : ℕ) : Type 
   pub names : name ≡ Slot layer slot
   pub update : view.rebuild ≡ Some r
   pub all_bodies : r.passed ≡ view.config.bodies
+  pub planned : (r.is_planned ≡ true) ⊎ (r.noted ≡ [])
   pub all_swapped : length r.swapped ≡ view.config.layers
   pub some_left : r.cleared < length r.merged
   pub next : slice_index_or r.merged r.cleared (merged_tree layer slot root) ≡ merged_tree layer slot root

@@ -201,6 +201,8 @@ pub record LocationsHoldIn (nodes : Nodes) (s : Sight) : Type 0 where
   pub published : EachUpdate s (λ number view r. (noted : Noted) → Contains r.noted noted → IsPublishedAt nodes r noted)
   -- a first location is in the tree that the phase says
   pub first : (i : ℕ) (r : Record) (n k : ℕ) → record_at (scene_in s) i ≡ Some r → r.phase ≡ In → k < 4 → s.word (LocA i) ≡ place n k → IsWhere nodes s i r.layer n
+  -- each body in the broad phase has one
+  pub located : (i : ℕ) (r : Record) → record_at (scene_in s) i ≡ Some r → r.phase ≡ In → s.word (LocA i) ≢ 0
   pub second : (i : ℕ) → s.word (LocB i) ≢ 0 → IsSecond s i
   -- an index that is not live has no location, and neither has a body that is out, but for one that is being taken out
   pub dead : (i : ℕ) → IsNone (record_at (scene_in s) i) → (s.word (LocA i) ≡ 0) × (s.word (LocB i) ≡ 0)

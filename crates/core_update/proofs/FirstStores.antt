@@ -1,6 +1,6 @@
 -- Storing the second location of a body as its first one: no published tree loses an entry by it, since the tree in which the
 -- first location was is superseded, or the two are the same.
-use Rattle.std.proofs.Common.{◌≡◌, ◌≢◌, ℕ, ◌<◌, ◌≤◌, length, Option, Some, IsSomeAnd, refl, ap, sym, ◌∙◌, subst, inl, inr, arith}
+use Rattle.std.proofs.Common.{◌≡◌, ◌≢◌, ℕ, ◌-◌, ◌/◌, ◌%◌, ◌<◌, ◌≤◌, length, Option, Some, IsSomeAnd, refl, ap, sym, ◌∙◌, subst, inl, inr, arith}
 use Rattle.std.specs.Prelude.{IsNone}
 use Rattle.std.proofs.lemmas.Option.{same_Some}
 use Rattle.scene_model.specs.declared.body_view.Phase.TheVariants.{Out, In}
@@ -39,12 +39,17 @@ use Rattle.core_guard.proofs.OnBody.{OnBody, IsOn, nobody-does}
 use Rattle.core_guard.proofs.PlacesLeft.{SeenUpdate, IsAnew, body_anew}
 use Rattle.core_guard.proofs.PlacesStay.{PassIsPlaced, BodyIsPlaced, begun-placed, encloses-forth, second-forth, places-handles, seen-task}
 use Rattle.core_guard.proofs.Scenes.{none_here}
+use Rattle.core_guard.proofs.Touched.{IsKept, kept}
 use Rattle.core_guard.proofs.Seats.{has-seat, seen_of}
 use Rattle.core_update.proofs.OwnUpdate.{has-own, own-each}
 use Rattle.core_update.proofs.Promoting.{IsPromoted, promoted, known, unheld, alone, inside}
 use Rattle.core_update.proofs.Promotions.{one-place, main_old}
 
-module _ (core : Core) (step : Step) (a : Acts core step) (asked : MayPromote step.view step.name step.first step.second) (phase : word_of core (Phase asked.index) ≡ phase_in) where
+-- a location is a place
+place-of : (word : ℕ) → word ≢ 0 → (n : ℕ) × (k : ℕ) × (k < 4) × (word ≡ place n k)
+place-of word some = ((word - 1) / 4, (word - 1) % 4, omega arith, omega arith)
+
+module _ (core : Core) (step : Step) (a : Acts core step) (asked : MayPromote step.view step.name step.first step.second) where
   abbrev i : ℕ
   i = asked.index
 
@@ -84,6 +89,24 @@ module _ (core : Core) (step : Step) (a : Acts core step) (asked : MayPromote st
 
   unplaces : ¬ IsPlacing step.view.call.task i
   unplaces h = subst (λ (t : Task). IsPlacing t i) asked.to_promote.idle h
+
+  unplaced : ¬ IsPlacedNow Was i
+  unplaced h =
+      let from = has-seat location_scope (λ k v. refl) core h.0 (λ v. IsPlacing v.call.task i) h.1 in
+      nobody-does promote core step i step.view.call a on (λ t. IsPlacing t i) (λ t. places-handles t i) unplaces from.seat h.0 from.view from.at from.pass
+      (seen-task (λ t. IsPlacing t i) (λ t calm places. idle-unhandled t i calm (places-handles t i places)) from.view.call from.holds)
+
+  -- its phase says that it is in the main tree: it has a first location, and a second one that nobody is about to give it
+  phase : word_of core (Phase i) ≡ phase_in
+  phase =
+      let t = place-of (word_of core (LocA i)) (a.laws.locations.located i body.0 body.1 body.3) in
+      go t.0 (a.laws.locations.first i body.0 t.0 t.1 body.1 body.3 t.2 t.3)
+    where
+      go : (n : ℕ) → IsWhere nodes Was i body.0.layer n → word_of core (Phase i) ≡ phase_in
+      go n (in_slot t e home second) = elim second [ inl none ↦ absurd (some none) | inr now ↦ absurd (unplaced now) ]
+      go n (in_main e home second) = e
+      go n (in_old number name e other home of_layer) = e
+      go n (in_merged number t root e other home has) = e
 
   -- ---- words
 
@@ -129,6 +152,7 @@ module _ (core : Core) (step : Step) (a : Acts core step) (asked : MayPromote st
     first = λ q n k e is_in below location.
         let same : q ≡ body.0 = same_Some q body.0 (sym (live q e) ∙ body.1) in
         in_main (word-same (Phase i) (λ j c. absurd cc) ∙ phase) (in-tree n k below location ∙ ap (λ (l : ℕ). under (Main l)) (sym (ap (λ (x : Record). x.layer) same ∙ body.2))) (inr (inl (second-same ∙ sym first-now)));
+    located = λ q e is_in none. some (sym first-now ∙ none);
     second = λ other.
         second-forth promote core step a nodes (No_new promote core step) leaves i second-same
         (alike-of (record_at (scene_of core) i) (record_at (scene_of (After promote core step)) i) body.0 body.0 body.1 (record-same i ∙ body.1) refl refl)
@@ -144,12 +168,6 @@ module _ (core : Core) (step : Step) (a : Acts core step) (asked : MayPromote st
 
   all-cleared : r.cleared ≡ length r.merged
   all-cleared = asked.to_promote.published.all_cleared
-
-  unplaced : ¬ IsPlacedNow Was i
-  unplaced h =
-      let from = has-seat location_scope (λ k v. refl) core h.0 (λ v. IsPlacing v.call.task i) h.1 in
-      nobody-does promote core step i step.view.call a on (λ t. IsPlacing t i) (λ t. places-handles t i) unplaces from.seat h.0 from.view from.at from.pass
-      (seen-task (λ t. IsPlacing t i) (λ t calm places. idle-unhandled t i calm (places-handles t i places)) from.view.call from.holds)
 
   -- an entry of it in a published tree is at its second location too
   entry-kept : (n k : ℕ) → IsPublished (nodes.home n) → k < 4 → word_of core (LocA i) ≡ place n k → word_of core (LocB i) ≡ place n k
@@ -234,11 +252,15 @@ module _ (core : Core) (step : Step) (a : Acts core step) (asked : MayPromote st
         (begun-placed nodes Is (SeenUpdate promote core step) Nothing (λ j removes. absurd removes) tt (λ n k climbs. absurd climbs));
   }
 
-  -- all that the kind keeps, where the phase of the body says that it is in the main tree
   pub Invariants-promoted : Invariants (after_step promote core step)
   Invariants-promoted =
       Invariants-turned promote core step a i step.view.call turns
       (BodiesAgree-beside promote core step a i step.view.call on (λ between. absurd (subst (λ (t : Task). MovesBody t i) asked.to_promote.idle between.0)) (ap body_scope.names asked.names) (λ value. refl))
+
+-- ---- kind 49
+
+pub Invariants-promote : IsKept MayPromote promote
+Invariants-promote = kept MayPromote promote (λ core step a asked. Invariants-promoted core step a asked)
 
 pub GuardsHold-promote : IsGuarded MayPromote promote
 GuardsHold-promote =

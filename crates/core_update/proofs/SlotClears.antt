@@ -30,6 +30,7 @@ use Rattle.core_state.proofs.Opening.{none_in}
 use Rattle.core_state.proofs.Steps.{word-step}
 use Rattle.core_guard.proofs.Leaving.{Acts, After, Last}
 use Rattle.core_guard.proofs.Settled.{sound}
+use Rattle.core_guard.proofs.Touched.{IsKept, kept as kept_by}
 use Rattle.core_update.proofs.Beside.{law-beside}
 use Rattle.core_update.proofs.OwnUpdate.{each-own, holds-own}
 use Rattle.core_update.proofs.Publishing.{Published, Publishes, homes_after, is_tree_name}
@@ -65,7 +66,7 @@ one-merged xs once i j l t root other low high one two = go (cases_lt i j) (case
     go (inr more) (inl less) = absurd (once j i d less low (ap (λ (m : Merged). m.layer) at-j ∙ ap (λ (m : Merged). m.layer) (sym one), ap (λ (m : Merged). m.slot) at-j ∙ ap (λ (m : Merged). m.slot) (sym one)))
     go (inr more) (inr less) = omega arith
 
-module _ (core : Core) (step : Step) (a : Acts core step) (asked : MayClearSlot step.view step.name step.first step.second) (planned : (asked.r.is_planned ≡ true) ⊎ (asked.r.noted ≡ [])) where
+module _ (core : Core) (step : Step) (a : Acts core step) (asked : MayClearSlot step.view step.name step.first step.second) where
   abbrev r : Rebuild
   r = asked.r
 
@@ -157,7 +158,7 @@ module _ (core : Core) (step : Step) (a : Acts core step) (asked : MayClearSlot 
     locks = ap (λ (v : View). v.locks) last;
     walk = ap (λ (v : View). v.walk) last;
     all_bodies = asked.all_bodies ∙ ap (λ (c : Config). c.bodies) (sound core step a).config;
-    planned = λ n among. elim planned [ inl is ↦ is | inr none ↦ absurd (none_in n (subst (λ (l : List Noted). Contains l n) none among)) ];
+    planned = λ n among. elim (asked.planned) [ inl is ↦ is | inr none ↦ absurd (none_in n (subst (λ (l : List Noted). Contains l n) none among)) ];
     done = done;
     unread = asked.unread;
     unreclaimed = asked.unreclaimed;
@@ -271,8 +272,12 @@ module _ (core : Core) (step : Step) (a : Acts core step) (asked : MayClearSlot 
         idle = λ unread n inside. forth n spare (λ name e. absurd cc) (λ m l e. absurd cc) (h.idle unread n inside);
       }
 
-  -- all that the kind keeps, where the new trees are planned or nothing was noted
   pub Invariants-slot_cleared : Invariants (after_step clear_slot core step)
   Invariants-slot_cleared =
       Invariants-published clear_slot core step a r q publishes
       (law-beside clear_slot core step a r change asked.update last node_scope (NodesInOnePlaceIn later) (λ bare view y known joined. refl) (λ stored. ap node_scope.names asked.names) (λ value. refl) placed)
+
+-- ---- kind 48
+
+pub Invariants-clear_slot : IsKept MayClearSlot clear_slot
+Invariants-clear_slot = kept_by MayClearSlot clear_slot (λ core step a asked. Invariants-slot_cleared core step a asked)

@@ -223,6 +223,7 @@ module _ (kind : Kind) (core : Core) (step : Step) (a : Acts core step) (r after
               let was = sym (record-same i) ∙ e in
               let at = sym (word-same (LocA i) refl) ∙ location in
               g.first i b n k was inside below at (h.first i b n k was inside below at);
+          located = λ i b e inside none. h.located i b (sym (record-same i) ∙ e) inside (sym (word-same (LocA i) refl) ∙ none);
           second = g.second;
           dead = λ i none.
               let t = h.dead i (subst (λ (o : Option Record). IsNone o) (record-same i) none) in

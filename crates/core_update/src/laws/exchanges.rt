@@ -23,9 +23,12 @@ pub fn main_words_are_exchanged()
     ensures guarded { (before after : Core) → Steps MayExchange exchange_main before after → IsFormed before → Invariants before → GuardsHold before → GuardsHold after }
 {}
 
-/// Clearing a merged slot stores no word that another pass has for itself: no batch is for a slot that has a tree.
-pub fn slots_are_guarded()
-    ensures { (before after : Core) → Steps MayClearSlot clear_slot before after → IsFormed before → Invariants before → GuardsHold before → GuardsHold after }
+/// Clearing a merged slot keeps all invariants: the merged tree is superseded, each body that stood in it stands in the main
+/// tree of its layer, and a walk that has not read the slot finds it there, since it reads the main word last. No batch is for
+/// a slot that has a tree.
+pub fn slots_are_cleared()
+    ensures keeps { (before after : Core) → Steps MayClearSlot clear_slot before after → IsFormed before → GuardsHold before → Invariants before → Invariants after }
+    ensures guarded { (before after : Core) → Steps MayClearSlot clear_slot before after → IsFormed before → Invariants before → GuardsHold before → GuardsHold after }
 {}
 
 /// No body is lost, at any moment: one whose first location is in a tree that was taken out of sight has a second one, and

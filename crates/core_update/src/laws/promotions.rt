@@ -6,10 +6,12 @@ ghost use Rattle.core_state.specs.Formed.{IsFormed};
 ghost use Rattle.core_state.specs.Guards.{GuardsHold};
 ghost use Rattle.core_state.specs.Invariants.{Invariants};
 
-/// Storing the second location of a body as its first one stores no word that another pass has for itself: the pass holds
-/// the stripe, and no batch holds the body.
-pub fn promotions_are_guarded()
-    ensures { (before after : Core) → Steps MayPromote promote before after → IsFormed before → Invariants before → GuardsHold before → GuardsHold after }
+/// Storing the second location of a body as its first one keeps all invariants: no published tree loses an entry by it, since
+/// the tree in which the first location was is superseded, or the two are the same. The pass holds the stripe, and no batch
+/// holds the body.
+pub fn bodies_are_promoted()
+    ensures keeps { (before after : Core) → Steps MayPromote promote before after → IsFormed before → GuardsHold before → Invariants before → Invariants after }
+    ensures guarded { (before after : Core) → Steps MayPromote promote before after → IsFormed before → Invariants before → GuardsHold before → GuardsHold after }
 {}
 
 /// Clearing the second location of a body that has the same first one keeps all invariants: the body stands where it stood.

@@ -91,6 +91,7 @@ module _ (kind : Kind) (core : Core) (step : Step) (a : Acts core step) (i : ℕ
       placed = record {
         at = λ r n k e inside at. absurd (unseen r e inside);
         first = λ r n k e inside below at. absurd (unseen r e inside);
+        located = λ r e inside none. unseen r e inside;
         second = λ other.
             elim (b.second) [
               | inl same_word ↦ second-forth kind core step a nodes (λ n. ⊥) leaves i same_word (alike-same _ _ (same i)) (a.laws.locations.second i (λ none. other (same_word ∙ none)))

@@ -61,6 +61,7 @@ module _ (nodes later : Nodes) (k : OnlyMakes nodes later) (s : Sight) where
     published = λ number v among pass.
         if_some_map v.rebuild _ _ (λ r published noted inside is swapped. let t = published noted inside is swapped in (t.0, t.1, t.2, t.3, tree-then t.0 _ tt t.4)) (h.published number v among pass);
     first = λ i r n x e inside below location. where-then i r.layer n (h.first i r n x e inside below location);
+    located = h.located;
     second = h.second;
     dead = h.dead;
     out = h.out;

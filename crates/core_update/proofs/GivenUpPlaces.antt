@@ -299,6 +299,7 @@ module _ (core : Core) (step : Step) (a : Acts core step) (index : ℕ) (asked :
             each-step location_scope (λ k x. refl) (give_up index) core step a.at a.pass (λ number x. IfSome x.rebuild Published) (λ number x. IfSome x.rebuild Published) h.published (λ seat number view apart found own old. old)
             (λ old. subst (λ (o : Option Rebuild). IfSome o Published) (sym two) (subst (λ (o : Option Rebuild). IfSome (option_map update_on_places o) Published) asked.update old));
         first = λ j r n k e inside below location. where-forth j r.layer n (h.first j r n k e inside below location);
+        located = h.located;
         second = λ j some. let t = h.second j some in (t.0, has-forth t.0 (IsSecondFor Was j) (λ x. x) t.1);
         dead = h.dead;
         out = λ j out left. h.out j out (λ removed. left (removed-forth j removed));

@@ -210,6 +210,7 @@ module _ (nodes : Nodes) (s : Sight) (passes : List View) (number : ℕ) (v : Vi
           published = each-update (λ n u r. (noted : Noted) → Contains r.noted noted → IsPublishedAt nodes r noted)
               (if_some_map o _ _ (λ r e noted among planned. absurd (true≢false (sym planned ∙ e))) p.early);
           first = λ i r n k e inside below location. where-next i r.layer n (h.first i r n k e inside below location);
+          located = h.located;
           second = λ i other. absurd (other (p.unplaced i));
           dead = h.dead;
           out = λ i body left. h.out i body (λ removed. left (removed.0, has-call removed.0 (λ call. Removes call.task i) removed.1));

@@ -136,6 +136,7 @@ module _ (core : Core) (step : Step) (a : Acts core step) (asked : MayPlaceNoted
     first = λ r n k e inside below location.
         subst (λ (x : Record). IsWhere nodes Is i x.layer n) (is-b r e)
         (where-now (b core step a asked).layer n (a.laws.locations.first i (b core step a asked) n k (b-is core step a asked) (b-in core step a asked) below (sym (unnamed (LocA i) (λ e. absurd cc)) ∙ location)));
+    located = λ r e inside none. a.laws.locations.located i (b core step a asked) (b-is core step a asked) (b-in core step a asked) (sym (unnamed (LocA i) (λ e. absurd cc)) ∙ none);
     second = λ some. (step.number, own-has (λ v. HasUpdate v (IsSecondFor Is i)) second-here);
     dead = λ gone. absurd (none_here (record_at (scene_in Is) i) (λ r. Unit {0}) gone (record_body (record_at (scene_in Is) i) (λ r. Unit {0}) (b core step a asked) (record-same core step a asked i ∙ b-is core step a asked) tt));
     out = λ out left.
@@ -326,6 +327,7 @@ module _ (core : Core) (step : Step) (a : Acts core step) (asked : MayPlaceNoted
             each-step location_scope (λ k v. refl) place_noted core step a.at a.pass (λ number v. IfSome v.rebuild Published) (λ number v. IfSome v.rebuild Published) h.published (λ seat number view apart found is old. old)
             (λ old. subst (λ (x : Option Rebuild). IfSome x Published) (sym two) (subst (λ (x : Option Rebuild). IfSome (option_map update_on_places x) Published) asked.to_place.update old));
         first = λ j. (all-now j).first;
+        located = λ j. (all-now j).located;
         second = λ j. (all-now j).second;
         dead = λ j. (all-now j).dead;
         out = λ j. (all-now j).out;

@@ -223,6 +223,7 @@ module _ (core : Core) (step : Step) (a : Acts core step) (asked : MayPlacePhase
     first = λ r n k e inside low location.
         let was = sym (same (LocA i) (λ e. absurd cc)) ∙ location in
         subst (λ (x : Record). IsWhere nodes Mid i x.layer n) (is-b r e) (where-now body.0.layer n k low was (a.laws.locations.first i body.0 n k body.1 body.2 low was));
+    located = λ r e inside none. a.laws.locations.located i body.0 body.1 body.2 (sym (same (LocA i) (λ e. absurd cc)) ∙ none);
     second = λ some.
         second-forth quiet core step a nodes none m i (same (LocB i) (λ e. absurd cc)) (alike-of (record_at (scene_of core) i) (record_at (scene_in Mid) i) body.0 body.0 body.1 (record-same i ∙ body.1) refl refl)
         (a.laws.locations.second i second-some);

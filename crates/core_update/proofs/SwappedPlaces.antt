@@ -90,6 +90,7 @@ module _ (nodes : Nodes) (s : Sight) (passes : List View) where
   body-again i g h = record {
     at = λ r n k e inside location. at-again i r n k (h.at r n k e inside location);
     first = λ r n k e inside below location. where-again i g r.layer n (h.first r n k e inside below location);
+    located = h.located;
     second = λ some. g.second (h.second some);
     dead = h.dead;
     out = λ out left. h.out out (λ removed. left (g.removed removed));
@@ -187,6 +188,7 @@ module _ (kind : Kind) (leaves : View → Name → ℕ → ℕ → ℕ → View)
             each-swap location_scope (λ k v. refl) kind leaves core step a.at a.pass (λ number v. IfSome v.rebuild (λ r. (noted : Noted) → Contains r.noted noted → IsPublishedAt nodes r noted))
             (λ number v. IfSome v.rebuild (λ r. (noted : Noted) → Contains r.noted noted → IsPublishedAt nodes r noted)) h.published (λ seat number view apart found is old. old) (λ old. g.published);
         first = λ i. (body i).first;
+        located = λ i. (body i).located;
         second = λ i. (body i).second;
         dead = λ i. (body i).dead;
         out = λ i. (body i).out;

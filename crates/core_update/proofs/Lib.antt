@@ -75,3 +75,4 @@ pub mod PlanSteps
 pub mod PlacedPhases
 pub mod NextReturned
 pub mod ReturnedLinks
+pub mod ReaderLoads

@@ -2,7 +2,7 @@
 //! anything.
 ghost use Rattle.core_state.specs.Core.{Core};
 ghost use Rattle.core_state.specs.Kind.{Steps};
-ghost use Rattle.core_state.specs.Retiring.{MayLoadReturned, load_returned, MayLinkReturned, link_returned};
+ghost use Rattle.core_state.specs.Retiring.{MayLoadReader, load_reader, MayLoadReturned, load_returned, MayLinkReturned, link_returned};
 ghost use Rattle.core_state.specs.Formed.{IsFormed};
 ghost use Rattle.core_state.specs.Guards.{GuardsHold};
 ghost use Rattle.core_state.specs.Invariants.{Invariants};
@@ -18,4 +18,9 @@ pub fn returned_nodes_are_looked_at()
 pub fn returned_nodes_are_linked()
     ensures keeps { (before after : Core) → Steps MayLinkReturned link_returned before after → IsFormed before → GuardsHold before → Invariants before → Invariants after }
     ensures guarded { (before after : Core) → Steps MayLinkReturned link_returned before after → IsFormed before → Invariants before → GuardsHold before → GuardsHold after }
+{}
+
+/// Loading the word of a reader stores nothing.
+pub fn readers_are_loaded()
+    ensures { (before after : Core) → Steps MayLoadReader load_reader before after → IsFormed before → Invariants before → GuardsHold before → GuardsHold after }
 {}

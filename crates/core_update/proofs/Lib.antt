@@ -76,3 +76,4 @@ pub mod PlacedPhases
 pub mod NextReturned
 pub mod ReturnedLinks
 pub mod ReaderLoads
+pub mod Unreached

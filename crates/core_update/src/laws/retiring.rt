@@ -1,6 +1,14 @@
 //! What is proved of the steps by which an update gives back the nodes of the trees that it merged. No call here does
 //! anything.
-ghost use Rattle.core_state.specs.Core.{Core};
+ghost use Rattle.std.specs.Prelude.{◌≡◌, ◌≢◌, ℕ, true, []};
+ghost use Rattle.core_state.specs.declared.view.View.{View};
+ghost use Rattle.core_state.specs.declared.view.Rebuild.{Rebuild};
+ghost use Rattle.core_state.specs.Core.{Core, IsViewAt};
+ghost use Rattle.core_state.specs.View.{IsPass};
+ghost use Rattle.core_state.specs.Nodes.{free, spare, returning};
+ghost use Rattle.core_state.specs.ReadersCounted.{Reaches, reader_scope};
+ghost use Rattle.core_state.specs.Scope.{sight};
+ghost use Rattle.core_state.specs.Walking.{Follows, Query, position_of};
 ghost use Rattle.core_state.specs.Kind.{Steps};
 ghost use Rattle.core_state.specs.Retiring.{MayLoadReader, load_reader, MayLoadReturned, load_returned, MayLinkReturned, link_returned};
 ghost use Rattle.core_state.specs.Formed.{IsFormed};
@@ -23,4 +31,14 @@ pub fn returned_nodes_are_linked()
 /// Loading the word of a reader stores nothing.
 pub fn readers_are_loaded()
     ensures { (before after : Core) → Steps MayLoadReader load_reader before after → IsFormed before → Invariants before → GuardsHold before → GuardsHold after }
+{}
+
+/// A node that is free or spare is reached by no pass that walks.
+pub fn walks_stay_in_trees()
+    ensures { (core : Core) (h : Invariants core) (seat number : ℕ) (view : View) → IsViewAt core seat view → IsPass view number → view.walk.is_on ≡ true → (query : Query) → Follows core.config query view.walk.loads → (node : ℕ) → Reaches (sight reader_scope core).word (position_of core.config query view.walk.loads) node → (h.nodes.home node ≢ free) × (h.nodes.home node ≢ spare) }
+{}
+
+/// Where the update of a pass has nothing left to give back, no node is to be given back by that pass.
+pub fn nothing_is_left_to_return()
+    ensures { (core : Core) → IsFormed core → (h : Invariants core) (seat number : ℕ) (view : View) → IsViewAt core seat view → IsPass view number → (r : Rebuild) → view.rebuild ≡ Some r → r.returning ≡ [] → (node : ℕ) → h.nodes.home node ≢ returning number }
 {}

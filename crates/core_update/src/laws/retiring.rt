@@ -5,7 +5,8 @@ ghost use Rattle.core_state.specs.declared.view.View.{View};
 ghost use Rattle.core_state.specs.declared.view.Rebuild.{Rebuild};
 ghost use Rattle.core_state.specs.Core.{Core, IsViewAt};
 ghost use Rattle.core_state.specs.View.{IsPass};
-ghost use Rattle.core_state.specs.Nodes.{free, spare, returning};
+ghost use Rattle.core_state.specs.Nodes.{free, spare, returning, IsOwnedBy};
+ghost use Rattle.core_state.specs.Noting.{StoresNew};
 ghost use Rattle.core_state.specs.ReadersCounted.{Reaches, reader_scope};
 ghost use Rattle.core_state.specs.Scope.{sight};
 ghost use Rattle.core_state.specs.Walking.{Follows, Query, position_of};
@@ -41,4 +42,9 @@ pub fn walks_stay_in_trees()
 /// Where the update of a pass has nothing left to give back, no node is to be given back by that pass.
 pub fn nothing_is_left_to_return()
     ensures { (core : Core) → IsFormed core → (h : Invariants core) (seat number : ℕ) (view : View) → IsViewAt core seat view → IsPass view number → (r : Rebuild) → view.rebuild ≡ Some r → r.returning ≡ [] → (node : ℕ) → h.nodes.home node ≢ returning number }
+{}
+
+/// A node in which an update stores words of new trees is its own.
+pub fn new_nodes_are_owned()
+    ensures { (core : Core) (h : Invariants core) (seat number : ℕ) (view : View) → IsViewAt core seat view → IsPass view number → (r : Rebuild) (node : ℕ) → StoresNew view r node → IsOwnedBy number (h.nodes.home node) }
 {}

@@ -1,8 +1,8 @@
 -- What a pass is to give back next: a node that is in its hands, and in no list of the pool. Loading a child of it changes
 -- nothing.
-use Rattle.std.proofs.Common.{◌≡◌, ◌∙◌, List, Option, Some, ap, false, refl, subst, sym, ℕ}
+use Rattle.std.proofs.Common.{◌≡◌, List, refl, subst, sym, ℕ}
 use Rattle.std.proofs.lemmas.Bool.{false≢true}
-use Rattle.std.specs.Prelude.{Contains, ◌∷◌}
+use Rattle.std.specs.Prelude.{Contains}
 use Rattle.core_state.specs.Core.{Core}
 use Rattle.core_state.specs.Kind.{Step}
 use Rattle.core_state.specs.Nodes.{returning}

@@ -1,15 +1,15 @@
 -- Loading the word of a reader, while some pass may still walk in what the update took out of sight: the update notes what it
 -- found. A pass of which it found an even value does not walk.
-use Rattle.std.proofs.Common.{Bool, IfSome, Option, Some, [], ap, arith, false, inl, inr, option_map, refl, subst, sym, true, ℕ, ◌%◌, ◌∙◌, ◌≡◌}
+use Rattle.std.proofs.Common.{Bool, Option, Some, [], ap, arith, false, inl, inr, option_map, refl, subst, sym, true, ℕ, ◌%◌, ◌∙◌, ◌≡◌}
 use Rattle.std.proofs.lemmas.Bool.{false≢true}
 use Rattle.std.proofs.lemmas.List.Elements.{Contains-append_cases}
-use Rattle.std.specs.Prelude.{Contains, List, ◌++◌, ◌∷◌}
+use Rattle.std.specs.Prelude.{List, ◌++◌, ◌∷◌}
 use Rattle.word_map.specs.declared.name.Name.TheVariants.{Reader}
 use Rattle.core_state.specs.BodiesAgree.{BodiesAgreeIn, body_scope}
 use Rattle.core_state.specs.BodiesCovered.{BodiesCoveredIn, cover_scope}
 use Rattle.core_state.specs.Core.{Core, word_of}
 use Rattle.core_state.specs.Invariants.{Invariants}
-use Rattle.core_state.specs.Kind.{Kind, Step, after_step, found_by, learned}
+use Rattle.core_state.specs.Kind.{Step, after_step, found_by, learned}
 use Rattle.core_state.specs.LocationsHold.{LocationsHoldIn, location_scope}
 use Rattle.core_state.specs.LocksAgree.{LocksAgreeIn, lock_scope}
 use Rattle.core_state.specs.Nodes.{Nodes}

@@ -1,5 +1,5 @@
 -- Storing the link of a node that is to be given back keeps all laws: the node is in no list yet.
-use Rattle.std.proofs.Common.{Some, ap, false, length, refl, subst, sym, ℕ, ◌+◌, ◌∙◌, ◌≡◌, ◌≢◌, inl}
+use Rattle.std.proofs.Common.{ap, length, refl, subst, sym, ℕ, ◌+◌, ◌∙◌, ◌≡◌, ◌≢◌, inl}
 use Rattle.std.specs.Prelude.{Contains}
 use Rattle.word_map.specs.declared.config.Config.{Config}
 use Rattle.word_map.specs.declared.name.Name.{Name}

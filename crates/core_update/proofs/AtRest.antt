@@ -22,6 +22,7 @@ use Rattle.core_state.specs.declared.view.Waiting.{Waiting}
 use Rattle.core_state.proofs.Lookups.{at_one}
 use Rattle.core_state.proofs.Opening.{none_in}
 use Rattle.core_guard.proofs.Holders.{EachOther}
+use Rattle.core_guard.proofs.Leaving.{if_some_map}
 use Rattle.core_guard.proofs.Seats.{has-seat}
 
 -- an update of which it is so
@@ -41,6 +42,38 @@ child-depth nodes s m k n (nothing none) e = absurd (omega arith)
 child-depth nodes s m k n (a_body i low body) e = absurd (omega arith)
 child-depth nodes s m k n (a_node x node home parent depth) e = let same : x ≡ n = omega arith in subst (λ (y : ℕ). nodes.depth y ≡ suc (nodes.depth m)) same depth
 
+-- an update has nothing left to give back
+abbrev pub IsLeftEmpty : Rebuild → Type 0
+IsLeftEmpty r = r.returning ≡ []
+
+-- then no node is to be given back by its pass: each stands below another
+module _ (core : Core) (h : Invariants core) (number : ℕ) (empty : (seat : ℕ) (view : View) → IsViewAt core seat view → IsPass view number → IfSome view.rebuild IsLeftEmpty) where
+  abbrev Trees : Sight
+  Trees = sight tree_scope core
+
+  left-of : (n : ℕ) (o : Option Rebuild) → IfSome o IsLeftEmpty → IsSomeAnd (option_map update_on_trees o) (λ r. IsLeftNode h.nodes Trees number r n) → (r : Rebuild) × IsLeftNode h.nodes Trees number r n × (r.returning ≡ [])
+  left-of n None none left = absurd left
+  left-of n (Some r) none left = (update_on_trees r, left, none)
+
+  left_node : (n : ℕ) → h.nodes.home n ≡ returning number → (r : Rebuild) × IsLeftNode h.nodes Trees number r n × (r.returning ≡ [])
+  left_node n home =
+      let from = has-seat tree_scope (λ k v. refl) core number (λ v. HasUpdate v (λ r. IsLeftNode h.nodes Trees number r n)) (h.trees.left_nodes n number home) in
+      left-of n from.view.rebuild (empty from.seat from.view from.at from.pass) from.holds
+
+  above_left : (n : ℕ) → h.nodes.home n ≡ returning number → (m : ℕ) × (h.nodes.home m ≡ returning number) × (h.nodes.depth n ≡ suc (h.nodes.depth m))
+  above_left n home = let t = left_node n home in go t.0 t.1.left t.2
+    where
+      go : (r : Rebuild) → IsLeft h.nodes Trees number r n → r.returning ≡ [] → (m : ℕ) × (h.nodes.home m ≡ returning number) × (h.nodes.depth n ≡ suc (h.nodes.depth m))
+      go r (as_top level among) none = absurd (none_in _ (subst (λ (l : List Waiting). Contains l (record { node = n; level = level })) none among))
+      go r (below m k low parent child at) none = (m, at, child-depth h.nodes Trees m k n ((left_node m at).1.children k low) child)
+
+  none_as_deep : (d n : ℕ) → h.nodes.depth n ≡ d → h.nodes.home n ≢ returning number
+  none_as_deep zero n deep home = let t = above_left n home in let more = t.2 in absurd (omega arith)
+  none_as_deep (suc d) n deep home = let t = above_left n home in let more = t.2 in none_as_deep d t.0 (omega arith) t.1
+
+  pub nothing-left : (n : ℕ) → h.nodes.home n ≢ returning number
+  nothing-left n = none_as_deep (h.nodes.depth n) n refl
+
 module _ (core : Core) (h : Invariants core) (quiet : (seat number : ℕ) (view : View) → IsViewAt core seat view → IsPass view number → IfSome view.rebuild (IsQuietUpdate core.config)) where
   pub no-second : (i : ℕ) → word_of core (LocB i) ≡ 0
   no-second i =
@@ -58,33 +91,8 @@ module _ (core : Core) (h : Invariants core) (quiet : (seat number : ℕ) (view 
       let from = has-seat node_scope (λ k v. refl) core number (λ v. HasUpdate v (λ r. IsMadeIn core.config r l n)) ((h.places.made_by n number l).0 e) in
       seen-fact update_on_nodes from.view.rebuild (λ r. IsMadeIn core.config r l n) _ (λ r q t. let all = q.published t.0 in let few = t.1 in let low = t.2 in omega arith) (quiet from.seat number from.view from.at from.pass) from.holds
 
-  -- each node that is to be given back stands below another
-  module _ (number : ℕ) where
-    abbrev Trees : Sight
-    Trees = sight tree_scope core
-
-    left-of : (n : ℕ) (o : Option Rebuild) → IfSome o (IsQuietUpdate core.config) → IsSomeAnd (option_map update_on_trees o) (λ r. IsLeftNode h.nodes Trees number r n) → (r : Rebuild) × IsLeftNode h.nodes Trees number r n × (r.returning ≡ [])
-    left-of n None q left = absurd left
-    left-of n (Some r) q left = (update_on_trees r, left, q.returned)
-
-    left_node : (n : ℕ) → h.nodes.home n ≡ returning number → (r : Rebuild) × IsLeftNode h.nodes Trees number r n × (r.returning ≡ [])
-    left_node n home =
-        let from = has-seat tree_scope (λ k v. refl) core number (λ v. HasUpdate v (λ r. IsLeftNode h.nodes Trees number r n)) (h.trees.left_nodes n number home) in
-        left-of n from.view.rebuild (quiet from.seat number from.view from.at from.pass) from.holds
-
-    above_left : (n : ℕ) → h.nodes.home n ≡ returning number → (m : ℕ) × (h.nodes.home m ≡ returning number) × (h.nodes.depth n ≡ suc (h.nodes.depth m))
-    above_left n home = let t = left_node n home in go t.0 t.1.left t.2
-      where
-        go : (r : Rebuild) → IsLeft h.nodes Trees number r n → r.returning ≡ [] → (m : ℕ) × (h.nodes.home m ≡ returning number) × (h.nodes.depth n ≡ suc (h.nodes.depth m))
-        go r (as_top level among) none = absurd (none_in _ (subst (λ (l : List Waiting). Contains l (record { node = n; level = level })) none among))
-        go r (below m k low parent child at) none = (m, at, child-depth h.nodes Trees m k n ((left_node m at).1.children k low) child)
-
-    none_as_deep : (d n : ℕ) → h.nodes.depth n ≡ d → h.nodes.home n ≢ returning number
-    none_as_deep zero n deep home = let t = above_left n home in let more = t.2 in absurd (omega arith)
-    none_as_deep (suc d) n deep home = let t = above_left n home in let more = t.2 in none_as_deep d t.0 (omega arith) t.1
-
   pub none-returning : (n number : ℕ) → h.nodes.home n ≢ returning number
-  none-returning n number = none_as_deep number (h.nodes.depth n) n refl
+  none-returning n number = nothing-left core h number (λ seat view at pass. if_some_map view.rebuild (IsQuietUpdate core.config) IsLeftEmpty (λ r q. q.returned) (quiet seat number view at pass)) n
 
 -- where one pass alone has an update
 pub quiet-alone : (core : Core) (step : Step) → IsViewAt core step.seat step.view → EachOther core step (λ number view. view.rebuild ≡ None) → IfSome step.view.rebuild (IsQuietUpdate core.config)

@@ -73,3 +73,7 @@ pub mod PlanStands
 pub mod ComeToStand
 pub mod PlanSteps
 pub mod PlacedPhases
+pub mod NextReturned
+pub mod ReturnedLinks
+pub mod ReaderLoads
+pub mod Unreached

@@ -1,6 +1,5 @@
 -- The first steps of an update and the last ones leave the locks of their pass as they were, and its walk.
-use Rattle.std.proofs.Common.{ℕ, Bool, true, false, Some, cond, eqb, refl}
-use Rattle.core_state.specs.declared.view.View.{View}
+use Rattle.std.proofs.Common.{Bool, true, false, Some, cond, eqb, refl}
 use Rattle.core_state.specs.Noting.{new_update, begin_update, load_arena, note_slot, look_at_body}
 use Rattle.core_state.specs.Retiring.{switch_arena, end_update}
 use Rattle.core_guard.proofs.LockSteps.{HasSameLocks, LeavesLocks}

@@ -11,7 +11,7 @@ use Rattle.core_state.specs.BodiesCovered.{BodiesCoveredIn, NotesHold, KeepsMerg
 use Rattle.core_state.specs.Encoding.{place, bound_in, phase_join}
 use Rattle.core_state.specs.LocationsHold.{LocationsHoldIn, IsAt, Removes, IsTakenOut, IsWhere, in_slot, in_main, in_old, in_merged, IsPlannedAt, IsPublishedAt, ClimbsFrom, IsUnheld}
 use Rattle.core_state.specs.Nodes.{Nodes, Home, made, under, superseded, returning}
-use Rattle.core_state.specs.ReadersCounted.{ReadersCountedIn, layer_at_hand, ReadsInSpace, HasSeenOff, AvoidsSuperseded, ClimbsInTrees, IsTight}
+use Rattle.core_state.specs.ReadersCounted.{ReadersCountedIn, layer_at_hand, ReadsInSpace, HasSeenOff, AvoidsSuperseded, ClimbsInTrees, IsSideOf, IsTight}
 use Rattle.core_state.specs.Scope.{Sight, scene_in, IsOnce, HasPass, EachPass}
 use Rattle.core_state.specs.Space.{IsInLayer, IsTarget}
 use Rattle.core_state.specs.TreesSound.{TreesSoundIn, IsRootOf, IsSupersededRoot, of_main, of_slot, IsChild, nothing, a_body, a_node, IsPlaced, as_root, at_place, AreTops, RootsMade, RootsSuperseded}
@@ -30,7 +30,7 @@ use Rattle.core_state.specs.declared.view.Waiting.{Waiting}
 use Rattle.core_state.proofs.Opening.{none_in}
 use Rattle.core_guard.proofs.Leaving.{if_some_map}
 use Rattle.core_guard.proofs.PlacesStay.{acting, PassIsPlaced, EachPlaced, pass-placed, taken-out}
-use Rattle.core_guard.proofs.ReadersLeft.{hull-by, WalkIn, SpaceIn}
+use Rattle.core_guard.proofs.ReadersLeft.{hull-by, WalkIn, SpaceIn, TightSide}
 
 -- ---- what a law says that reads no pass
 
@@ -277,8 +277,21 @@ module _ (nodes : Nodes) (s : Sight) (passes : List View) (number : ℕ) (v : Vi
   odd-back : (n : ℕ) → EachPass s (λ m u. m ≡ n → u.walk.is_on ≢ true) → EachPass Now (λ m u. m ≡ n → u.walk.is_on ≢ true)
   odd-back n none = c.each _ _ none (λ m u other h. h) (λ h. h)
 
-  pub ReadersCounted-next : IfSome o (λ r. (r.is_planned ≡ false) × (r.readers ≡ [])) → ReadersCountedIn nodes s → ReadersCountedIn nodes Now
-  ReadersCounted-next early h = record {
+  -- the bound of a new tree lies in the hull that it lay in
+  pub tight-next : (r : Rebuild) → IsTight nodes s number r → IsTight nodes Now number r
+  tight-next r h n k l home below full =
+      hull-by (TightSide s r n k) (TightSide Now r n k) (bound_in s.word n k) (bound_in s.word n k) (λ q side t. (t.0, t.1, t.2, again t.0 q side t.3)) (λ q. inl refl) (h n k l home below full)
+    where
+      again : (m : Noted) (q side : ℕ) → IsSideOf s r m q side → IsSideOf Now r m q side
+      again m q side (inl had) = inl had
+      again m q side (inr t) = inr (t.0, (t.1.0, has-call t.1.0 (λ call. IsTarget call.task m.index q side) t.1.1))
+
+  -- what is to be said of the bounds of new trees, and of the readers that the update loaded
+  abbrev pub ReadersGoOn : Rebuild → Type 0
+  ReadersGoOn r = (r.is_planned ≡ true → IsTight nodes Now number r) × EachPass Now (λ q other. HasSeenOff Now r q → AvoidsSuperseded nodes Now number other.walk)
+
+  pub ReadersCounted-goes : IfSome o ReadersGoOn → ReadersCountedIn nodes s → ReadersCountedIn nodes Now
+  ReadersCounted-goes own h = record {
     odd = λ n. (
       λ e. c.has n (λ u. u.walk.is_on ≡ true) (λ u. u.walk.is_on ≡ true) ((h.odd n).0 e) (λ u other among pass on. on) (λ same on. on),
       λ has.
@@ -293,11 +306,20 @@ module _ (nodes : Nodes) (s : Sight) (passes : List View) (number : ℕ) (v : Vi
     stays = c.each (λ n u. WalkIn nodes s u.walk) (λ n u. WalkIn nodes Now u.walk) h.stays (λ n u other stays. stays) (λ stays. stays);
     in_space = c.each (λ n u. SpaceIn s u.walk) (λ n u. SpaceIn Now u.walk) h.in_space
         (λ n u other was on query follows. space-next u.walk.loads _ (was on query follows)) (λ was on query follows. space-next v.walk.loads _ (was on query follows));
-    seen_off = each-update (λ n u r. EachPass Now (λ q other. HasSeenOff Now r q → AvoidsSuperseded nodes Now n other.walk))
-        (if_some_map o _ _ (λ r e q other among pass seen. absurd (none_in _ (subst (λ (l : List Load). Contains l (record { name = Reader q; value = seen.0 })) e.1 seen.1))) early);
+    seen_off = each-update (λ n u r. EachPass Now (λ q other. HasSeenOff Now r q → AvoidsSuperseded nodes Now n other.walk)) (if_some_map o _ _ (λ r own. own.1) own);
     climbs = c.each (λ n u. ClimbsInTrees nodes s u.call.task) (λ n u. ClimbsInTrees nodes Now u.call.task) h.climbs
         (λ n u other was. in_trees-next s passes nodes u.call.task was) (λ was. in_trees-next s passes nodes v.call.task was);
     space = λ n k l live layer below full.
         hull-by (IsInLayer s l) (IsInLayer Now l) (bound_in s.word n k) (bound_in s.word n k) (coming-next l) (λ q. inl refl) (h.space n k l live layer below full);
-    tight = each-update (λ n u r. r.is_planned ≡ true → IsTight nodes Now n r) (if_some_map o _ _ (λ r e planned. absurd (true≢false (sym planned ∙ e.0))) early);
+    tight = each-update (λ n u r. r.is_planned ≡ true → IsTight nodes Now n r) (if_some_map o _ _ (λ r own. own.0) own);
   }
+
+  -- of an update that has planned no tree, and loaded no reader, there is nothing to say
+  pub ReadersCounted-next : IfSome o (λ r. (r.is_planned ≡ false) × (r.readers ≡ [])) → ReadersCountedIn nodes s → ReadersCountedIn nodes Now
+  ReadersCounted-next early =
+      ReadersCounted-goes
+      (if_some_map o _ _
+      (λ r e. (
+        λ planned. absurd (true≢false (sym planned ∙ e.0)),
+        λ q other among pass seen. absurd (none_in _ (subst (λ (l : List Load). Contains l (record { name = Reader q; value = seen.0 })) e.1 seen.1)),
+      )) early)

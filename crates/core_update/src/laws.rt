@@ -4,3 +4,4 @@ pub mod new_trees;
 pub mod noting;
 pub mod placing;
 pub mod promotions;
+pub mod retiring;

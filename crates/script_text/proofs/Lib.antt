@@ -10,6 +10,7 @@ pub mod Counts
 pub mod Cuts
 pub mod FirstWord
 pub mod Drafts
+pub mod NewNames
 pub mod Parsing
 pub mod Reprinting
 pub mod Unique

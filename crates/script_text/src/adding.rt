@@ -102,7 +102,7 @@ impl Draft {
     }
 
     /// Adds a line below the world line.
-    #[tactic(auto, using(crate::proofs::Drafts::after_words, crate::proofs::Drafts::one_more, crate::proofs::Drafts::fit_more))]
+    #[tactic(auto, using(crate::proofs::NewNames::created_is_new, crate::proofs::Drafts::after_words, crate::proofs::Drafts::one_more, crate::proofs::Drafts::fit_more))]
     fn continue_with(
         &mut self,
         alloc: Global,
@@ -115,7 +115,7 @@ impl Draft {
     {
         let command = read_fields(alloc, &world, &self.names, keyword, args)?;
         if let Command::Create { name, .. } = &command {
-            self.names.push(alloc, name.items())?;
+            self.names.push_new(alloc, name.items())?;
         }
         self.lines.push(command)?;
         Ok(())

@@ -1,4 +1,4 @@
-ghost use Rattle.std.specs.Prelude.{◌≡◌, not, [], IfOk, OnOk, OnErr};
+ghost use Rattle.std.specs.Prelude.{◌≡◌, not, false, [], IfOk, OnOk, OnErr};
 ghost use Rattle.script_text.specs.Name.{is_among, add_name};
 ghost use Rattle.script_text.specs.Place.{place_of};
 
@@ -52,9 +52,21 @@ impl Names {
         self.place(word).is_some()
     }
 
+    /// Adds a name at the end that is not among them. After an error the names are as before.
+    #[tactic(auto, using(crate::proofs::Places::index_same, crate::proofs::Places::names_same))]
+    pub fn push_new(&mut self, alloc: Global, word: &[u8]) -> Result<(), AllocError>
+        requires { is_among self.old word.now ≡ false }
+        ensures ok { OnOk result (self.new ≡ add_name self.old word.now) }
+        ensures err { OnErr result (self.new ≡ self.old) }
+    {
+        let place = self.places.len();
+        let name = Vec::from_slice(alloc, word)?;
+        self.places.insert(name, place)?;
+        Ok(())
+    }
+
     /// Adds a name at the end, where it is not among them, and answers whether it was added. After an error the names
     /// are as before.
-    #[tactic(auto, using(crate::proofs::Places::index_same, crate::proofs::Places::names_same))]
     pub fn push(&mut self, alloc: Global, word: &[u8]) -> Result<bool, AllocError>
         ensures ok { OnOk result (self.new ≡ add_name self.old word.now) }
         ensures added { IfOk result (λ added. added ≡ not (is_among self.old word.now)) }
@@ -63,9 +75,7 @@ impl Names {
         if self.contains(word) {
             return Ok(false);
         }
-        let place = self.places.len();
-        let name = Vec::from_slice(alloc, word)?;
-        self.places.insert(name, place)?;
+        self.push_new(alloc, word)?;
         Ok(true)
     }
 }

@@ -2,7 +2,7 @@ use Rattle.std.proofs.Common.{◌≡◌, false, length, List, ℕ, ap, ◌∙◌
 use Rattle.script_text.specs.Name.{is_among, add_name}
 use Rattle.script_text.specs.Place.{names_of}
 use Rattle.script_text.proofs.Places.{index_more, names_more}
-use Rattle.script_text.proofs.names.Names.push.Goals as goal
+use Rattle.script_text.proofs.names.Names.push_new.Goals as goal
 
 pub invariant_of-self-2 : goal.invariant_of-self-2
 invariant_of-self-2 c =

@@ -13,7 +13,7 @@ use Rattle.core_state.specs.declared.view.Task.TheVariants.{Nothing, Pooling}
 use Rattle.core_state.specs.declared.view.View.{View}
 use Rattle.core_state.specs.View.{Holds}
 use Rattle.core_state.specs.Core.{Core, word_of}
-use Rattle.core_state.specs.Kind.{Step, view_after, after_step}
+use Rattle.core_state.specs.Kind.{Kind, Step, view_after, after_step}
 use Rattle.core_state.specs.Nodes.{Nodes, free, owned, IsInTree, IsOwnedBy, nodes_in, nodes_of}
 use Rattle.core_state.specs.Parts.{task_on_pool}
 use Rattle.core_state.specs.Batches.{batch_nodes_of}
@@ -45,6 +45,67 @@ given_pools : (task : Task) → IsPoolTask task → IsPooling (task_on_pool (one
 given_pools Nothing h = tt
 given_pools (Pooling taken given) h = tt
 given_pools _ h = absurd h
+
+-- ---- a node that was in another place, and is then the first one of the pool
+
+module _ (kind : Kind) (core : Core) (step : Step) (a : Acts core step) (x : ℕ) where
+  abbrev Given : Nodes
+  Given = rehome a.laws.nodes x free
+
+  abbrev Before : Sight
+  Before = sight node_scope core
+
+  abbrev Since : Sight
+  Since = sight node_scope (after_step kind core step)
+
+  -- the step stores the head, under the lock of the pool
+  pub record GivesToPool : Type 0 where
+    pub names : step.name ≡ PoolHead
+    pub lock : Holds step.view (pool_lock core.config) Write
+    pub idle : IsPoolTask step.view.call.task
+    pub task : (view_after kind core step).call.task ≡ one_given step.view.call.task
+    pub locks : (view_after kind core step).locks ≡ step.view.locks
+    pub stored : word_of (after_step kind core step) PoolHead ≡ suc x
+    pub link : word_of core (PoolNext x) ≡ word_of core PoolHead
+    pub elsewhere : a.laws.nodes.home x ≢ free
+    pub batch_node : x < core.config.nodes
+
+  pub pool-given : GivesToPool → PoolPart Given Since
+  pool-given g =
+      let h = a.laws.places in
+      let nodes = a.laws.nodes in
+      let chain = h.chain in
+      let links : (n : ℕ) → Since.word (PoolNext n) ≡ Before.word (PoolNext n) = λ n. word-step-other kind core step (PoolNext n) (λ same. let e = same ∙ g.names in absurd cc) in
+      let count : Since.word PoolFree ≡ Before.word PoolFree = word-step-other kind core step PoolFree (λ same. let e = same ∙ g.names in absurd cc) in
+      let not_x : (n : ℕ) → Contains chain n → n ≢ x = λ n c same. g.elsewhere (sym (ap nodes.home same) ∙ (h.free_nodes n).0 c) in
+      pool-part kind core step a g.lock Given (x ∷ chain)
+      (rw (g.stored) (chain-front (λ n. Since.word (PoolNext n)) (Before.word PoolHead) x chain (links x ∙ g.link)
+      (chain-kept (λ n. Before.word (PoolNext n)) (λ n. Since.word (PoolNext n)) (Before.word PoolHead) chain (λ n c. links n) h.linked)))
+      (pairs-cons (λ a b. a ≢ b) x chain (λ n c same. not_x n c (sym same)) h.once)
+      (λ n. (
+        λ c.
+            elim (cases_cons x chain n c) [
+              | inl same ↦ subst (λ (k : ℕ). Given.home k ≡ free) same (rehome-at nodes x free)
+              | inr rest ↦ rehome-other nodes x free n (not_x n rest) ∙ (h.free_nodes n).0 rest
+            ],
+        λ e.
+            elim (cases_eq n x) [
+              | inl same ↦ subst (λ (k : ℕ). Contains (x ∷ chain) k) (sym same) (contains_first x chain)
+              | inr else ↦ contains_later x chain n ((h.free_nodes n).1 (sym (rehome-other nodes x free n else) ∙ e))
+            ],
+      ))
+      (λ n e.
+      elim (cases_eq n x) [
+        | inl same ↦ subst (λ (k : ℕ). k < core.config.nodes) (sym same) g.batch_node
+        | inr else ↦ h.batch_nodes n (sym (rehome-other nodes x free n else) ∙ e)
+      ])
+      (λ quiet. absurd (quiet (subst (λ (k : Task). IsPooling (task_on_pool k)) (sym g.task) (given_pools step.view.call.task g.idle))))
+      (subst (λ (k : Task). PoolsUnder Since (seen_of node_scope step.number (view_after kind core step)) (task_on_pool k) (suc (length chain))) (sym g.task)
+      (given-under Before Since (seen_of node_scope step.number step.view) (seen_of node_scope step.number (view_after kind core step)) step.view.call.task (length chain) g.idle
+      (subst (λ l. Holds (record (view_after kind core step) { locks = l }) (pool_lock core.config) Write) (sym g.locks) g.lock) count
+      (pool-own kind core step a g.lock) (λ quiet. pool-idle kind core step a g.lock quiet)))
+
+-- ---- a node of a batch is given back
 
 module _ (core : Core) (step : Step) (a : Acts core step) (asked : MayStorePoolHead step.view step.name step.first step.second) (x : ℕ) (g : IsGiving core step x) where
   abbrev nodes : Nodes
@@ -195,42 +256,18 @@ module _ (core : Core) (step : Step) (a : Acts core step) (asked : MayStorePoolH
 
   pool : PoolPart later New
   pool =
-      let h = a.laws.places in
-      let world = world-pool core step a asked.pool.lock in
-      let chain = h.chain in
-      let stored : New.word PoolHead ≡ step.first = ap (λ (n : Name). word_of After n) (sym asked.names) ∙ word-step store_pool_head core step in
-      let links : (n : ℕ) → New.word (PoolNext n) ≡ Old.word (PoolNext n) = λ n. word-step-other store_pool_head core step (PoolNext n) (λ same. let e = same ∙ asked.names in absurd cc) in
-      let count : New.word PoolFree ≡ Old.word PoolFree = word-step-other store_pool_head core step PoolFree (λ same. let e = same ∙ asked.names in absurd cc) in
-      let not_x : (n : ℕ) → Contains chain n → n ≢ x = λ n c same. free_owned p (sym ((h.free_nodes n).0 c) ∙ (ap nodes.home same ∙ given-home)) in
-      let task : Last.call.task ≡ one_given step.view.call.task = ap (λ (v : View). v.call.task) g.left in
-      pool-part store_pool_head core step a world later (x ∷ chain)
-      (rw (stored ∙ g.value) (chain-front (λ n. New.word (PoolNext n)) (Old.word PoolHead) x chain (links x ∙ g.link)
-      (chain-kept (λ n. Old.word (PoolNext n)) (λ n. New.word (PoolNext n)) (Old.word PoolHead) chain (λ n c. links n) h.linked)))
-      (pairs-cons (λ a b. a ≢ b) x chain (λ n c same. not_x n c (sym same)) h.once)
-      (λ n. (
-        λ c.
-            elim (cases_cons x chain n c) [
-              | inl same ↦ subst (λ (k : ℕ). later.home k ≡ free) same (rehome-at nodes x free)
-              | inr rest ↦ rehome-other nodes x free n (not_x n rest) ∙ (h.free_nodes n).0 rest
-            ],
-        λ e.
-            elim (cases_eq n x) [
-              | inl same ↦ subst (λ (k : ℕ). Contains (x ∷ chain) k) (sym same) (contains_first x chain)
-              | inr else ↦ contains_later x chain n ((h.free_nodes n).1 (sym (rehome-other nodes x free n else) ∙ e))
-            ],
-      ))
-      (λ n e.
-      elim (cases_eq n x) [
-        | inl same ↦
-            subst (λ (k : ℕ). k < core.config.nodes) (sym same)
-            (batch-below core nodes h step.seat p step.view a.at a.pass x (Contains-append_right front step.view.loose x g.loose))
-        | inr else ↦ h.batch_nodes n (sym (rehome-other nodes x free n else) ∙ e)
-      ])
-      (λ quiet. absurd (quiet (subst (λ (k : Task). IsPooling (task_on_pool k)) (sym task) (given_pools step.view.call.task asked.pool.idle))))
-      (subst (λ (k : Task). PoolsUnder New (seen_of node_scope p Last) (task_on_pool k) (suc (length chain))) (sym task)
-      (given-under Old New (seen_of node_scope p step.view) (seen_of node_scope p Last) step.view.call.task (length chain) asked.pool.idle
-      (subst (λ l. Holds (record Last { locks = l }) (pool_lock core.config) Write) (sym (ap (λ (v : View). v.locks) g.left)) world) count
-      (pool-own store_pool_head core step a world) (λ quiet. pool-idle store_pool_head core step a world quiet)))
+      pool-given store_pool_head core step a x
+      (record {
+        names = asked.names;
+        lock = world-pool core step a asked.pool.lock;
+        idle = asked.pool.idle;
+        task = ap (λ (v : View). v.call.task) g.left;
+        locks = ap (λ (v : View). v.locks) g.left;
+        stored = ap (λ (n : Name). word_of After n) (sym asked.names) ∙ (word-step store_pool_head core step ∙ g.value);
+        link = g.link;
+        elsewhere = λ e. free_owned p (sym e ∙ given-home);
+        batch_node = batch-below core nodes a.laws.places step.seat p step.view a.at a.pass x (Contains-append_right front step.view.loose x g.loose);
+      })
 
   -- ---- all of it
 

@@ -56,7 +56,7 @@ module _ (kind : Kind) (core : Core) (step : Step) (a : Acts core step) (of_pool
   apart name none same = none (subst IsPoolWord (sym same) of_pool)
 
   -- slots are held as before
-  BodiesAgree-pool : ((value : ℕ) → kind.entry step.view step.name value ≡ None) → IsPoolCall step.view Last
+  pub BodiesAgree-pool : ((value : ℕ) → kind.entry step.view step.name value ≡ None) → IsPoolCall step.view Last
       → (batches : ChangesBatches (all_batches (sight body_scope core)) step.view.batches Last.batches) → ((l t : ℕ) → HoldsSlot l t step.view ↔ HoldsSlot l t Last) → BodiesAgree (after_step kind core step)
   BodiesAgree-pool entry call batches holds =
       let leaves : IsAside kind core step = record { word = pool_aside step.name of_pool; entry = entry; call = call } in

@@ -1,5 +1,5 @@
 -- The nodes are in one place after a link of the pool, or its count, is stored.
-use Rattle.std.proofs.Common.{◌≡◌, ℕ, ◌+◌, length, Some, Contains, refl, ap, sym, ◌∙◌, subst, arith}
+use Rattle.std.proofs.Common.{◌≡◌, ◌≢◌, ℕ, ◌+◌, length, Some, Contains, refl, ap, sym, ◌∙◌, subst, arith}
 use Rattle.std.specs.Prelude.{⊤, flat_map}
 use Rattle.std.proofs.lemmas.List.Elements.{Contains-append_right}
 use Rattle.word_map.specs.declared.config.Config.{Config}
@@ -13,7 +13,7 @@ use Rattle.core_state.specs.declared.view.View.{View}
 use Rattle.core_state.specs.View.{Holds, known_word}
 use Rattle.core_state.specs.Core.{Core, word_of}
 use Rattle.core_state.specs.Kind.{Step, after_step}
-use Rattle.core_state.specs.Nodes.{owned}
+use Rattle.core_state.specs.Nodes.{free, owned}
 use Rattle.core_state.specs.Parts.{task_on_pool}
 use Rattle.core_state.specs.Guards.{by_lock, guard_of}
 use Rattle.core_state.specs.NodesInOnePlace.{NodesInOnePlace, node_scope, IsPooling, PoolsUnder}
@@ -102,21 +102,20 @@ pools-same : (s t : Sight) (view : View) (task : Task) (many : ℕ) → t.config
 pools-same s t view (Pooling taken given) many config same h = (subst (λ (c : Config). Holds view (pool_lock c) Write) (sym config) h.0, ap (λ (k : ℕ). k + given) same ∙ h.1)
 pools-same s t view _ many config same h = tt
 
-pub NodesInOnePlace-store_pool_link : (core : Core) (step : Step) (a : Acts core step) → MayStorePoolLink step.view step.name step.first step.second → NodesInOnePlace a.laws.nodes (after_step store_pool_link core step)
-NodesInOnePlace-store_pool_link core step a asked =
+-- the node whose link is stored is in no list of the pool
+pub NodesInOnePlace-linked : (core : Core) (step : Step) (a : Acts core step) (node : ℕ) → step.name ≡ PoolNext node → Holds step.view (pool_lock core.config) Write → a.laws.nodes.home node ≢ free
+    → NodesInOnePlace a.laws.nodes (after_step store_pool_link core step)
+NodesInOnePlace-linked core step a node names lock elsewhere =
     let h = a.laws.places in
-    let lock = world-pool core step a asked.pool.lock in
     let old = sight node_scope core in
     let new = sight node_scope (after_step store_pool_link core step) in
-    let among = Contains-append_right (flat_map (λ b. b.nodes) step.view.batches) step.view.loose asked.node asked.owns in
-    let home : a.laws.nodes.home asked.node ≡ owned step.number = batch-home core a.laws.nodes h step.seat step.number step.view a.at a.pass asked.node among in
-    let head : new.word PoolHead ≡ old.word PoolHead = word-step-other store_pool_link core step PoolHead (λ same. let e = same ∙ asked.names in absurd cc) in
-    let count : new.word PoolFree ≡ old.word PoolFree = word-step-other store_pool_link core step PoolFree (λ same. let e = same ∙ asked.names in absurd cc) in
+    let head : new.word PoolHead ≡ old.word PoolHead = word-step-other store_pool_link core step PoolHead (λ same. let e = same ∙ names in absurd cc) in
+    let count : new.word PoolFree ≡ old.word PoolFree = word-step-other store_pool_link core step PoolFree (λ same. let e = same ∙ names in absurd cc) in
     let next : (n : ℕ) → Contains h.chain n → new.word (PoolNext n) ≡ old.word (PoolNext n) = λ n c.
     word-step-other store_pool_link core step (PoolNext n)
     (λ same.
-    let one : n ≡ asked.node = ap linked_node (same ∙ asked.names) in
-    free_owned step.number (sym ((h.free_nodes n).0 c) ∙ (ap a.laws.nodes.home one ∙ home)))
+    let one : n ≡ node = ap linked_node (same ∙ names) in
+    elsewhere (ap a.laws.nodes.home (sym one) ∙ (h.free_nodes n).0 c))
     in
     together (after_step store_pool_link core step) a.laws.nodes
     (pool-part store_pool_link core step a lock a.laws.nodes h.chain
@@ -124,5 +123,11 @@ NodesInOnePlace-store_pool_link core step a asked =
     (λ quiet. count ∙ pool-idle store_pool_link core step a lock quiet)
     (pools-same old new (seen_of node_scope step.number step.view) (task_on_pool step.view.call.task) (length h.chain) refl count (pool-own store_pool_link core step a lock)))
     (owner-stays store_pool_link core step (lawful a) (same-nodes store_pool_link core step refl refl refl))
-    (tree-part store_pool_link core step (lawful a) (record { rebuild = refl; update = λ same. let e = same ∙ asked.names in absurd cc; arena = λ same. let e = same ∙ asked.names in absurd cc })
+    (tree-part store_pool_link core step (lawful a) (record { rebuild = refl; update = λ same. let e = same ∙ names in absurd cc; arena = λ same. let e = same ∙ names in absurd cc })
     a.laws.nodes (same-homes core a.laws.nodes))
+
+pub NodesInOnePlace-store_pool_link : (core : Core) (step : Step) (a : Acts core step) → MayStorePoolLink step.view step.name step.first step.second → NodesInOnePlace a.laws.nodes (after_step store_pool_link core step)
+NodesInOnePlace-store_pool_link core step a asked =
+    let among = Contains-append_right (flat_map (λ b. b.nodes) step.view.batches) step.view.loose asked.node asked.owns in
+    let home : a.laws.nodes.home asked.node ≡ owned step.number = batch-home core a.laws.nodes a.laws.places step.seat step.number step.view a.at a.pass asked.node among in
+    NodesInOnePlace-linked core step a asked.node asked.names (world-pool core step a asked.pool.lock) (λ e. free_owned step.number (sym e ∙ home))

@@ -15,3 +15,4 @@ pub mod LocationStores
 pub mod Removals
 pub mod NowhereThen
 pub mod LocksStay
+pub mod BoundsAside

@@ -108,6 +108,7 @@ pub record MayLoadReader (view : View) (name : Name) (first second : ℕ) : Type
   pub update : view.rebuild ≡ Some r
   pub published : IsPublishing view.config r
   pub unreclaimed : r.is_reclaimed ≡ false
+  pub idle : view.call.task ≡ Nothing
 
 -- the loads of the word of a pass show that it does not walk, or that it has ended the walk that it was in: one value is
 -- even, or two are not the same

@@ -18,7 +18,7 @@ use Rattle.core_state.specs.Kind.{Kind, Step, after_step, found_by, learned, log
 use Rattle.core_state.specs.LocationsHold.{LocationsHoldIn, location_scope}
 use Rattle.core_state.specs.LocksAgree.{LocksAgreeIn, lock_scope}
 use Rattle.core_state.specs.Log.{word}
-use Rattle.core_state.specs.Nodes.{Home, IsInTree, IsOwnedBy, Nodes, free, nodes_in, nodes_of, owned, spare}
+use Rattle.core_state.specs.Nodes.{Home, IsInTree, IsOwnedBy, Nodes, Stands, free, nodes_in, nodes_of, owned, returning, spare}
 use Rattle.core_state.specs.NodesInOnePlace.{IsOfReplaced, NodesInOnePlace, node_scope}
 use Rattle.core_state.specs.Noting.{MayLoadArena, load_arena, with_arena}
 use Rattle.core_state.specs.Operation.{load}
@@ -224,9 +224,9 @@ module _ (core : Core) (step : Step) (a : Acts core step) (asked : MayLoadArena 
               | moved_home inside at ↦ owned_spare p (sym at ∙ e)
               | same_home none at ↦ h.arenas n below (sym at ∙ e)
             ];
-        stood = λ n inside. else IsInTree (λ none. none) (λ none. none) n (inr inside);
+        stood = λ n stands. else Stands (λ none. none) (λ none. none) n (inr stands);
         unmade = none-made core a.laws quiet-now;
-        unreturned = none-returning core a.laws quiet-now;
+        returned = λ n number e. absurd (none-returning core a.laws quiet-now n number (sym (else (λ x. x ≡ returning number) (λ same. absurd cc) (λ same. absurd cc) n (inr e)) ∙ e));
         main = λ n l home inside. subst (λ (x : ℕ). IsInArena core.config x n) (says-now l) inside;
         says = record {
           published = λ planned. absurd (true≢false (sym planned ∙ asked.early.unplanned));

@@ -102,7 +102,7 @@ module _ (core : Core) (step : Step) (a : Acts core step) (asked : MaySwitchAren
         arenas = h.arenas;
         stood = λ n inside. refl;
         unmade = none-made core a.laws quiet-now;
-        unreturned = none-returning core a.laws quiet-now;
+        returned = λ n number e. absurd (none-returning core a.laws quiet-now n number e);
         main = λ n l home inside. subst (λ (x : ℕ). IsInArena core.config x n) (says-now l (word_of core Arena)) inside;
         says = record {
           published = (end-quiet core step a r old asked.ends).published;

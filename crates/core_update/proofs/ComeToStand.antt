@@ -5,23 +5,23 @@ use Rattle.core_state.specs.declared.view.Noted.{Noted}
 use Rattle.core_state.specs.declared.view.Rebuild.{Rebuild}
 use Rattle.core_state.specs.declared.view.View.{View}
 use Rattle.core_state.specs.Encoding.{body_child, place}
-use Rattle.core_state.specs.Nodes.{Nodes, Home, under, made, IsLive, Stands, IsInTree, IsPublished, IsOfLayer}
+use Rattle.core_state.specs.Nodes.{Nodes, Home, under, made, IsLive, Stands, IsPublished, IsOfLayer}
 use Rattle.core_state.specs.Scope.{Sight, HasPass}
 use Rattle.core_state.specs.Updates.{HasUpdate, IsNoted, IsOldTree}
 use Rattle.core_state.specs.LocationsHold.{LocationsHoldIn, IsWhere, in_slot, in_main, in_old, in_merged, IsPlannedAt, IsTakenOut}
 use Rattle.core_state.specs.BodiesCovered.{BodiesCoveredIn, NotesHold, IsInOldTree}
-use Rattle.core_guard.proofs.Leaving.{if_some_map, live-stands, stands-in_tree, old-stands}
+use Rattle.core_guard.proofs.Leaving.{if_some_map, live-stands, old-stands}
 use Rattle.core_update.proofs.SwappedReaders.{OnlyMakes}
 
 module _ (nodes later : Nodes) (k : OnlyMakes nodes later) (s : Sight) where
   same-live : (n : ℕ) → IsLive (nodes.home n) → later.home n ≡ nodes.home n
-  same-live n live = k.stays n (stands-in_tree (nodes.home n) (live-stands (nodes.home n) live))
+  same-live n live = k.stays n (live-stands (nodes.home n) live)
 
   stands-then : (n : ℕ) → Stands (nodes.home n) → Stands (later.home n)
-  stands-then n stands = subst Stands (sym (k.stays n (stands-in_tree (nodes.home n) stands))) stands
+  stands-then n stands = subst Stands (sym (k.stays n stands)) stands
 
-  tree-then : (n : ℕ) (home : Home) → IsInTree home → nodes.home n ≡ home → later.home n ≡ home
-  tree-then n home inside e = k.stays n (subst IsInTree (sym e) inside) ∙ e
+  tree-then : (n : ℕ) (home : Home) → Stands home → nodes.home n ≡ home → later.home n ≡ home
+  tree-then n home inside e = k.stays n (subst Stands (sym e) inside) ∙ e
 
   published-live : (home : Home) → IsPublished home → IsLive home
   published-live (under name) h = tt
@@ -78,7 +78,7 @@ module _ (nodes later : Nodes) (k : OnlyMakes nodes later) (s : Sight) where
   -- ---- cover
 
   old-then : (r : Rebuild) (n : ℕ) → IsOldTree r (nodes.home n) → IsOldTree r (later.home n)
-  old-then r n h = subst (IsOldTree r) (sym (k.stays n (stands-in_tree (nodes.home n) (old-stands r (nodes.home n) h)))) h
+  old-then r n h = subst (IsOldTree r) (sym (k.stays n (old-stands r (nodes.home n) h))) h
 
   old-live : (r : Rebuild) (home : Home) → IsOldTree r home → IsLive home
   old-live r (under name) h = tt

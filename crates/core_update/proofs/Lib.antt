@@ -75,5 +75,16 @@ pub mod PlanSteps
 pub mod PlacedPhases
 pub mod NextReturned
 pub mod ReturnedLinks
+pub mod Reclaiming
+pub mod ReclaimedLaws
 pub mod ReaderLoads
+pub mod LastReader
+pub mod ReclaimedTrees
+pub mod Reclaims
 pub mod Unreached
+pub mod ReturnedTops
+pub mod ReturnedTrees
+pub mod ReturnedHeads
+pub mod Stacked
+pub mod UpdatesKeep
+pub mod UpdatesWiden

@@ -11,6 +11,11 @@ use Rattle.core_state.specs.declared.view.Rebuild.{Rebuild}
 use Rattle.core_state.proofs.Beginning.{contains_first}
 use Rattle.core_batch.proofs.Lists.{contains_later}
 
+-- one of two tests that pass together
+pub any_cases : (a b : Bool) → (a || b) ≡ true → (a ≡ true) ⊎ (b ≡ true)
+any_cases true b h = inl refl
+any_cases false b h = inr h
+
 pub any-from : {X : Type 0} (p : X → Bool) (xs : List X) → list_any p xs ≡ true → (x : X) × Contains xs x × (p x ≡ true)
 any-from p [] h = absurd (false≢true h)
 any-from p (x ∷ xs) h =
@@ -18,10 +23,6 @@ any-from p (x ∷ xs) h =
       | inl first ↦ (x, contains_first x xs, first)
       | inr later ↦ let t = any-from p xs later in (t.0, contains_later x xs t.0 t.1, t.2)
     ]
-  where
-    any_cases : (a b : Bool) → (a || b) ≡ true → (a ≡ true) ⊎ (b ≡ true)
-    any_cases true b h = inl refl
-    any_cases false b h = inr h
 
 pub still-merged : (r : Rebuild) (l t root : ℕ) → IsStillMerged r l t root → is_merged r l t ≡ true
 still-merged r l t root h =

@@ -1,11 +1,11 @@
 -- What a pass is to give back next: a node that is in its hands, and in no list of the pool. Loading a child of it changes
 -- nothing.
-use Rattle.std.proofs.Common.{◌≡◌, List, refl, subst, sym, ℕ}
+use Rattle.std.proofs.Common.{◌∙◌, ◌≡◌, ◌≢◌, List, refl, subst, sym, ℕ}
 use Rattle.std.proofs.lemmas.Bool.{false≢true}
 use Rattle.std.specs.Prelude.{Contains}
 use Rattle.core_state.specs.Core.{Core}
 use Rattle.core_state.specs.Kind.{Step}
-use Rattle.core_state.specs.Nodes.{returning}
+use Rattle.core_state.specs.Nodes.{free, returning}
 use Rattle.core_state.specs.Parts.{update_on_trees}
 use Rattle.core_state.specs.Retiring.{IsNextToReturn, MayLoadReturned, load_returned}
 use Rattle.core_state.specs.Scope.{sight}
@@ -20,6 +20,9 @@ use Rattle.core_guard.proofs.Touched.{IsKept, kept}
 use Rattle.core_update.proofs.Rebuilt.{Invariants-nothing}
 use Rattle.core_update.proofs.Updating.{own-says}
 
+pub free_returning : (number : ℕ) → free ≢ returning number
+free_returning number e = absurd cc
+
 module _ (core : Core) (step : Step) (a : Acts core step) (node : ℕ) (next : IsNextToReturn step.view node) where
   pub own-tops : AreTops a.laws.nodes (sight tree_scope core) step.number (update_on_trees next.r)
   own-tops =
@@ -32,6 +35,10 @@ module _ (core : Core) (step : Step) (a : Acts core step) (node : ℕ) (next : I
 
   pub next-returning : a.laws.nodes.home node ≡ returning step.number
   next-returning = next-top.owned
+
+  -- so it is not free yet
+  pub next-not_free : a.laws.nodes.home node ≢ free
+  next-not_free e = free_returning step.number (sym e ∙ next-returning)
 
 -- ---- kind 55
 

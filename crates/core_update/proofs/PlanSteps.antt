@@ -14,7 +14,7 @@ use Rattle.core_state.specs.Batches.{store_node}
 use Rattle.core_state.specs.Core.{Core}
 use Rattle.core_state.specs.Encoding.{body_child, place, sides_of}
 use Rattle.core_state.specs.Kind.{Kind, Step, after_step}
-use Rattle.core_state.specs.Nodes.{Nodes, node_in, owned, made, IsLive, IsInTree}
+use Rattle.core_state.specs.Nodes.{Nodes, node_in, owned, made, IsLive, Stands}
 use Rattle.core_state.specs.Noting.{MayFinishPlan, finish_plan, with_plan, new_node, IsNewTree, IsNewPart, HasSideBelow}
 use Rattle.core_state.specs.Noting as noting
 use Rattle.core_state.specs.Parts.{call_at, call_by_task, call_on_places, task_on_cover, update_on_places, update_on_cover, update_on_readers}
@@ -75,8 +75,8 @@ module _ (layer : ℕ) (core : Core) (step : Step) (a : Acts core step) (asked :
 
   only-makes : OnlyMakes nodes Then
   only-makes = record {
-    stays = λ n inside. elim (home-then layer core step a asked n) [ as_before same depth ↦ same | in_new l among ↦ absurd (subst IsInTree (own-then layer core step a asked n l among) inside) ];
-    depth = λ n inside. elim (home-then layer core step a asked n) [ as_before same depth ↦ depth | in_new l among ↦ absurd (subst IsInTree (own-then layer core step a asked n l among) inside) ];
+    stays = λ n stands. elim (home-then layer core step a asked n) [ as_before same depth ↦ same | in_new l among ↦ absurd (subst Stands (own-then layer core step a asked n l among) stands) ];
+    depth = λ n stands. elim (home-then layer core step a asked n) [ as_before same depth ↦ depth | in_new l among ↦ absurd (subst Stands (own-then layer core step a asked n l among) stands) ];
     live = λ n live. elim (home-then layer core step a asked n) [ as_before same depth ↦ same | in_new l among ↦ absurd (subst IsLive (made-home layer core step a asked n l among) live) ];
   }
 

@@ -1,5 +1,5 @@
--- Loading the word of a reader, while some pass may still walk in what the update took out of sight: the update notes what it
--- found. A pass of which it found an even value does not walk.
+-- Loading the word of a reader: the update notes what it found. A pass of which it found an even value, or two values that are
+-- not the same, walks in nothing that is out of sight. As long as some pass may, no more than the note is new.
 use Rattle.std.proofs.Common.{Bool, Option, Some, [], ap, arith, false, inl, inr, option_map, refl, subst, sym, true, ℕ, ◌%◌, ◌∙◌, ◌≡◌}
 use Rattle.std.proofs.lemmas.Bool.{false≢true}
 use Rattle.std.proofs.lemmas.List.Elements.{Contains-append_cases}
@@ -44,101 +44,108 @@ module _ (core : Core) (step : Step) (a : Acts core step) (asked : MayLoadReader
   abbrev new : Load
   new = record { name = step.name; value = found }
 
-  abbrev loaded : Rebuild
+  abbrev pub loaded : Rebuild
   loaded = record r { readers = r.readers ++ new ∷ [] }
 
-  alone : IsAlone core step
+  pub alone : IsAlone core step
   alone = others-update-none core a.laws a.formed step a.at a.pass r asked.update
 
-  unstored : ¬ Stores load_reader core step
+  pub unstored : ¬ Stores load_reader core step
   unstored stored = false≢true stored
 
-  -- as long as some pass may still reach what is out of sight
-  module _ (reached : is_unreached step.view.config loaded ≡ false) where
-    rebuilds : Rebuilds load_reader core step (Some loaded)
+  -- what the update is then, be it as it was but for the load, or with what is to be given back
+  module _ (last : Rebuild) (is : reclaimed_if (is_unreached step.view.config loaded) loaded ≡ last) where
+    pub rebuilds : Rebuilds load_reader core step (Some last)
     rebuilds = record {
       hidden = λ stored. absurd (unstored stored);
       entry = λ value. refl;
       leaves = ap (λ (o : Option Rebuild). record (learned core step) { rebuild = option_map (with_reader step.view.config step.name found) o }) asked.update
-          ∙ ap (λ (test : Bool). record (learned core step) { rebuild = Some (reclaimed_if test loaded) }) reached;
+          ∙ ap (λ (next : Rebuild). record (learned core step) { rebuild = Some next }) is;
     }
 
     -- ---- readers
 
-    abbrev nodes : Nodes
-    nodes = a.laws.nodes
+    module _ (seen : update_on_readers last ≡ update_on_readers loaded) where
+      abbrev nodes : Nodes
+      nodes = a.laws.nodes
 
-    abbrev Sees : Sight
-    Sees = sight reader_scope core
+      abbrev Sees : Sight
+      Sees = sight reader_scope core
 
-    abbrev Later : List View
-    Later = (sight reader_scope (after_step load_reader core step)).passes
+      abbrev Later : List View
+      Later = (sight reader_scope (after_step load_reader core step)).passes
 
-    abbrev Now : Sight
-    Now = record Sees { passes = Later }
+      abbrev Now : Sight
+      Now = record Sees { passes = Later }
 
-    own-readers : (P : ℕ → View → Rebuild → Type 0) → EachUpdate Sees P → P step.number (seen_of reader_scope step.number step.view) (update_on_readers r)
-    own-readers = own-says reader_scope (λ k v. refl) update_on_readers (λ k v. refl) core step.seat step.number step.view r a.at a.pass asked.update
+      abbrev mine : View
+      mine = seen_of reader_scope step.number step.view
 
-    changed : ChangesUpdate Sees Later step.number (seen_of reader_scope step.number step.view) (Some (update_on_readers loaded))
-    changed = changes load_reader core step a (Some loaded) rebuilds alone reader_scope (λ k v. refl) update_on_readers refl (λ number view e. ap (option_map update_on_readers) e)
+      own-readers : (P : ℕ → View → Rebuild → Type 0) → EachUpdate Sees P → P step.number mine (update_on_readers r)
+      own-readers = own-says reader_scope (λ k v. refl) update_on_readers (λ k v. refl) core step.seat step.number step.view r a.at a.pass asked.update
 
-    -- a pass was seen off before, or does not walk
-    abbrev IsOff : ℕ → View → Type 0
-    IsOff q view = (HasSeenOff Sees (update_on_readers r) q → AvoidsSuperseded nodes Sees step.number view.walk) × (view.walk.is_on ≡ true → word_of core (Reader q) % 2 ≡ 1)
+      changed : ChangesUpdate Sees Later step.number mine (Some (update_on_readers loaded))
+      changed =
+          subst (λ (x : Rebuild). ChangesUpdate Sees Later step.number mine (Some x)) seen
+          (changes load_reader core step a (Some last) rebuilds alone reader_scope (λ k v. refl) update_on_readers refl (λ number view e. ap (option_map update_on_readers) e))
 
-    off-then : (q : ℕ) (view : View) → IsOff q view → HasSeenOff Now (update_on_readers loaded) q → AvoidsSuperseded nodes Now step.number view.walk
-    off-then q view off (value, among, cases) =
-        elim (Contains-append_cases r.readers (new ∷ []) _ among) [
-          | inl old ↦ off.0 (value, old, cases)
-          | inr last ↦
-              let same = only new _ last in
-              let is : value ≡ word_of core (Reader q) = ap (λ (l : Load). l.value) (sym same) ∙ ap (λ (l : Load). word_of core l.name) same in
-              λ on query follows m name reached.
-              elim cases [
-                | inl even ↦ let odd = off.1 on in let both : value % 2 ≡ word_of core (Reader q) % 2 = ap (λ (x : ℕ). x % 2) is in absurd (omega arith)
-                | inr differs ↦ absurd (differs is)
-              ]
-        ]
+      -- a pass was seen off before, or does not walk
+      abbrev IsOff : ℕ → View → Type 0
+      IsOff q view = (HasSeenOff Sees (update_on_readers r) q → AvoidsSuperseded nodes Sees step.number view.walk) × (view.walk.is_on ≡ true → word_of core (Reader q) % 2 ≡ 1)
 
-    off-each : EachPass Now (λ q other. HasSeenOff Now (update_on_readers loaded) q → AvoidsSuperseded nodes Now step.number other.walk)
-    off-each =
-        changed.each IsOff (λ q view. HasSeenOff Now (update_on_readers loaded) q → AvoidsSuperseded nodes Now step.number view.walk)
-        (λ q view among pass. (
-          own-readers (λ k v x. EachPass Sees (λ p other. HasSeenOff Sees x p → AvoidsSuperseded nodes Sees k other.walk)) a.laws.readers.seen_off q view among pass,
-          λ on. (a.laws.readers.odd q).1 (view, among, pass, on),
-        )) (λ q view other off. off-then q view off) (λ off. off-then step.number (seen_of reader_scope step.number step.view) off)
+      off-then : (q : ℕ) (view : View) → IsOff q view → HasSeenOff Now (update_on_readers loaded) q → AvoidsSuperseded nodes Now step.number view.walk
+      off-then q view off (value, among, cases) =
+          elim (Contains-append_cases r.readers (new ∷ []) _ among) [
+            | inl old ↦ off.0 (value, old, cases)
+            | inr last ↦
+                let same = only new _ last in
+                let is : value ≡ word_of core (Reader q) = ap (λ (l : Load). l.value) (sym same) ∙ ap (λ (l : Load). word_of core l.name) same in
+                λ on query follows m name reached.
+                elim cases [
+                  | inl even ↦ let odd = off.1 on in let both : value % 2 ≡ word_of core (Reader q) % 2 = ap (λ (x : ℕ). x % 2) is in absurd (omega arith)
+                  | inr differs ↦ absurd (differs is)
+                ]
+          ]
 
-    goes-on : ReadersGoOn nodes Sees Later step.number (seen_of reader_scope step.number step.view) (Some (update_on_readers loaded)) changed (update_on_readers loaded)
-    goes-on = (
-      λ planned.
-          tight-next nodes Sees Later step.number (seen_of reader_scope step.number step.view) (Some (update_on_readers loaded)) changed (update_on_readers r)
-          (own-readers (λ k v x. x.is_planned ≡ true → IsTight nodes Sees k x) a.laws.readers.tight planned),
-      off-each,
-    )
+      off-each : EachPass Now (λ q other. HasSeenOff Now (update_on_readers loaded) q → AvoidsSuperseded nodes Now step.number other.walk)
+      off-each =
+          changed.each IsOff (λ q view. HasSeenOff Now (update_on_readers loaded) q → AvoidsSuperseded nodes Now step.number view.walk)
+          (λ q view among pass. (
+            own-readers (λ k v x. EachPass Sees (λ p other. HasSeenOff Sees x p → AvoidsSuperseded nodes Sees k other.walk)) a.laws.readers.seen_off q view among pass,
+            λ on. (a.laws.readers.odd q).1 (view, among, pass, on),
+          )) (λ q view other off. off-then q view off) (λ off. off-then step.number mine off)
 
-    readers : ReadersCounted nodes (after_step load_reader core step)
-    readers =
-        subst (ReadersCountedIn nodes) (sym (moved load_reader core step a (Some loaded) rebuilds reader_scope (refl, refl)))
-        (ReadersCounted-goes nodes Sees Later step.number (seen_of reader_scope step.number step.view) (Some (update_on_readers loaded)) changed goes-on a.laws.readers)
+      goes-on : ReadersGoOn nodes Sees Later step.number mine (Some (update_on_readers loaded)) changed (update_on_readers loaded)
+      goes-on = (
+        λ planned.
+            tight-next nodes Sees Later step.number mine (Some (update_on_readers loaded)) changed (update_on_readers r)
+            (own-readers (λ k v x. x.is_planned ≡ true → IsTight nodes Sees k x) a.laws.readers.tight planned),
+        off-each,
+      )
 
-    -- ---- all laws
+      pub readers : ReadersCounted nodes (after_step load_reader core step)
+      readers =
+          subst (ReadersCountedIn nodes) (sym (moved load_reader core step a (Some last) rebuilds reader_scope (refl, refl)))
+          (ReadersCounted-goes nodes Sees Later step.number mine (Some (update_on_readers loaded)) changed goes-on a.laws.readers)
 
-    pub Invariants-reached : Invariants (after_step load_reader core step)
-    Invariants-reached =
-        let h = a.laws in
-        let was = unseen-load load_reader core step a (Some loaded) rebuilds unstored in
-        record {
-          nodes = h.nodes;
-          locks = was lock_scope LocksAgreeIn refl h.locks;
-          bodies = was body_scope BodiesAgreeIn refl h.bodies;
-          places = was node_scope (NodesInOnePlaceIn h.nodes) (λ i. record (seen_of node_scope step.number step.view) { rebuild = option_map update_on_nodes (sym asked.update i) }) h.places;
-          trees = was tree_scope (TreesSoundIn h.nodes) (λ i. record (seen_of tree_scope step.number step.view) { rebuild = option_map update_on_trees (sym asked.update i) }) h.trees;
-          locations = was location_scope (LocationsHoldIn h.nodes) (λ i. record (seen_of location_scope step.number step.view) { rebuild = option_map update_on_places (sym asked.update i) }) h.locations;
-          cover = was cover_scope (BodiesCoveredIn h.nodes) (λ i. record (seen_of cover_scope step.number step.view) { rebuild = option_map update_on_cover (sym asked.update i) }) h.cover;
-          walks = was walk_scope WalksLeadIn refl h.walks;
-          readers = readers;
-        }
+  -- ---- all laws, as long as some pass may still reach what is out of sight
+
+  pub Invariants-reached : is_unreached step.view.config loaded ≡ false → Invariants (after_step load_reader core step)
+  Invariants-reached reached =
+      let h = a.laws in
+      let is : reclaimed_if (is_unreached step.view.config loaded) loaded ≡ loaded = ap (λ (test : Bool). reclaimed_if test loaded) reached in
+      let was = unseen-load load_reader core step a (Some loaded) (rebuilds loaded is) unstored in
+      record {
+        nodes = h.nodes;
+        locks = was lock_scope LocksAgreeIn refl h.locks;
+        bodies = was body_scope BodiesAgreeIn refl h.bodies;
+        places = was node_scope (NodesInOnePlaceIn h.nodes) (λ i. record (seen_of node_scope step.number step.view) { rebuild = option_map update_on_nodes (sym asked.update i) }) h.places;
+        trees = was tree_scope (TreesSoundIn h.nodes) (λ i. record (seen_of tree_scope step.number step.view) { rebuild = option_map update_on_trees (sym asked.update i) }) h.trees;
+        locations = was location_scope (LocationsHoldIn h.nodes) (λ i. record (seen_of location_scope step.number step.view) { rebuild = option_map update_on_places (sym asked.update i) }) h.locations;
+        cover = was cover_scope (BodiesCoveredIn h.nodes) (λ i. record (seen_of cover_scope step.number step.view) { rebuild = option_map update_on_cover (sym asked.update i) }) h.cover;
+        walks = was walk_scope WalksLeadIn refl h.walks;
+        readers = readers loaded is refl;
+      }
 
 -- ---- kinds 51 and 52
 

@@ -34,6 +34,19 @@ use Rattle.core_update.proofs.OtherUpdate.{ChangesUpdate}
 abbrev pub IsAlone : Core → Step → Type 0
 IsAlone core step = EachOther core step (λ number view. view.rebuild ≡ None)
 
+-- where a step makes no entry, and stores no name that a law reads, the law sees of all but the passes what it saw
+pub sight-moved : (kind : Kind) (core : Core) (step : Step) → Acts core step → ((value : ℕ) → kind.entry step.view step.name value ≡ None)
+    → (scope : Scope) → (Stores kind core step → scope.names step.name ≡ false) → sight scope (after_step kind core step) ≡ record (sight scope core) { passes = (sight scope (after_step kind core step)).passes }
+sight-moved kind core step a entry scope hidden =
+    let blind : Scope = record scope { part = λ bare view. bare } in
+    let same = step-same blind kind core step a.at a.pass (record { name = hidden; entry = λ reads. entry; part = refl }) in
+    λ i. record {
+      config = core.config;
+      word = λ name. same_cond (scope.names name) (word_of (after_step kind core step) name) (word_of core name) 0 (λ reads. sym (same.words name reads)) i;
+      history = same_cond scope.reads_history (history (log_after kind core step)) (history core.log) [] (λ reads. sym (same.history reads)) i;
+      passes = (sight scope (after_step kind core step)).passes;
+    }
+
 module _ (kind : Kind) (core : Core) (step : Step) where
   -- such a step
   pub record Rebuilds (next : Option Rebuild) : Type 0 where
@@ -72,15 +85,7 @@ module _ (kind : Kind) (core : Core) (step : Step) where
 
     -- of all else a law sees what it saw
     pub moved : (scope : Scope) → IsUnread scope → sight scope (after_step kind core step) ≡ record (sight scope core) { passes = (sight scope (after_step kind core step)).passes }
-    moved scope unread =
-        let blind : Scope = record scope { part = λ bare view. bare } in
-        let same = step-same blind kind core step a.at a.pass (record { name = hidden-name scope unread; entry = λ reads. b.entry; part = refl }) in
-        λ i. record {
-          config = core.config;
-          word = λ name. same_cond (scope.names name) (word_of (after_step kind core step) name) (word_of core name) 0 (λ reads. sym (same.words name reads)) i;
-          history = same_cond scope.reads_history (history (log_after kind core step)) (history core.log) [] (λ reads. sym (same.history reads)) i;
-          passes = (sight scope (after_step kind core step)).passes;
-        }
+    moved scope unread = sight-moved kind core step a b.entry scope (hidden-name scope unread)
 
     module _ (alone : IsAlone core step) (scope : Scope) (keeps : KeepsNumber scope) (part : Rebuild → Rebuild)
         (seen : seen_of scope step.number Left ≡ record (seen_of scope step.number step.view) { rebuild = option_map part next })

@@ -15,14 +15,14 @@ use Rattle.core_state.specs.declared.view.Walk.{Walk}
 use Rattle.core_state.specs.Core.{Core}
 use Rattle.core_state.specs.Encoding.{bound_in}
 use Rattle.core_state.specs.Kind.{Kind, Step, view_after, after_step}
-use Rattle.core_state.specs.Nodes.{Nodes, Home, under, superseded, made, IsLive, Stands, IsInTree, IsOfLayer, itself}
+use Rattle.core_state.specs.Nodes.{Nodes, Home, under, superseded, made, IsLive, Stands, IsOfLayer, itself}
 use Rattle.core_state.specs.Parts.{task_at_place, no_rebuild, update_on_readers}
 use Rattle.core_state.specs.Scope.{Sight, sight, HasPass, EachPass}
 use Rattle.core_state.specs.Space.{IsTarget, IsComing, IsInLayer, IsInHull, IsSideIn}
 use Rattle.core_state.specs.Walking.{Spot, resting, at_child, at_bound, Position, position_of, waiting}
 use Rattle.core_state.specs.ReadersCounted.{ReadersCounted, reader_scope, Reaches, by_stack, by_spot, ReachesBySpot, the_node, the_node_of_bound, waiting_at, WalkStays, layer_at_hand, AvoidsSuperseded, HasSeenOff, ClimbsInTrees, IsTight, IsSideOf}
 use Rattle.core_state.proofs.Beginning.{cases_cons}
-use Rattle.core_guard.proofs.Leaving.{Acts, if_some_map, live-stands, stands-in_tree, other-number}
+use Rattle.core_guard.proofs.Leaving.{Acts, if_some_map, live-stands, other-number}
 use Rattle.core_guard.proofs.ReadersLeft.{WalkIn, SpaceIn, Off}
 use Rattle.core_update.proofs.Swapped.{each-swap, has-swap}
 
@@ -46,10 +46,10 @@ by-readers P o None e h = tt
 by-readers P None (Some r) e h = absurd (none-some r.readers e)
 by-readers P (Some q) (Some r) e h = subst P (same_Some q.readers r.readers e) h
 
--- nodes in trees keep homes and depths, and no other comes to stand but in a new tree
+-- nodes that stand keep homes and depths, and no other comes to stand but in a new tree
 pub record OnlyMakes (nodes later : Nodes) : Type 0 where
-  pub stays : (n : ℕ) → IsInTree (nodes.home n) → later.home n ≡ nodes.home n
-  pub depth : (n : ℕ) → IsInTree (nodes.home n) → later.depth n ≡ nodes.depth n
+  pub stays : (n : ℕ) → Stands (nodes.home n) → later.home n ≡ nodes.home n
+  pub depth : (n : ℕ) → Stands (nodes.home n) → later.depth n ≡ nodes.depth n
   pub live : (n : ℕ) → IsLive (later.home n) → later.home n ≡ nodes.home n
 
 pub same-makes : (nodes : Nodes) → OnlyMakes nodes nodes
@@ -61,14 +61,11 @@ module _ (nodes later : Nodes) (k : OnlyMakes nodes later) (s : Sight) (passes :
   abbrev Then : Sight
   Then = record s { passes = passes }
 
-  live-tree : (n : ℕ) → IsLive (nodes.home n) → IsInTree (nodes.home n)
-  live-tree n live = stands-in_tree (nodes.home n) (live-stands (nodes.home n) live)
-
   live-again : (n : ℕ) → IsLive (nodes.home n) → IsLive (later.home n)
-  live-again n live = subst IsLive (sym (k.stays n (live-tree n live))) live
+  live-again n live = subst IsLive (sym (k.stays n (live-stands (nodes.home n) live))) live
 
   stands-again : (n : ℕ) → Stands (nodes.home n) → Stands (later.home n)
-  stands-again n stands = subst Stands (sym (k.stays n (stands-in_tree (nodes.home n) stands))) stands
+  stands-again n stands = subst Stands (sym (k.stays n stands)) stands
 
   home-before : (n : ℕ) (home : Home) → IsLive home → later.home n ≡ home → nodes.home n ≡ home
   home-before n home live e = sym (k.live n (subst IsLive (sym e) live)) ∙ e
@@ -77,12 +74,12 @@ module _ (nodes later : Nodes) (k : OnlyMakes nodes later) (s : Sight) (passes :
   stays-again loads at h = record {
     live = λ n reaches.
         let t = h.live n reaches in
-        (live-again n t.0, subst (λ (home : Home). IfSome (layer_at_hand loads) (λ l. IsOfLayer l home)) (sym (k.stays n (live-tree n t.0))) t.1);
+        (live-again n t.0, subst (λ (home : Home). IfSome (layer_at_hand loads) (λ l. IsOfLayer l home)) (sym (k.stays n (live-stands (nodes.home n) t.0))) t.1);
     apart = h.apart;
     ahead = h.ahead;
     behind = h.behind;
     levels = λ w among.
-        subst (λ (d : ℕ). w.level ≤ suc d) (sym (k.depth w.node (live-tree w.node (h.live w.node (waiting-reached s.word at w at.spot refl among)).0))) (h.levels w among);
+        subst (λ (d : ℕ). w.level ≤ suc d) (sym (k.depth w.node (live-stands (nodes.home w.node) (h.live w.node (waiting-reached s.word at w at.spot refl among)).0))) (h.levels w among);
     read = λ n name from home. h.read n name from (home-before n (under name) tt home);
     visited = λ n walked. let t = h.visited n walked in (live-again n t.0, t.1);
   }

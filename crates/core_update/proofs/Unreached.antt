@@ -1,5 +1,5 @@
--- What an update does not take too early: a node that is free or spare is reached by no pass that walks; and with nothing
--- left to give back no node is to be given back.
+-- What an update does not take too early: a node that is free or spare, or to be given back, is reached by no pass that walks; and
+-- with nothing left to give back no node is to be given back.
 use Rattle.std.proofs.Common.{IfSome, Option, Some, [], refl, subst, sym, true, ℕ, ◌≡◌, ◌≢◌}
 use Rattle.std.proofs.lemmas.List.Elements.{Contains-append_right}
 use Rattle.std.specs.Prelude.{Contains, List}
@@ -21,10 +21,10 @@ use Rattle.core_update.proofs.AtRest.{IsLeftEmpty, nothing-left}
 
 pub walks-in-trees : (core : Core) (h : Invariants core) (seat number : ℕ) (view : View) → IsViewAt core seat view → IsPass view number → view.walk.is_on ≡ true → (query : Query)
     → Follows core.config query view.walk.loads → (node : ℕ) → Reaches (sight reader_scope core).word (position_of core.config query view.walk.loads) node
-    → (h.nodes.home node ≢ free) × (h.nodes.home node ≢ spare)
+    → (h.nodes.home node ≢ free) × (h.nodes.home node ≢ spare) × ((giver : ℕ) → h.nodes.home node ≢ returning giver)
 walks-in-trees core h seat number view at pass on query follows node reached =
     let live = ((each-seat reader_scope (λ k v. refl) core _ h.readers.stays seat number view at pass on query follows).live node reached).0 in
-    (λ e. subst IsLive e live, λ e. subst IsLive e live)
+    (λ e. subst IsLive e live, λ e. subst IsLive e live, λ giver e. subst IsLive e live)
 
 pub nothing-left-to-return : (core : Core) → IsFormed core → (h : Invariants core) (seat number : ℕ) (view : View) → IsViewAt core seat view → IsPass view number → (r : Rebuild) → view.rebuild ≡ Some r
     → r.returning ≡ [] → (node : ℕ) → h.nodes.home node ≢ returning number

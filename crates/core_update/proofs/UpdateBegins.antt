@@ -104,7 +104,7 @@ module _ (core : Core) (step : Step) (a : Acts core step) (asked : MayBeginUpdat
           arenas = h.arenas;
           stood = λ n inside. refl;
           unmade = none-made core a.laws quiet-now;
-          unreturned = none-returning core a.laws quiet-now;
+          returned = λ n number e. absurd (none-returning core a.laws quiet-now n number e);
           main = λ n l home inside.
               subst (λ (x : ℕ). IsInArena core.config x n)
               (arena-of-one core step.seat step.number step.view a.at a.pass alone (word_of core Arena) l ∙ (ap (λ (o : Option Rebuild). arena_after l (word_of core Arena) o) own-none ∙ sym arena-same)) inside;

@@ -18,7 +18,7 @@ use Rattle.core_state.specs.Invariants.{Invariants}
 use Rattle.core_state.specs.Kind.{Kind, Step, after_step, view_after}
 use Rattle.core_state.specs.LocationsHold.{LocationsHold, location_scope}
 use Rattle.core_state.specs.LocksAgree.{LocksAgreeIn, lock_scope}
-use Rattle.core_state.specs.Nodes.{spare, free, superseded, Home, IsInTree, IsOwnedBy, Nodes, made, node_in, nodes_in, nodes_of, owned, returning, under}
+use Rattle.core_state.specs.Nodes.{spare, free, superseded, Home, IsInTree, IsOwnedBy, Nodes, Stands, made, node_in, nodes_in, nodes_of, owned, returning, under}
 use Rattle.core_state.specs.Operation.{store}
 use Rattle.core_state.specs.NodesInOnePlace.{IsOfReplaced, NamesArena, NodesInOnePlace, NodesInOnePlaceIn, node_scope}
 use Rattle.core_state.specs.Parts.{call_by_task, call_on_places, update_on_cover, update_on_nodes, update_on_places, update_on_readers, update_on_trees}
@@ -32,7 +32,6 @@ use Rattle.core_state.specs.WalksLead.{WalksLeadIn, walk_scope}
 use Rattle.core_state.specs.declared.item.Store.{Store}
 use Rattle.core_state.specs.declared.view.Rebuild.{Rebuild}
 use Rattle.core_state.specs.declared.view.Task.{Task}
-use Rattle.core_state.specs.declared.view.Task.TheVariants.{Nothing}
 use Rattle.core_state.specs.declared.view.View.{View}
 use Rattle.core_state.proofs.Frames.{frame}
 use Rattle.core_state.proofs.Lookups.{at_one}
@@ -286,6 +285,15 @@ module _ (core : Core) (step : Step) (a : Acts core step) (asked : MayEndUpdate 
               apart-arenas core.config old n arena-is.0 in-last (main-in n l e (a.laws.places.main_trees n l e))
           published _ e named = named.1
 
+  later-unmade : (n q l : ℕ) → later.home n ≢ made q l
+  later-unmade n q l e = none-made core a.laws quiet-now n q l (sym (else IsInTree (λ none. none) (λ none. none) n (inr (subst IsInTree (sym e) tt))) ∙ e)
+
+  later-unreturned : (n q : ℕ) → later.home n ≢ returning q
+  later-unreturned n q e = none-returning core a.laws quiet-now n q (sym (else IsInTree (λ none. none) (λ none. none) n (inr (subst IsInTree (sym e) tt))) ∙ e)
+
+  later-unseen : (n q : ℕ) (name : Name) → later.home n ≢ superseded q name
+  later-unseen n q name e = not-superseded n q name (sym (else IsInTree (λ none. none) (λ none. none) n (inr (subst IsInTree (sym e) tt))) ∙ e)
+
   holds : UpdateHolds Ends core step a None rebuilds alone later
   holds =
       let h = a.laws.places in
@@ -300,13 +308,13 @@ module _ (core : Core) (step : Step) (a : Acts core step) (asked : MayEndUpdate 
               | moved_home inside at ↦ let t = (in-old n inside).0 in absurd (omega arith)
               | same_home none at ↦ h.arenas n below (sym at ∙ e)
             ];
-        stood = λ n inside. else IsInTree (λ none. none) (λ none. none) n (inr inside);
+        stood = λ n stands. else Stands (λ none. none) (λ none. none) n (inr stands);
         unmade = none-made core a.laws quiet-now;
-        unreturned = none-returning core a.laws quiet-now;
+        returned = λ n number e. absurd (later-unreturned n number e);
         main = λ n l home inside. subst (λ (x : ℕ). IsInArena core.config x n) (sym (arena-same ∙ arena-is.1)) (main-in n l home inside);
         says = tt;
         update = inr (ap (word_of (after_step Ends core step)) (sym asked.names) ∙ (word-step Ends core step ∙ asked.none), refl);
-        superseded = λ n name home some. absurd (not-superseded n p name home);
+        superseded = λ n name home some. absurd (later-unseen n p name home);
         arena = subst (λ (x : ℕ). x < 2) (sym arena-same) h.arena;
         idle = λ unread n inside. old-spare n inside;
       }
@@ -334,15 +342,6 @@ module _ (core : Core) (step : Step) (a : Acts core step) (asked : MayEndUpdate 
 
   abbrev Dropped : Core
   Dropped = after_step Drops core step
-
-  later-unmade : (n q l : ℕ) → later.home n ≢ made q l
-  later-unmade n q l e = none-made core a.laws quiet-now n q l (sym (else IsInTree (λ none. none) (λ none. none) n (inr (subst IsInTree (sym e) tt))) ∙ e)
-
-  later-unreturned : (n q : ℕ) → later.home n ≢ returning q
-  later-unreturned n q e = none-returning core a.laws quiet-now n q (sym (else IsInTree (λ none. none) (λ none. none) n (inr (subst IsInTree (sym e) tt))) ∙ e)
-
-  later-unseen : (n q : ℕ) (name : Name) → later.home n ≢ superseded q name
-  later-unseen n q name e = not-superseded n q name (sym (else IsInTree (λ none. none) (λ none. none) n (inr (subst IsInTree (sym e) tt))) ∙ e)
 
   no-view : (f : Rebuild → Rebuild) (o : Option Rebuild) → o ≡ None → option_map f o ≡ None
   no-view f o e = ap (option_map f) e

@@ -8,7 +8,7 @@ use Rattle.word_map.specs.declared.name.Name.TheVariants.{Arena, Main, Slot, Upd
 use Rattle.core_state.specs.Core.{Core, IsViewAt}
 use Rattle.core_state.specs.Encoding.{IsInArena}
 use Rattle.core_state.specs.Kind.{Kind, Step, after_step, view_after}
-use Rattle.core_state.specs.Nodes.{superseded, Home, IsInTree, Nodes, made, returning, spare, under, nodes_in}
+use Rattle.core_state.specs.Nodes.{superseded, Home, Stands, Nodes, made, returning, spare, under, nodes_in}
 use Rattle.core_state.specs.NodesInOnePlace.{IsOfReplaced, NamesArena, node_scope, NodesInOnePlace}
 use Rattle.core_state.specs.Parts.{update_on_nodes, task_on_pool}
 use Rattle.core_state.specs.Scope.{HasPass, Sight, sight}
@@ -54,17 +54,17 @@ module _ (kind : Kind) (core : Core) (step : Step) (a : Acts core step) (next : 
   abbrev Replaces : Name → ℕ → Rebuild → Type 0
   Replaces name n r = (r.is_reclaimed ≡ false) × IsOfReplaced core.config r name n
 
-  -- what is to be shown; the homes in trees are as they were
+  -- what is to be shown; nodes that stand then have the homes that they had, and those that are to be given back are the pass's
   pub record UpdateHolds (later : Nodes) : Type 0 where
     pub in_use : (n : ℕ) → node_count core.config ≤ n → later.home n ≡ spare
     pub arenas : (n : ℕ) → n < core.config.nodes → later.home n ≢ spare
-    pub stood : (n : ℕ) → IsInTree (later.home n) → later.home n ≡ nodes.home n
+    pub stood : (n : ℕ) → Stands (later.home n) → later.home n ≡ nodes.home n
     pub unmade : (n number l : ℕ) → nodes.home n ≢ made number l
-    pub unreturned : (n number : ℕ) → nodes.home n ≢ returning number
+    pub returned : (n number : ℕ) → later.home n ≡ returning number → (n < core.config.nodes) × (number ≡ step.number) × IsSomeAnd Seen (λ r. r.is_reclaimed ≡ true)
     pub main : (n l : ℕ) → nodes.home n ≡ under (Main l) → IsInArena core.config (arena_of Old (Old.word Arena) l) n → IsInArena core.config (arena_after l (New.word Arena) next) n
     pub says : IfSome Seen SaysOfNodes
     pub update : ((New.word Update ≡ suc step.number) × IsSome next) ⊎ ((New.word Update ≡ 0) × (next ≡ None))
-    pub superseded : (n : ℕ) (name : Name) → nodes.home n ≡ superseded step.number name → IsSomeAnd (option_map update_on_nodes step.view.rebuild) (Replaces name n) → IsSomeAnd Seen (Replaces name n)
+    pub superseded : (n : ℕ) (name : Name) → later.home n ≡ superseded step.number name → IsSomeAnd (option_map update_on_nodes step.view.rebuild) (Replaces name n) → IsSomeAnd Seen (Replaces name n)
     pub arena : New.word Arena < 2
     pub idle : IfSome Seen (λ r. IsNone r.arena) → (n : ℕ) → IsInArena core.config (1 - New.word Arena) n → later.home n ≡ spare
 
@@ -88,6 +88,12 @@ module _ (kind : Kind) (core : Core) (step : Step) (a : Acts core step) (next : 
         go from (stepped same one two) = (sym two, subst P (ap (λ (v : View). option_map update_on_nodes v.rebuild) (sym one ∙ rebuilt kind core step a next b)) from.holds)
         go from (stayed apart old) = absurd (none (subst P (no-view from.view.rebuild (alone from.seat number from.view apart old from.pass)) from.holds))
 
+    own-shows : (number : ℕ) (P : Option Rebuild → Type 0) → number ≡ step.number → P Seen → HasPass New number (λ v. P v.rebuild)
+    own-shows number P same h =
+        subst (λ (k : ℕ). HasPass New k (λ v. P v.rebuild)) (sym same)
+        (seat-has node_scope (λ k v. refl) (after_step kind core step) step.number (λ v. P v.rebuild)
+        (record { seat = own-seat.seat; view = own-seat.view; at = own-seat.at; pass = own-seat.pass; holds = subst P (sym own-seat.holds) h }))
+
     alone-after : (other n : ℕ) (v : View) → other ≢ step.seat → IsViewAt (after_step kind core step) other v → IsPass v n → v.rebuild ≡ None
     alone-after other n v apart found is = go (seat-after node_scope (λ k w. refl) kind core step a.at a.pass other n v found is)
       where
@@ -100,8 +106,8 @@ module _ (kind : Kind) (core : Core) (step : Step) (a : Acts core step) (next : 
         arena-of-one (after_step kind core step) step.seat step.number (view_after kind core step) (view-step kind core step a.at) a.pass alone-after named layer
         ∙ ap (λ (v : View). arena_after layer named v.rebuild) (rebuilt kind core step a next b)
 
-    was-in : (n : ℕ) (home : Home) → IsInTree home → later.home n ≡ home → nodes.home n ≡ home
-    was-in n home inside e = sym (u.stood n (subst IsInTree (sym e) inside)) ∙ e
+    was-in : (n : ℕ) (home : Home) → Stands home → later.home n ≡ home → nodes.home n ≡ home
+    was-in n home stands e = sym (u.stood n (subst Stands (sym e) stands)) ∙ e
 
     unmade-says : (o : Option Rebuild) → IfSome o SaysOfNodes → (l n : ℕ) → ¬ IsSomeAnd o (λ r. IsMadeIn core.config r l n)
     unmade-says None says l n h = h
@@ -135,9 +141,7 @@ module _ (kind : Kind) (core : Core) (step : Step) (a : Acts core step) (next : 
             elim (u.update) [
               | inl t ↦
                   let same : number ≡ step.number = let now = t.0 in omega arith in
-                  subst (λ (k : ℕ). HasPass New k (λ view. IsSome view.rebuild)) (sym same)
-                  (seat-has node_scope (λ k v. refl) (after_step kind core step) step.number (λ v. IsSome v.rebuild)
-                  (record { seat = own-seat.seat; view = own-seat.view; at = own-seat.at; pass = own-seat.pass; holds = subst IsSome (sym own-seat.holds) (seen-some next t.1) }))
+                  own-shows number (λ o. IsSome o) same (seen-some next t.1)
               | inr t ↦ let now = t.0 in absurd (omega arith)
             ],
         λ has.
@@ -150,8 +154,12 @@ module _ (kind : Kind) (core : Core) (step : Step) (a : Acts core step) (next : 
       superseded_by = λ n number name e.
           let was = was-in n (superseded number name) tt e in
           has-update nodes Old New.passes step.number (seen_of node_scope step.number step.view) Seen changed number (Replaces name n) (Replaces name n) (a.laws.places.superseded_by n number name was)
-          (λ same some. u.superseded n name (subst (λ (k : ℕ). nodes.home n ≡ superseded k name) same was) some);
-      returning_by = λ n number e. absurd (u.unreturned n number (was-in n (returning number) tt e));
+          (λ same some. u.superseded n name (subst (λ (k : ℕ). later.home n ≡ superseded k name) same e) some);
+      returning_by = λ n number e.
+          let t = u.returned n number e in (
+            t.0,
+            own-shows number (λ o. IsSomeAnd o (λ r. r.is_reclaimed ≡ true)) t.1 t.2,
+          );
       arena = u.arena;
       named = each-update nodes Old New.passes step.number (seen_of node_scope step.number step.view) Seen changed (λ k v r. NamesArena New r) (if_some_map Seen _ _ (λ r says. says.named) u.says);
       idle = λ unread n inside. u.idle (subst (λ (o : Option Rebuild). IfSome o (λ r. IsNone r.arena)) own-seat.holds

@@ -5,3 +5,4 @@ pub mod noting;
 pub mod placing;
 pub mod promotions;
 pub mod retiring;
+pub mod updates;

@@ -1,12 +1,10 @@
 -- Bounds of trees only widen: of the steps that store one of a node that stands each makes it wider.
-use Rattle.std.specs.Prelude.{⊤}
-use Rattle.std.proofs.Common.{◌≡◌, ◌≢◌, ℕ, false, refl, ap, sym, ◌∙◌, subst, arith}
+use Rattle.std.proofs.Common.{◌≡◌, ◌≢◌, refl, ap, sym, ◌∙◌, subst, arith}
 use Rattle.std.proofs.lemmas.Option.{same_Some}
 use Rattle.word_map.specs.declared.name.Name.{Name}
 use Rattle.word_map.specs.declared.name.Name.TheVariants.{Lock, SlotHead, SlotNext, State, User, BoxWord, Bound, Slot, Phase, LocA, PoolNext, PoolHead, PoolFree, Reader, Parent, Child, LocB}
 use Rattle.core_state.specs.Core.{Core, word_of}
-use Rattle.core_state.specs.Operation.{stores}
-use Rattle.core_state.specs.Kind.{Kind, Asking, Steps, found_by}
+use Rattle.core_state.specs.Kind.{Steps}
 use Rattle.core_state.specs.Event.{Event, opens_pass, splits_visitor, joins_visitor, looks, loads_lock, takes_read, takes_write, releases, loads_list, stores_link, stores_head, stores_field, creates, destroys, loads_body, sets_user, loads_slot, reserves, marks, places, attaches, takes_back, unmarks, lets_slot_go, stores_pool_link, stores_pool_head, stores_pool_count, stores_node, of_locks, of_lists, of_bodies, of_batches, of_pool, begins_walk, ends_walk, walks_slot, walks_main, walks_child, walks_bound, of_walks, widens_low, widens_high, loads_parent, stores_side, stores_last_side, of_moves, removes, clears_entry, clears_location, of_removals}
 use Rattle.core_state.specs.Looking.{look}
 use Rattle.core_state.specs.Locking.{load_lock, take_read, take_write, release}
@@ -16,6 +14,7 @@ use Rattle.core_state.specs.Batches.{MayStoreNode, load_slot, reserve, mark, sto
 use Rattle.core_state.specs.Pool.{store_pool_link, store_pool_head, store_pool_count}
 use Rattle.core_state.specs.Walks.{begin_walk, end_walk, walk_slot, walk_main, walk_child, walk_bound}
 use Rattle.core_state.specs.Moving.{load_parent_moving, store_side, store_last_side}
+use Rattle.core_move.proofs.BoundsAside.{as_wide, aside, on_load, on_other}
 use Rattle.core_move.proofs.WidenSteps.{widen_low-widens, widen_high-widens}
 use Rattle.core_state.specs.Removing.{the_first, the_second, remove, clear_entry, clear_location}
 use Rattle.core_state.specs.Invariants.{Invariants}
@@ -23,39 +22,8 @@ use Rattle.core_batch.proofs.Owning.{batch-home}
 use Rattle.core_state.specs.Nodes.{Nodes, Stands, node_in}
 use Rattle.core_state.specs.TreesSound.{BoundsOnlyWiden}
 use Rattle.core_state.specs.Unseen.{IsUnseen}
-use Rattle.core_state.proofs.Steps.{word-step-other, word-step-unstored}
+use Rattle.core_state.proofs.Steps.{word-step-other}
 use Rattle.core_state.proofs.Keeping.{visits-unseen, joins-unseen, load-unseen, look-plain, load_lock-plain, load_list-plain, load_body-plain, load_slot-plain}
-
--- the name of a side of a bound
-abbrev IsSide : Name → Type 0
-IsSide (Bound n k q) = ⊤
-IsSide _ = ⊥
-
-no_side : (name other : Name) → name ≡ other → ¬ IsSide other → (n k q : ℕ) → Bound n k q ≢ name
-no_side name other e none n k q same = none (subst IsSide (same ∙ e) tt)
-
--- bounds that stay as they are
-as_wide : (nodes : Nodes) (before after : Core) → ((n k q : ℕ) → word_of after (Bound n k q) ≡ word_of before (Bound n k q)) → BoundsOnlyWiden nodes before after
-as_wide nodes before after same = λ n k q stands. (λ low. omega (arith, same n k q), λ high. omega (arith, same n k q))
-
--- a step on a word that is no side of a bound
-on_other : (nodes : Nodes) (asks : Asking) (kind : Kind) (before after : Core) (steps : Steps asks kind before after) → ((n k q : ℕ) → Bound n k q ≢ steps.step.name)
-    → BoundsOnlyWiden nodes before after
-on_other nodes asks kind before after steps other =
-    as_wide nodes before after
-    (λ n k q. ap (λ (c : Core). word_of c (Bound n k q)) steps.result ∙ word-step-other kind before steps.step (Bound n k q) (other n k q))
-
--- one on a word that a side of a bound is not
-aside : (nodes : Nodes) (asks : Asking) (kind : Kind) (before after : Core) (steps : Steps asks kind before after) (other : Name) → steps.step.name ≡ other → ¬ IsSide other
-    → BoundsOnlyWiden nodes before after
-aside nodes asks kind before after steps other e none = on_other nodes asks kind before after steps (no_side steps.step.name other e none)
-
--- a step that stores nothing
-on_load : (nodes : Nodes) (asks : Asking) (kind : Kind) (before after : Core) (steps : Steps asks kind before after) → ((found first : ℕ) → stores kind.operation found first ≡ false)
-    → BoundsOnlyWiden nodes before after
-on_load nodes asks kind before after steps loads =
-    as_wide nodes before after
-    (λ n k q. ap (λ (c : Core). word_of c (Bound n k q)) steps.result ∙ word-step-unstored kind before steps.step (loads (found_by before steps.step) steps.step.first) (Bound n k q))
 
 -- one on a word of an own node: this stands in no tree
 on_own : (before after : Core) (h : Invariants before) → Steps MayStoreNode store_node before after → BoundsOnlyWiden h.nodes before after

@@ -33,7 +33,7 @@ pub record IsAfter (start : Books) (scene : Scene) (made : List Entry) (world : 
   pub adds : Adds start table.books made
   pub within : nodes_kept table.books ≤ world.nodes
 
-kept_after : (start now : Books) (made : List Entry) (layer : ℕ) → Adds start now made → kept_in now [] layer ≡ kept_with (kept_in start [] layer) layer made
+pub kept_after : (start now : Books) (made : List Entry) (layer : ℕ) → Adds start now made → kept_in now [] layer ≡ kept_with (kept_in start [] layer) layer made
 kept_after start now made layer a =
     let named : has_batch now [] ≡ has_batch start [] = ap (λ (bs : List Batch). has_batch (record start { prepared = bs }) []) a.prepared in
     let slots_prepared = ap (λ (bs : List Batch). count_by (λ b. eqb b.layer layer) bs) a.prepared in
@@ -53,7 +53,7 @@ layer_then table layer nodes indexes made None bodies layers Looks Later h later
 layer_then table layer nodes indexes made (Some refusal) bodies layers Looks Later h later = inr (refusal, h, refl)
 
 -- the table after a layer came in
-after_layer : (start : Books) (scene : Scene) (made : List Entry) (world : Config) (table : Table) (layer : ℕ) (part : List Known) → IsAfter start scene made world table
+pub after_layer : (start : Books) (scene : Scene) (made : List Entry) (world : Config) (table : Table) (layer : ℕ) (part : List Known) → IsAfter start scene made world table
     → (taking table layer part).refusal ≡ None
     → IsAfter start scene (made ++ joined layer part) world
     (table_with table ((taking table layer part).entries ++ Join layer (taking table layer part).indexes ∷ []) (with_attached table.books layer (need (length part))))

@@ -1,10 +1,9 @@
 -- A plain player that shows a table, after a command.
 use Rattle.std.proofs.Common.{◌≡◌, sym, ap, subst, ◌∙◌, Result, Ok, Err, IfOk}
-use Rattle.scene_model.specs.Scene.{Scene}
 use Rattle.script_text.specs.declared.command.Command.{Command}
 use Rattle.reply_text.specs.declared.reply.Reply.{Reply}
 use Rattle.script_player.specs.Table.{Table}
-use Rattle.script_player.specs.Turn.{Turn, turn, table_after}
+use Rattle.script_player.specs.Turn.{Turn, turn}
 use Rattle.script_player.specs.UnderWay.{IsUnderWay}
 use Rattle.script_player.specs.Shown.{shown_table, shown_after, Does, IsShownBy}
 use Rattle.script_player.specs.Hosts.{IsAnswered}

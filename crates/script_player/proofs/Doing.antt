@@ -98,7 +98,7 @@ followed_makes : (o : Option Refusal) (first later : Attempt) (xs ys : List Entr
 followed_makes None first later xs ys same e h k = ap (λ (es : List Entry). es ++ later.entries) (h same) ∙ ap (λ (es : List Entry). xs ++ es) (k e)
 followed_makes (Some refusal) first later xs ys same e h k = let none : Some refusal ≡ None = sym same ∙ e in absurd cc
 
-layers_make : (bodies : List Known) (layers : List ℕ) (table : Table) → (add_layers table bodies layers).refusal ≡ None → (add_layers table bodies layers).entries ≡ joined_each bodies layers
+pub layers_make : (bodies : List Known) (layers : List ℕ) (table : Table) → (add_layers table bodies layers).refusal ≡ None → (add_layers table bodies layers).entries ≡ joined_each bodies layers
 layers_make bodies [] table e = refl
 layers_make bodies (layer ∷ layers) table e =
     let part = in_layer layer bodies in

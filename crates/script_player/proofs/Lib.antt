@@ -32,3 +32,9 @@ pub mod Adding
 pub mod Refusing
 pub mod Doing
 pub mod Undoing
+pub mod Stopping
+pub mod StoppedLayers
+pub mod Changing
+pub mod RightAt
+pub mod ToldAlone
+pub mod LegalReports

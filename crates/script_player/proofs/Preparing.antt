@@ -67,7 +67,7 @@ view_looks : (scene : Scene) (i : Id) (layer : ℕ) (o : Option BodyView) → Is
 view_looks scene i layer None h = inl (h, refl)
 view_looks scene i layer (Some v) h = phase_looks scene i v.phase v.layer layer (told_phase_layer scene i v h)
 
-looks_to_hold : (scene : Scene) (i : Id) (layer : ℕ) → LooksToHold scene layer i (mark_refusal scene layer i)
+pub looks_to_hold : (scene : Scene) (i : Id) (layer : ℕ) → LooksToHold scene layer i (mark_refusal scene layer i)
 looks_to_hold scene i layer = view_looks scene i layer (body_of scene i) (told scene i (body_of scene i) refl)
 
 -- ---- the bodies of a batch

@@ -41,7 +41,7 @@ use Rattle.script_player.proofs.Naming.{name_at, names_at}
 -- ---- changes
 
 -- the command that asks for a change
-abbrev command_of : Change → List ℕ → Command
+abbrev pub command_of : Change → List ℕ → Command
 command_of changes.Destroy name = commands.Destroy name
 command_of changes.Remove name = commands.Remove name
 command_of (changes.Move bounds) name = commands.Move name bounds

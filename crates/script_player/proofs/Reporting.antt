@@ -30,7 +30,7 @@ report_is script =
     ap (λ (text : List ℕ). text ++ end_text (table_below table script.lines).scene) (replies_are script.lines table)
     ∙ ap (λ s. flat_map (λ (e : Exchange). reply_text e.reply) (exchanges table script.lines) ++ end_text s) (scene_is script.world script.lines)
 
-exchanges-append : (table : Table) (xs ys : List Command) → exchanges table (xs ++ ys) ≡ exchanges table xs ++ exchanges (table_below table xs) ys
+pub exchanges-append : (table : Table) (xs ys : List Command) → exchanges table (xs ++ ys) ≡ exchanges table xs ++ exchanges (table_below table xs) ys
 exchanges-append table [] ys = refl
 exchanges-append table (x ∷ xs) ys =
     let t = turn table x in

@@ -16,7 +16,11 @@ pub mod Created
 pub mod Queried
 pub mod InLayers
 pub mod Exchange
+pub mod Told
 pub mod Prepared
+pub mod Seen
 pub mod Refused
 pub mod Done
 pub mod Undone
+pub mod Right
+pub mod Legal

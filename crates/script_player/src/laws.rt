@@ -1,15 +1,16 @@
 //! What follows from the meaning of scripts. No call here does anything.
-ghost use Rattle.std.specs.Prelude.{◌≡◌, ◌∷◌, ◌++◌, List, length};
+ghost use Rattle.std.specs.Prelude.{◌≡◌, ◌∷◌, ◌++◌, ℕ, List, Option, length};
 ghost use Rattle.std.specs.List.{flat_map};
+ghost use Rattle.world_io.specs.Bytes.{Appended};
 ghost use Rattle.scene_model.specs.declared.entry.Made.{Made};
 ghost use Rattle.scene_model.specs.Scene.{empty_scene};
-ghost use Rattle.scene_model.specs.History.{IsLawfulHistory};
+ghost use Rattle.scene_model.specs.History.{IsLawfulHistory, scene_after};
 ghost use Rattle.script_text.specs.declared.script.Script.{Script};
 ghost use Rattle.reply_text.specs.Reply.{reply_text};
 ghost use Rattle.reply_text.specs.declared.refusal.Refusal.{Refusal};
 ghost use Rattle.reply_text.specs.declared.reply.Reply.TheVariants.{Done, Refused};
 ghost use Rattle.script_player.specs.Table.{empty_table};
-ghost use Rattle.script_player.specs.Report.{entries_made, ArePossibleFrom, end_text, serial_report};
+ghost use Rattle.script_player.specs.Report.{entries_made, ArePossibleFrom, table_below, end_text, serial_report};
 ghost use Rattle.script_player.specs.InLayers.{AreInLayers};
 ghost use Rattle.script_player.specs.Standing.{Standing, made_alone, history_of, scene_below, history_at, scene_at, table_at, turn_at};
 ghost use Rattle.script_player.specs.Exchange.{Exchange, exchanges, exchanges_at};
@@ -19,6 +20,8 @@ ghost use Rattle.script_player.specs.Done.{MakesAsked};
 ghost use Rattle.script_player.specs.Undone.{LeavesUndone};
 ghost use Rattle.script_player.specs.Created.{AnswersCreate};
 ghost use Rattle.script_player.specs.Queried.{AnswersQuery};
+ghost use Rattle.script_player.specs.Told.{serial_spans};
+ghost use Rattle.script_player.specs.Legal.{Legal, WritesLegal};
 
 /// The entries that a script makes are a history: each is possible in the scene after those before it, whatever was
 /// refused on the way. So a report tells of bodies that were created, held, brought in and taken out in an order that
@@ -83,4 +86,18 @@ pub fn done_makes_what_was_asked()
 pub fn refusal_leaves_the_scene()
     ensures { (script : Script) (at : Standing script) (refusal : Refusal) → (turn_at script at).reply ≡ Refused refusal
         → LeavesUndone (scene_at script at) at.command (turn_at script at).entries }
+{}
+
+/// The report of a script is a legal one, with the history that its commands make and with spans that go one after another: each
+/// command is answered right for its span, and the entries that were made in it are those that it asks for.
+pub fn serial_reports_are_legal()
+    ensures { (script : Script) → Legal script (serial_report script) (serial_spans script) (history_of script.world script.lines) }
+{}
+
+/// So what `play` writes is a legal report, whatever host the script is played on; the scene that the host is told by then is the
+/// one that the history leads to.
+pub fn what_is_played_is_legal()
+    ensures written { (script : Script) (before after : Option (List ℕ)) → Appended before after (serial_report script)
+        → WritesLegal script before after (serial_spans script) (history_of script.world script.lines) }
+    ensures scene { (script : Script) → (table_below (empty_table script.world) script.lines).scene ≡ scene_after script.world.bodies (history_of script.world script.lines) }
 {}

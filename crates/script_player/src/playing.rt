@@ -6,7 +6,7 @@ ghost use Rattle.scene_model.specs.Query.{live_count, in_count};
 ghost use Rattle.reply_text.specs.Reply.{reply_text};
 ghost use Rattle.script_player.specs.Table.{Table, empty_table};
 ghost use Rattle.script_player.specs.Hosts.{IsToldFor, IsToldForAll, HasLine, Writes, WritesPart, Plays, PlaysPart};
-ghost use Rattle.script_player.specs.Report.{end_text_of, end_text, serial_report};
+ghost use Rattle.script_player.specs.Report.{table_below, end_text_of, end_text, serial_report};
 ghost use Rattle.script_player.specs.declared.playing.PlayFault.TheVariants.{Write, Memory};
 
 use crate::host::Host;
@@ -135,7 +135,8 @@ fn play_commands<H: Host, K: Sink>(
 }
 
 /// Plays a script on a host with which nothing was done yet, and writes its report: a line for each reply as soon as it is known,
-/// and the line that counts the bodies. After an error the bytes written are a first part of the report.
+/// and the line that counts the bodies. The host is told by the table after all commands then. After an error the bytes written are a
+/// first part of the report.
 pub fn play<H: Host, K: Sink>(
     alloc: Global,
     script: &Script,
@@ -144,6 +145,7 @@ pub fn play<H: Host, K: Sink>(
 ) -> Result<(), PlayFault>
     requires told { H.shows host.old (empty_table script.now.world) }
     ensures report { OnOk result (Appended (K.contents sink.old) (K.contents sink.new) (serial_report script.now)) }
+    ensures shown { OnOk result (H.shows host.new (table_below (empty_table script.now.world) script.now.lines)) }
     ensures part { OnErr result (AppendedPart (K.contents sink.old) (K.contents sink.new) (serial_report script.now)) }
     ensures fault { IsErrOf result PlayFault.Write → Rose (K.faults sink.old) (K.faults sink.new) }
     ensures counted { K.faults sink.old ≤ K.faults sink.new }

@@ -1,10 +1,10 @@
-use Rattle.std.proofs.Common.{◌≡◌, List, ℕ, Option, Result, Ok, Err, OnOk, OnErr, sym, subst}
+use Rattle.std.proofs.Common.{List, ℕ, Option, sym, subst}
 use Rattle.script_text.specs.declared.command.Command.{Command}
 use Rattle.script_player.specs.Table.{empty_table}
 use Rattle.script_player.specs.Hosts.{IsToldForAll, Plays, PlaysPart}
 use Rattle.script_player.proofs.PlayedSoFar.{whole_report_ok, part_to_end_err, part_of_replies}
 use Rattle.script_player.proofs.Layered.{script_fits}
-use Rattle.script_player.proofs.Writing.{on_err_always}
+use Rattle.script_player.proofs.Writing.{on_err_always, on_ok_always}
 use Rattle.script_player.proofs.playing.play.Goals as goal
 
 pub play_commands-requires : goal.play_commands-requires
@@ -35,3 +35,11 @@ returns-clause-part g c =
     let P : List Command → Type 0 = λ commands. Plays g.H.Host.shows commands c.args.host.now c.play_commands.new.host held told in
     part_to_end_err g.H.Host.shows c.args.script.now c.args.host.now c.play_commands.new.host held told (g.K.Sink.contents c.play_end.new.sink) c.play_end.result c.requires.told
     (subst P c.items.ensures c.in_ok-play_commands.ensures.ok) c.play_end.ensures.part
+
+pub returns-clause-shown : goal.returns-clause-shown
+returns-clause-shown g c =
+    let held : Option (List ℕ) = g.K.Sink.contents c.args.sink.now in
+    let told : Option (List ℕ) = g.K.Sink.contents c.play_commands.new.sink in
+    let P : List Command → Type 0 = λ commands. Plays g.H.Host.shows commands c.args.host.now c.play_commands.new.host held told in
+    let played = subst P c.items.ensures c.in_ok-play_commands.ensures.ok in
+    on_ok_always c.play_end.result (played.shown (empty_table c.args.script.now.world) c.requires.told)

@@ -1,4 +1,4 @@
-use Rattle.std.proofs.Common.{◌≡◌, ℕ, List, Option, sym, subst, arith}
+use Rattle.std.proofs.Common.{ℕ, List, Option, sym, subst, arith}
 use Rattle.script_text.specs.declared.command.Command.{Command}
 use Rattle.script_player.specs.Hosts.{IsToldFor, Writes, WritesPart}
 use Rattle.script_player.proofs.PlayedSoFar.{told_next, one_more, stops}

@@ -1,7 +1,3 @@
-use Rattle.std.proofs.Common.{◌≡◌, refl, sym, ap, ◌∙◌}
-use Rattle.scene_model.specs.Scene.{Scene}
-use Rattle.script_player.specs.Books.{Books}
-use Rattle.script_player.specs.Table.{Table}
 use Rattle.script_player.proofs.Beginning.{shown_new}
 use Rattle.script_player.proofs.plain_player.PlainPlayer.new.Goals as goal
 

@@ -15,7 +15,7 @@ use Rattle.body_look.specs.stages.Looking.{looking_of, IsLooking}
 use Rattle.batch_add.specs.declared.mark_op.MarkStage.TheVariants.{Looking}
 use Rattle.batch_add.specs.declared.mark_op.Marking.{Marking}
 use Rattle.pass_table.specs.Work.{HasWorked, begun as begun_work}
-use Rattle.batch_add.specs.Parts.{IsNewest}
+use Rattle.batch_add.specs.Parts.{IsNewest, WereFree}
 use Rattle.batch_add.specs.stages.Marking.{marks_of, current, IsForNewest, AreFirst, marks_work, AtMark, IsMarking}
 use Rattle.pass_table.proofs.Working.{worked-begun}
 
@@ -61,6 +61,7 @@ marking-begun operation view next number none at pass rest some room below newes
             steps = [];
             free = λ lock. refl;
             worked = subst (HasWorked view view) (nothing_done view newest.0 newest.1 operation.bodies.items operation.marked none newest.2.newest newest.2.bare) (worked-begun view number pass rest);
+            each = subst (λ (m : ℕ). WereFree newest.1.layer view view (take m operation.ids.items)) (sym none) (λ k d below. absurd (omega arith));
           };
           looking = goes;
         });

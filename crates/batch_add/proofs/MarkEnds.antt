@@ -15,6 +15,7 @@ use Rattle.core_state.specs.declared.view.Mode.TheVariants.{Write}
 use Rattle.core_state.specs.declared.view.LockStep.TheVariants.{Taken as TakenStep, Released}
 use Rattle.core_state.specs.declared.view.Batch.{Batch}
 use Rattle.core_state.specs.declared.view.View.{View}
+use Rattle.core_state.specs.Log.{IsPrefix}
 use Rattle.core_state.specs.View.{IsPass}
 use Rattle.core_state.specs.Encoding.{phase_join}
 use Rattle.core_state.specs.Batches.{MayMark, mark}
@@ -34,9 +35,9 @@ use Rattle.batch_add.specs.declared.mark_op.MarkStage.{MarkStage}
 use Rattle.batch_add.specs.declared.mark_op.MarkStage.TheVariants.{Looking, Boxed, Leaving, Refusing}
 use Rattle.batch_add.specs.declared.mark_op.Marking.{Marking}
 use Rattle.pass_table.specs.Work.{HasWorked, HasDone}
-use Rattle.batch_add.specs.Parts.{IsNewest, HasMarked, HasMarkedBefore, marks_outcome, IsMarkRefusedAt}
+use Rattle.batch_add.specs.Parts.{IsNewest, HasMarked, HasMarkedBefore, marks_outcome, IsMarkRefusedAt, WereFree}
 use Rattle.batch_add.specs.stages.Marking.{Marks, marks_of, marked_bodies, current, IsBegunFor, marks_work, HasStripe, AtMark, PastLook, GoesOnFrom, IsMarking, Notes, mark_left, IsMarkTurn, takes_at}
-use Rattle.batch_add.specs.stages.MarkLater.{stripe-held}
+use Rattle.batch_add.specs.stages.MarkLater.{stripe-held, were-later}
 use Rattle.pass_table.proofs.WorkLater.{worked-sizes}
 use Rattle.pass_table.proofs.Working.{worked-released, worked-done}
 use Rattle.batch_add.proofs.MarkLocks.{free-again}
@@ -153,6 +154,12 @@ module _ (start : View) (before : List Batch) (batch : Batch) (layer slot : ℕ)
   gone_worked : HasWorked start next (marks_work start before batch marks.bodies ((held.steps ++ TakenStep stripe Write ∷ []) ++ Released stripe ∷ []))
   gone_worked = worked-released start view next _ held.worked stripe found go refl
 
+  gone_later : IsPrefix view.known next.known
+  gone_later = known-more MayRelease release view next (Lock stripe) go.0 0 found go.1
+
+  gone_each : WereFree batch.layer start next (take marks.marked marks.ids)
+  gone_each = were-later batch.layer start view next (take marks.marked marks.ids) gone_later held.each
+
   -- the call may end
   pub ends-with : HasDone start next (marks_outcome start before batch marks.bodies)
   ends-with = worked-done start next _ gone_worked begun.rest refl (free-again held.steps stripe held.free)
@@ -161,7 +168,7 @@ module _ (start : View) (before : List Batch) (batch : Batch) (layer slot : ℕ)
   pub then-next : marks.marked < length marks.ids → (look : LookOp) → IsLooking (looking_of start.config (current marks) Write ItsPhase) next look next → AtMark start before batch marks next look Looking
   then-next less look looking = record {
     mid = next;
-    between = record { next = less; steps = (held.steps ++ TakenStep stripe Write ∷ []) ++ Released stripe ∷ []; free = free-again held.steps stripe held.free; worked = gone_worked };
+    between = record { next = less; steps = (held.steps ++ TakenStep stripe Write ∷ []) ++ Released stripe ∷ []; free = free-again held.steps stripe held.free; worked = gone_worked; each = gone_each };
     looking = looking;
   }
 
@@ -173,7 +180,7 @@ module _ (start : View) (before : List Batch) (batch : Batch) (layer slot : ℕ)
 
   -- with the bodies of the first ids marked
   pub has-marked : HasMarked before batch (take marks.marked marks.ids) start next marks.bodies
-  has-marked = record { done = ends-with; indexes = begun.first.indexes; apart = begun.first.apart }
+  has-marked = record { done = ends-with; indexes = begun.first.indexes; apart = begun.first.apart; each = gone_each }
 
   -- and the next one refused
   pub has-refused : (refused : MarkRefused) → marks.marked < length marks.ids → AtPoint start view (IsMarkRefusedAt start.config batch.layer (current marks) refused)
@@ -188,7 +195,7 @@ module _ (start : View) (before : List Batch) (batch : Batch) (layer slot : ℕ)
             get_or_default marks.ids marks.marked (record { index = 0; seq = 0 }) past less ∙ ap (λ (n : ℕ). get_or marks.ids n past) (sym many)
             in
             subst (λ (id : Id). AtPoint start next (IsMarkRefusedAt start.config batch.layer id refused)) same
-            (point-later start view next _ (known-more MayRelease release view next (Lock stripe) go.0 0 found go.1) point);
+            (point-later start view next _ gone_later point);
       }
 
 -- the newest batch is one, and so are those before it

@@ -1,5 +1,5 @@
 -- What the turns of marking a body tell that look at it, and that load the layer of a body that is out.
-use Rattle.std.proofs.Common.{◌≡◌, ◌≢◌, ℕ, List, sym, ◌∙◌, subst, arith, refl}
+use Rattle.std.proofs.Common.{◌≡◌, ◌≢◌, ℕ, List, take, sym, ◌∙◌, subst, arith, refl}
 use Rattle.body_ident.specs.Id.{Id}
 use Rattle.scene_model.specs.declared.body_view.Phase.TheVariants.{Out, Held as HeldPhase, In}
 use Rattle.word_map.specs.declared.config.Config.{Config}
@@ -10,6 +10,7 @@ use Rattle.core_state.specs.declared.view.Batch.{Batch}
 use Rattle.core_state.specs.declared.view.View.{View}
 use Rattle.core_state.specs.View.{known_word}
 use Rattle.core_state.specs.Encoding.{phase_join}
+use Rattle.pass_table.specs.Calls.{AtPoint}
 use Rattle.pass_table.specs.Bodies.{KnowsLive, IsGuarded, IsTold, Loaded}
 use Rattle.pass_table.proofs.Calling.{point-now}
 use Rattle.pass_table.proofs.LockedBodies.{guarded-more, guarded-tells, told-body, told-out}
@@ -23,9 +24,9 @@ use Rattle.body_look.proofs.Answering.{worked-looked}
 use Rattle.batch_add.specs.declared.mark_op.MarkRefused.{MarkRefused}
 use Rattle.batch_add.specs.declared.mark_op.MarkRefused.TheVariants.{Gone, Held, AlreadyIn, WrongLayer}
 use Rattle.batch_add.specs.declared.mark_op.MarkStage.TheVariants.{Outside, Refusing}
-use Rattle.batch_add.specs.Parts.{IsMarkRefusedAt}
+use Rattle.batch_add.specs.Parts.{IsFreeAt, IsMarkRefusedAt}
 use Rattle.batch_add.specs.stages.Marking.{Marks, current, IsBegunFor, IsBetween, IsAtBody, KnowsOut, after_look, PastLook}
-use Rattle.batch_add.specs.stages.MarkLater.{body-guarded, out-later, body-later}
+use Rattle.batch_add.specs.stages.MarkLater.{body-guarded, out-later, body-later, were-later}
 
 -- ---- the next body
 
@@ -68,7 +69,12 @@ module _ (layer slot : ℕ) (start : View) (before : List Batch) (batch : Batch)
   looked_body : HasItsStripe id Write mid next → IsAtBody start before batch marks next
   looked_body stripe = record {
     next = between.next;
-    held = record { steps = between.steps; free = between.free; worked = worked-looked start mid next _ id Write between.worked refl stripe };
+    held = record {
+      steps = between.steps;
+      free = between.free;
+      worked = worked-looked start mid next _ id Write between.worked refl stripe;
+      each = were-later batch.layer start mid next (take marks.marked marks.ids) (stripe.worked.adds.since, stripe.worked.adds.known) between.each;
+    };
   }
 
   -- and what it has found gives the next stage
@@ -104,6 +110,13 @@ module _ (layer slot : ℕ) (start : View) (before : List Batch) (batch : Batch)
 
   out_told : IsTold out_id next
   out_told = told-then layer slot start before batch marks begun view next (Layer out_id.index) found out_loaded at.0 at.1.0
+
+  -- where it is the batch's, the body is free
+  pub layer-free : found ≡ batch.layer → AtPoint start next (IsFreeAt start.config batch.layer out_id)
+  layer-free same =
+      point-now start next _ (IsFreeAt start.config batch.layer out_id) out-body.held.worked.adds
+      (subst (λ (c : Config). IsFreeAt c batch.layer out_id next.known) (worked-sizes start next _ out-body.held.worked)
+      (told-body out_id next out_told (λ r. (r.phase ≡ Out) × (r.layer ≡ batch.layer)) (told-out out_id next out_told out-known.1, sym out_told.layer ∙ (out_loaded.word ∙ same))))
 
   pub layer-wrong : found ≢ batch.layer → PastLook start before batch marks next (Refusing (WrongLayer found))
   layer-wrong other =

@@ -10,11 +10,14 @@ use Rattle.word_map.specs.declared.name.Name.TheVariants.{Layer, BoxWord}
 use Rattle.core_state.specs.declared.view.Batch.{Batch}
 use Rattle.core_state.specs.declared.view.View.{View}
 use Rattle.core_state.specs.View.{known_word}
+use Rattle.pass_table.specs.Calls.{AtPoint}
 use Rattle.pass_table.specs.Bodies.{IsGuarded, IsTold, Loaded}
+use Rattle.pass_table.proofs.Calling.{point-later}
+use Rattle.batch_add.specs.Parts.{IsFreeAt}
 use Rattle.batch_add.specs.declared.mark_op.MarkStage.TheVariants.{Outside, Sides, Boxed}
 use Rattle.batch_add.specs.stages.Marking.{Marks, current, IsBegunFor, IsAtBody, KnowsHere, KnowsSides, PastLook}
 use Rattle.batch_add.specs.stages.MarkLater.{here-later, sides-later}
-use Rattle.batch_add.proofs.MarkLoads.{body-then, guarded-before, told-then, out-body, out-known}
+use Rattle.batch_add.proofs.MarkLoads.{body-then, guarded-before, told-then, out-body, out-known, layer-free}
 
 -- a body that is out is in the layer of the batch: its box comes next
 pub layer-here : (layer slot : ℕ) (start : View) (before : List Batch) (batch : Batch) (marks : Marks) (begun : IsBegunFor layer slot start before batch marks) (view next : View) (found : ℕ)
@@ -26,6 +29,7 @@ layer-here layer slot start before batch marks begun view next found loaded at w
   omega arith,
   six,
   λ k below. absurd (omega arith),
+  layer-free layer slot start before batch marks begun view next found loaded at same,
 )
 
 module _ (layer slot : ℕ) (start : View) (before : List Batch) (batch : Batch) (marks : Marks) (begun : IsBegunFor layer slot start before batch marks) (view next : View)
@@ -62,11 +66,14 @@ module _ (layer slot : ℕ) (start : View) (before : List Batch) (batch : Batch)
             sides-later side_id view next side_guarded side_loaded.more words loaded at.4 k (omega arith) ∙ sym (get_or-set_other words loaded k found 0 apart)
       ]
 
+  side_free : AtPoint start next (IsFreeAt start.config batch.layer side_id)
+  side_free = point-later start view next _ (side_loaded.more.since, side_loaded.more.known) at.5
+
   pub side-next : loaded < 5 → PastLook start before batch marks next (Sides side_words (loaded + 1))
-  side-next less = (side_body, side_here, omega arith, length-set words loaded found ∙ at.3, λ k below. known_sides k (omega arith))
+  side-next less = (side_body, side_here, omega arith, length-set words loaded found ∙ at.3, λ k below. known_sides k (omega arith), side_free)
 
   pub side-last : 5 ≤ loaded → (bounds : FixBox) → words_of bounds ≡ side_words → PastLook start before batch marks next (Boxed bounds)
-  side-last last bounds same = (side_body, side_here, subst (λ (l : List ℕ). KnowsSides side_id next l 6) (sym same) (λ k below. known_sides k (omega arith)))
+  side-last last bounds same = (side_body, side_here, subst (λ (l : List ℕ). KnowsSides side_id next l 6) (sym same) (λ k below. known_sides k (omega arith)), side_free)
 
   -- the six words are those of the body's box
   pub side-box : 5 ≤ loaded → ((bounds : FixBox) → words_of bounds ≢ side_words) → ⊥

@@ -1,12 +1,12 @@
 -- What the turn tells that marks a body.
-use Rattle.std.specs.Prelude.{Contains, nat_eq, ◌&&◌}
+use Rattle.std.specs.Prelude.{Contains, nat_eq, ◌&&◌, option_to_list}
 use Rattle.std.specs.List.{IsDistinct, range_with_len}
-use Rattle.std.proofs.Common.{◌≡◌, ℕ, suc, ◌-◌, ◌<◌, ◌≤◌, List, [], ◌∷◌, ◌++◌, Bool, true, false, cond, eqb, All, Some, length, map, take, get_or, slice_index, refl, ap, sym, ◌∙◌, subst, arith}
+use Rattle.std.proofs.Common.{◌≡◌, ℕ, suc, ◌-◌, ◌<◌, ◌≤◌, List, [], ◌∷◌, ◌++◌, Bool, true, false, cond, eqb, All, Some, length, map, take, get_or, slice_index, append_assoc, refl, ap, sym, ◌∙◌, subst, arith}
 use Rattle.std.specs.Cmp.{nat_eq_equiv}
 use Rattle.std.proofs.Math.Seq.{take-suc}
 use Rattle.std.proofs.lemmas.Bool.{eq-eqb, ne_eqb, eqb-true}
 use Rattle.std.proofs.lemmas.List.{length-append, map-append, get_or-map, length-map}
-use Rattle.std.proofs.lemmas.List.Elements.{All-head, All-tail, Contains-append_right}
+use Rattle.std.proofs.lemmas.List.Elements.{All-head, All-tail, All-push, Contains-append_right}
 use Rattle.std.proofs.lemmas.List.Folds.{list_any_none}
 use Rattle.std.proofs.lemmas.Map.Keys.{IsDistinct-push}
 use Rattle.fixed_box.specs.FixBox.{words_of}
@@ -23,7 +23,7 @@ use Rattle.core_state.specs.declared.view.LockStep.TheVariants.{Taken as TakenSt
 use Rattle.core_state.specs.declared.view.Task.TheVariants.{Nothing}
 use Rattle.core_state.specs.declared.view.Batch.{Batch}
 use Rattle.core_state.specs.declared.view.View.{View}
-use Rattle.core_state.specs.Log.{word}
+use Rattle.core_state.specs.Log.{word, IsPrefix}
 use Rattle.core_state.specs.View.{IsPass, Holds, known_word}
 use Rattle.core_state.specs.Encoding.{phase_join}
 use Rattle.core_state.specs.Event.{marks as marks_body, of_batches}
@@ -43,9 +43,10 @@ use Rattle.pass_table.proofs.LockedBodies.{live-steady}
 use Rattle.pass_table.proofs.Calling.{stepped-sizes, steady-now, stores-word, stored-made}
 use Rattle.batch_add.specs.declared.mark_op.MarkStage.TheVariants.{Boxed, Leaving}
 use Rattle.pass_table.specs.Work.{HasWorked}
-use Rattle.batch_add.specs.Parts.{marked_as}
+use Rattle.pass_table.specs.Calls.{AtPoint}
+use Rattle.batch_add.specs.Parts.{marked_as, IsFreeAt, WereFree}
 use Rattle.batch_add.specs.stages.Marking.{Marks, current, AreFirst, IsBegunFor, marks_work, PastLook}
-use Rattle.batch_add.specs.stages.MarkLater.{body-held}
+use Rattle.batch_add.specs.stages.MarkLater.{body-held, were-later}
 use Rattle.pass_table.proofs.WorkLater.{worked-batches, worked-loose, worked-written}
 use Rattle.pass_table.proofs.Working.{worked-untold}
 
@@ -231,6 +232,16 @@ module _ (layer slot : ℕ) (start : View) (before : List Batch) (batch : Batch)
         (mark-made number pass) (ap (λ (v : View). v.call.task) stored.1.leaves ∙ at.0.held.worked.doing) mark_left refl
         (step-alone MayMark mark view next name value 0 stored.0 stored.1))
 
+    -- each of the bodies was free
+    mark_each : (number : ℕ) → IsPass view number → WereFree batch.layer start next (take (suc marks.marked) marks.ids)
+    mark_each number pass =
+        let made = mark-made number pass in
+        let own = made.since ++ option_to_list made.own in
+        let later : IsPrefix view.known next.known = (own, made.parts ∙ append_assoc view.known made.since (option_to_list made.own)) in
+        subst (WereFree batch.layer start next) (sym (take-suc marks.ids marks.marked (record { index = 0; seq = 0 }) at.0.next))
+        (were-later batch.layer start view next (take marks.marked marks.ids ++ body_id ∷ []) later
+        (All-push (λ (id : Id). AtPoint start view (IsFreeAt start.config batch.layer id)) (take marks.marked marks.ids) body_id at.0.held.each at.3))
+
     -- its stripe is to be let go
     pub mark-leaves : (number stripe : ℕ) → IsPass view number → stripe ≡ stripe_of start.config body_id.index → stripe < start.config.stripes → PastLook start before batch more_marks next (Leaving stripe)
     mark-leaves number stripe pass same low = (
@@ -238,6 +249,7 @@ module _ (layer slot : ℕ) (start : View) (before : List Batch) (batch : Batch)
         steps = at.0.held.steps;
         free = at.0.held.free;
         worked = subst (λ (s : ℕ). HasWorked start next (marks_work start before batch more_marks.bodies (at.0.held.steps ++ TakenStep s Write ∷ []))) (sym same) (mark-worked number pass);
+        each = mark_each number pass;
       },
       low,
     )

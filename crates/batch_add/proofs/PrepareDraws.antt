@@ -42,7 +42,7 @@ use Rattle.pass_table.proofs.Working.{done-then, done-prefix}
 use Rattle.batch_add.proofs.DrawBegun.{IsDrawnNow, drawn-newest}
 use Rattle.batch_add.proofs.Known.{fresh-unwritten}
 use Rattle.batch_add.proofs.Staying.{comes-apart, comes-beside, fresh-start}
-use Rattle.batch_add.proofs.Parting.{from-from}
+use Rattle.batch_add.proofs.Parting.{from-from, were-inside}
 use Rattle.batch_add.proofs.PartTurns.{part-more, part-again}
 use Rattle.batch_add.proofs.PrepareMarks.{same-has, same-wanted, nodes-sizes, from_map, map_twice}
 
@@ -310,6 +310,8 @@ module _ (before : PrepareOp) (drawing new : TreeDrawing) (view next : View) (st
         done = subst (HasDone start next) outcome after_tree;
         from_slot = from_slot;
         from_pool = from_pool;
+        each = were-inside before.layer start part.so.taken_at part.mid next (ids_of before) (nodes-sizes before start part.so.taken_at own has)
+            (done-prefix start part.so.taken_at (followed first_outcome nodes_then) after_nodes) (done-prefix part.mid next tree_then now.has.done) marked.each;
       }
 
       pub draws-answers : HasPreparedOr first start next (Ok prepared)

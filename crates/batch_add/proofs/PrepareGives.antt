@@ -1,5 +1,6 @@
 -- Giving a batch up, as the last part of a preparation that is refused.
-use Rattle.std.specs.Prelude.{true, take, slice_index_or, Err, option_and_then, All}
+use Rattle.std.specs.List.{IsDistinct}
+use Rattle.std.specs.Prelude.{true, nat_eq, take, slice_index_or, Err, option_and_then, All}
 use Rattle.std.proofs.Common.{◌≡◌, ℕ, ◌+◌, ◌<◌, List, [], ◌∷◌, ◌++◌, length, map, Option, Some, refl, ap, sym, ◌∙◌, subst, arith}
 use Rattle.std.proofs.lemmas.List.{append-nil}
 use Rattle.body_ident.specs.Id.{Id}
@@ -31,7 +32,7 @@ use Rattle.batch_add.specs.declared.prepare_op.PrepareStage.TheVariants.{GivingU
 use Rattle.batch_add.specs.declared.prepare_op.PrepareOp.{PrepareOp}
 use Rattle.batch_add.specs.declared.giving_up.GivingUp.{GivingUp}
 use Rattle.pass_table.specs.Work.{Outcome, HasDone, followed, idle}
-use Rattle.batch_add.specs.Parts.{stored_as, StoresFrom, reserved_outcome, nodes_outcome, marks_outcome, marked_as, IsMarkRefusedAt, given_stores, given_outcome, HasGivenUp}
+use Rattle.batch_add.specs.Parts.{stored_as, StoresFrom, reserved_outcome, nodes_outcome, marks_outcome, marked_as, IsMarkRefusedAt, WereFree, given_stores, given_outcome, HasGivenUp}
 use Rattle.batch_add.specs.stages.GivingUp.{IsGivingUp, HasGiven, give_left, give_takes}
 use Rattle.batch_add.specs.stages.GivingLater.{from-later}
 use Rattle.batch_add.specs.stages.Preparing.{ids_of, need_of, IsInPart, IsInSome, CameToGive, HasSlotAndNodes, HasFailed, AtPrepare, IsPreparing, with_slot_nodes, with_marks, refusal_of, refusal_of_mark, part_left, stage_left, prepare_left, entry_at, entry_of, IsPrepareTurn, prepare_takes, takes_at}
@@ -40,7 +41,7 @@ use Rattle.pass_table.proofs.Working.{done-then, done-prefix, point-from}
 use Rattle.batch_add.proofs.GiveLists.{written-none}
 use Rattle.batch_add.proofs.Known.{fresh-unwritten}
 use Rattle.batch_add.proofs.Staying.{fresh-start}
-use Rattle.batch_add.proofs.Parting.{from-from}
+use Rattle.batch_add.proofs.Parting.{from-from, were-inside}
 use Rattle.batch_add.proofs.PartTurns.{part-more, part-again}
 
 -- ---- lists
@@ -87,6 +88,7 @@ module _ (operation : PrepareOp) (start mid next : View) (current : ∥ IsCurren
         number = number;
         pass = reserved.pass;
         slot = slot;
+        below = reserved.below;
         done =
             subst (HasDone start next)
             (λ i. record {
@@ -165,6 +167,7 @@ module _ (operation : PrepareOp) (start mid next : View) (current : ∥ IsCurren
         number = number;
         pass = reserved.pass;
         slot = slot;
+        below = reserved.below;
         left = left;
         old = from.0;
         some = some;
@@ -187,6 +190,10 @@ module _ (operation : PrepareOp) (start mid next : View) (current : ∥ IsCurren
         back =
             from-from start mid next PoolFree from.0 (from.0 + need (length ids)) sizes_mid (ap (λ (v : View). v.role) before.left) (done-prefix start mid (followed (followed one two) three) before)
             (subst (λ (n : ℕ). StoresFrom mid next PoolFree from.0 n) free from.2);
+        each =
+            subst (λ (n : ℕ). WereFree layer start next (take n ids)) many
+            (were-inside layer start taken_at mid next (take (length bodies) ids) sizes_taken (done-prefix start taken_at (followed one two) early) (done-prefix mid next four given.done) marked.first.each);
+        once = subst (IsDistinct nat_eq) indexes marked.first.apart;
         cause = λ past.
             point-later start mid next (IsMarkRefusedAt start.config layer (slice_index_or ids at past) refused) (done-prefix mid next four given.done)
             (point-from start taken_at mid (IsMarkRefusedAt start.config layer (slice_index_or ids at past) refused) (done-prefix start taken_at (followed one two) early)

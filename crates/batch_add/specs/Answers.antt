@@ -1,5 +1,6 @@
 -- What preparing a batch and giving it up answer.
-use Rattle.std.specs.Prelude.{◌≡◌, ◌≢◌, ℕ, ◌+◌, ◌<◌, true, List, [], ◌∷◌, ◌++◌, length, map, take, slice_index_or, All, Result, Ok, Err, Contains}
+use Rattle.std.specs.Prelude.{◌≡◌, ◌≢◌, ℕ, ◌+◌, ◌<◌, nat_eq, true, List, [], ◌∷◌, ◌++◌, length, map, take, slice_index_or, All, Result, Ok, Err, Contains}
+use Rattle.std.specs.List.{IsDistinct}
 use Rattle.body_ident.specs.Id.{Id}
 use Rattle.fixed_box.specs.declared.fix_box.FixBox.{FixBox}
 use Rattle.scene_model.specs.declared.entry.Entry.TheVariants.{Mark, Unmark}
@@ -19,7 +20,7 @@ use Rattle.batch_add.specs.declared.mark_op.MarkRefused.{MarkRefused}
 use Rattle.batch_add.specs.declared.mark_op.MarkRefused.TheVariants.{Gone, Held, AlreadyIn, WrongLayer}
 use Rattle.batch_add.specs.declared.prepared.Prepared.{Prepared}
 use Rattle.pass_table.specs.Work.{Outcome, HasDone, idle}
-use Rattle.batch_add.specs.Parts.{stored_as, StoresFrom, FoundNoSlot, IsMarkRefusedAt, HasGivenUp}
+use Rattle.batch_add.specs.Parts.{stored_as, StoresFrom, FoundNoSlot, WereFree, IsMarkRefusedAt, HasGivenUp}
 use Rattle.batch_add.specs.Prepared.{IsGood, IsApart, IsTheBatch, LeavesOthers}
 use Rattle.pass_table.specs.Belongings.{belongings_of}
 
@@ -36,7 +37,8 @@ prepared_outcome view layer slot number ids left batch written = record {
 
 -- The bodies of the ids are marked, in order, for a batch of a slot of the layer that was empty, with as many nodes of the pool
 -- as their tree needs, none of which the pass had. It is good for the pass, which has no other batch more and is at rest; in
--- other nodes it has written what it had, so each batch that was good is, and it is apart from each
+-- other nodes it has written what it had, so each batch that was good is, and it is apart from each. The body of
+-- each id was free, at a point of the call
 pub record HasPrepared (layer : ℕ) (ids : List Id) (start next : View) (prepared : Prepared) : Type 0 where
   pub left : ℕ
   pub written : List Store
@@ -53,6 +55,7 @@ pub record HasPrepared (layer : ℕ) (ids : List Id) (start next : View) (prepar
   pub done : HasDone start next (prepared_outcome start layer prepared.slot prepared.number ids left good.batch written)
   pub from_slot : StoresFrom start next (Slot layer prepared.slot) 0 (reserved_by prepared.number)
   pub from_pool : StoresFrom start next PoolFree (left + need (length ids)) left
+  pub each : WereFree layer start next ids
 
 -- there is no id, and nothing was done
 pub record HadNoBodies (ids : List Id) (start next : View) : Type 0 where
@@ -64,6 +67,7 @@ pub record HadFewNodes (layer : ℕ) (ids : List Id) (start next : View) (wanted
   pub number : ℕ
   pub pass : IsPass start number
   pub slot : ℕ
+  pub below : slot < start.config.slots
   pub done : HasDone start next (record (idle start) { stores = stored_as (Slot layer slot) (reserved_by number) ∷ stored_as (Slot layer slot) 0 ∷ []; places = true })
   pub from_slot : StoresFrom start next (Slot layer slot) 0 (reserved_by number)
   pub need_of : wanted ≡ need (length ids)
@@ -78,12 +82,14 @@ refused_outcome view layer slot number ids left free = record (idle view) {
   places = true;
 }
 
--- The id at this place is refused, at a point of the call, and none before it. The bodies of those were marked, in order, and
--- are unmarked again; the slot is empty, and the nodes are in the pool again
+-- The id at this place is refused, at a point of the call, and none before it. The bodies of those were free, each at a point of
+-- the call, and were marked, in order, each index once; they are unmarked again, the slot is empty, and the nodes are in the pool
+-- again
 pub record HadBadId (layer : ℕ) (ids : List Id) (start next : View) (at : ℕ) (refused : MarkRefused) : Type 0 where
   pub number : ℕ
   pub pass : IsPass start number
   pub slot : ℕ
+  pub below : slot < start.config.slots
   pub left : ℕ
   pub old : ℕ
   pub some : at < length ids
@@ -91,6 +97,8 @@ pub record HadBadId (layer : ℕ) (ids : List Id) (start next : View) (at : ℕ)
   pub from_slot : StoresFrom start next (Slot layer slot) 0 (reserved_by number)
   pub from_pool : StoresFrom start next PoolFree (left + need (length ids)) left
   pub back : StoresFrom start next PoolFree old (old + need (length ids))
+  pub each : WereFree layer start next (take at ids)
+  pub once : IsDistinct nat_eq (map (λ id. id.index) (take at ids))
   pub cause : (past : Id) → AtPoint start next (IsMarkRefusedAt start.config layer (slice_index_or ids at past) refused)
 
 -- why it was refused. No turn answers want of memory

@@ -4,8 +4,9 @@ use Rattle.std.specs.List.{IsDistinct}
 use Rattle.fixed_box.specs.FixBox.{words_of}
 use Rattle.fixed_box.specs.declared.fix_box.FixBox.{FixBox}
 use Rattle.body_ident.specs.Id.{Id}
+use Rattle.scene_model.specs.declared.body_view.Phase.TheVariants.{Out}
 use Rattle.scene_model.specs.declared.entry.Entry.TheVariants.{Mark, Unmark}
-use Rattle.scene_model.specs.Cause.{Cause, IsCauseAt, gone, held, already_in, wrong_layer}
+use Rattle.scene_model.specs.Cause.{Cause, HasIdBody, IsCauseAt, gone, held, already_in, wrong_layer}
 use Rattle.word_map.specs.declared.config.Config.{Config}
 use Rattle.word_map.specs.declared.name.Name.{Name}
 use Rattle.word_map.specs.declared.name.Name.TheVariants.{State, Phase, Layer, Slot, PoolFree}
@@ -112,11 +113,20 @@ marks_outcome view before batch bodies = record (idle view) {
   batches = before ++ (record batch { marked = map marked_as bodies }) ∷ [];
 }
 
--- the bodies of these ids, in order, are marked for the newest batch, which had none: each index once
+-- a batch of the layer may take the body that the id names: it is out of the broad phase, held for no batch, and in the layer
+abbrev pub IsFreeAt : Config → ℕ → Id → List Item → Type 0
+IsFreeAt c layer id log = HasIdBody (scene_at c log) id (λ r. (r.phase ≡ Out) × (r.layer ≡ layer))
+
+-- so was the body of each of these ids, each at a point of the call
+abbrev pub WereFree : ℕ → View → View → List Id → Type 0
+WereFree layer start next ids = All (λ id. AtPoint start next (IsFreeAt start.config layer id)) ids
+
+-- the bodies of these ids, in order, are marked for the newest batch, which had none: each index once, and each body was free
 pub record HasMarked (before : List Batch) (batch : Batch) (ids : List Id) (start next : View) (bodies : List (ℕ × FixBox)) : Type 0 where
   pub done : HasDone start next (marks_outcome start before batch bodies)
   pub indexes : map (λ b. b.0) bodies ≡ map (λ id. id.index) ids
   pub apart : AreApart bodies
+  pub each : WereFree batch.layer start next ids
 
 -- the cause of a refusal to mark, by the words that were read under the body's stripe. A slot word below 1024 is that of a
 -- slot whose batch is prepared

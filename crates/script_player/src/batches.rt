@@ -14,7 +14,7 @@ use script_text::Text;
 use std::alloc::{AllocError, Global};
 
 /// Those of the bodies that were created in a layer.
-fn in_layer(alloc: Global, bodies: &[Known], layer: u32) -> Result<Vec<Known>, AllocError>
+pub fn in_layer(alloc: Global, bodies: &[Known], layer: u32) -> Result<Vec<Known>, AllocError>
     ensures { IfOk result (λ part. part.items ≡ in_layer layer bodies.now) }
 {
     bodies

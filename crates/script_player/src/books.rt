@@ -148,7 +148,7 @@ impl Books {
     }
 
     /// The place of the prepared batch that has a name.
-    fn batch_place(&self, name: &Text) -> Option<usize>
+    pub fn batch_place(&self, name: &Text) -> Option<usize>
         ensures { result ≡ batch_place self.now name.now }
     {
         self.prepared

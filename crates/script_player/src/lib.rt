@@ -14,6 +14,7 @@ mod plain_player;
 mod playing;
 mod taking;
 
+pub use batches::in_layer;
 pub use bodies::Change;
 pub use books::{Attached, Batch, Books, Known};
 pub use host::Host;

@@ -1,6 +1,6 @@
 -- A change of the body of a name, as it is made on a shared world.
-use Rattle.std.proofs.Common.{◌≡◌, ℕ, ◌+◌, ◌≤◌, List, [], ◌∷◌, ◌++◌, Option, Some, None, refl, ap, sym, ◌∙◌, subst, arith}
-use Rattle.std.specs.Prelude.{fold, sum_by}
+use Rattle.std.proofs.Common.{◌≡◌, ℕ, ◌+◌, ◌≤◌, List, [], ◌∷◌, Option, Some, None, refl, ap, sym, ◌∙◌, subst, arith}
+use Rattle.std.specs.Prelude.{sum_by}
 use Rattle.std.proofs.lemmas.List.Sums.{sum_by-cons}
 use Rattle.scene_model.specs.declared.body_view.BodyView.{BodyView}
 use Rattle.scene_model.specs.declared.entry.Entry.{Entry}
@@ -19,7 +19,7 @@ use Rattle.script_player.specs.Body.{body_of, forbids, entry_of, make_change, ch
 use Rattle.script_player.proofs.Doing.{body_makes}
 use Rattle.world_host.specs.declared.serial_world.SerialWorld.{SerialWorld}
 use Rattle.world_host.specs.Alone.{scene_of, IsLone, MakesEntries, Leaves}
-use Rattle.world_host.specs.Answers.{Tries, ChangesAlone}
+use Rattle.world_host.specs.Answers.{Tries}
 use Rattle.world_host.specs.Counted.{created_by, destroyed_by, joined_by, removed_by, CountsLive, CountsInside, destroys, removes}
 use Rattle.word_map.specs.declared.config.Config.{Config}
 use Rattle.tree_query.specs.Finding.{room_of}

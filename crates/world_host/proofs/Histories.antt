@@ -1,8 +1,7 @@
 -- What a pass makes that is alone in its world: its entries are all that comes to the scene.
-use Rattle.std.proofs.Common.{◌≡◌, ℕ, List, [], ◌∷◌, ◌++◌, refl, ap, sym, ◌∙◌, subst}
+use Rattle.std.proofs.Common.{◌≡◌, ℕ, List, [], ◌∷◌, ◌++◌, refl, ap, ◌∙◌, subst}
 use Rattle.std.specs.Prelude.{fold}
 use Rattle.scene_model.specs.declared.entry.Entry.{Entry}
-use Rattle.scene_model.specs.declared.entry.Made.{Made}
 use Rattle.scene_model.specs.Scene.{Scene, empty_scene}
 use Rattle.scene_model.specs.Step.{after_entry}
 use Rattle.scene_model.specs.History.{scene_from, scene_after, IsLawfulFrom, IsLawfulHistory}
@@ -26,7 +25,7 @@ abbrev pub Sees : View → View → List Entry → Type 0
 Sees start next entries = (number : ℕ) × (history next.known ≡ history start.known ++ made_by_pass number entries)
 
 -- a scene goes on by entries, whoever made them
-scene-made : (number : ℕ) (entries : List Entry) (scene : Scene) → scene_from scene (made_by_pass number entries) ≡ fold after_entry scene entries
+pub scene-made : (number : ℕ) (entries : List Entry) (scene : Scene) → scene_from scene (made_by_pass number entries) ≡ fold after_entry scene entries
 scene-made number [] scene = refl
 scene-made number (entry ∷ later) scene = scene-made number later (after_entry scene entry)
 
@@ -48,7 +47,19 @@ seen-makes start next entries sizes lawful sees =
       config = sizes;
     }
 
--- ---- of a pass that has afterwards what it had
+-- ---- of the one pass of a world
+
+module _ (pass : Pass) (start : View) (one : start.config.passes ≡ 1) (sizes : (view_of pass).config ≡ start.config) (role : (view_of pass).role ≡ start.role) where
+  pub pass-own : KnowsOwn (view_of pass)
+  pass-own = knows-own (view_of pass) pass.number pass.numbered pass.current (ap (λ (c : Config). c.passes) sizes ∙ one)
+
+  pub pass-sees : (entries : List Entry) → Adds start (view_of pass) entries → Sees start (view_of pass) entries
+  pass-sees entries adds = (adds.number, sees-own start (view_of pass) entries adds.number adds.pass role adds pass-own)
+
+  pub pass-makes : (entries : List Entry) → Adds start (view_of pass) entries → MakesEntries start (view_of pass) entries
+  pass-makes entries adds = seen-makes start (view_of pass) entries sizes (knows-lawful (view_of pass) pass.current) (pass-sees entries adds)
+
+-- ---- where it has afterwards what it had
 
 module _ (pass : Pass) (start : View) (one : start.config.passes ≡ 1) (keeps : belongings_of (view_of pass) ≡ belongings_of start) where
   abbrev next : View
@@ -57,14 +68,17 @@ module _ (pass : Pass) (start : View) (one : start.config.passes ≡ 1) (keeps :
   same-sizes : next.config ≡ start.config
   same-sizes = ap (λ (b : Belongings). b.config) keeps
 
+  same-role : next.role ≡ start.role
+  same-role = ap (λ (b : Belongings). b.role) keeps
+
   pub alone-own : KnowsOwn next
-  alone-own = knows-own next pass.number pass.numbered pass.current (ap (λ (c : Config). c.passes) same-sizes ∙ one)
+  alone-own = pass-own pass start one same-sizes same-role
 
   pub alone-sees : (entries : List Entry) → Adds start next entries → Sees start next entries
-  alone-sees entries adds = (adds.number, sees-own start next entries adds.number adds.pass (ap (λ (b : Belongings). b.role) keeps) adds alone-own)
+  alone-sees entries adds = pass-sees pass start one same-sizes same-role entries adds
 
   pub alone-makes : (entries : List Entry) → Adds start next entries → MakesEntries start next entries
-  alone-makes entries adds = seen-makes start next entries same-sizes (knows-lawful next pass.current) (alone-sees entries adds)
+  alone-makes entries adds = pass-makes pass start one same-sizes same-role entries adds
 
   pub alone-leaves : (entries : List Entry) → Adds start next entries → Tells start next [] → Leaves start next entries
   alone-leaves entries adds tells = record { made = alone-makes entries adds; tells = tells; keeps = keeps }

@@ -1,6 +1,6 @@
 -- A right answer to a query at one point is the list of hits there.
-use Rattle.std.proofs.Common.{◌≡◌, ◌⊎◌, ℕ, zero, suc, ◌+◌, ◌<◌, ◌≤◌, List, [], ◌∷◌, ◌++◌, length, get_or, map, IsTrue, inl, inr, refl, ap, sym, ◌∙◌, subst, arith}
-use Rattle.std.specs.Prelude.{⊤, All, AllPairs, Contains, take}
+use Rattle.std.proofs.Common.{◌≡◌, ◌⊎◌, ℕ, zero, suc, ◌<◌, ◌≤◌, List, [], ◌∷◌, length, get_or, map, IsTrue, inl, inr, refl, ap, sym, ◌∙◌, subst, arith}
+use Rattle.std.specs.Prelude.{⊤, All, AllPairs, Contains}
 use Rattle.std.proofs.lemmas.List.{take_all, get_or-map, length-map, append-nil}
 use Rattle.std.proofs.lemmas.List.Kept.{AllPairs-from_increasing}
 use Rattle.std.specs.List.Sorted.{IsStrictlyIncreasing}
@@ -11,7 +11,6 @@ use Rattle.shape_test.specs.Touched.{is_touched}
 use Rattle.shape_test.proofs.Arrivals.{is_touched_decides}
 use Rattle.body_ident.specs.Id.{Id, id_of}
 use Rattle.scene_model.specs.declared.entry.Made.{Made}
-use Rattle.scene_model.specs.Scene.{Scene}
 use Rattle.scene_model.specs.Query.{hits}
 use Rattle.scene_model.specs.History.{Interval, point, scene_after, Fits, IsRightAnswer}
 use Rattle.scene_model.proofs.Hits.{hits_right}

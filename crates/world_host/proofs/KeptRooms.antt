@@ -1,9 +1,8 @@
 -- Calls that store no word of a slot and not that of the free nodes leave the room for batches as it is.
-use Rattle.std.proofs.Common.{◌≡◌, ℕ, ◌+◌, ◌<◌, Bool, true, false, cond, List, [], ◌∷◌, length, refl, ap, sym, ◌∙◌, subst}
+use Rattle.std.proofs.Common.{◌≡◌, ℕ, ◌+◌, ◌<◌, List, [], refl, ap, sym, ◌∙◌, subst}
 use Rattle.std.specs.Prelude.{fold, count_by, nat_lt}
 use Rattle.std.specs.List.{range_with_len}
 use Rattle.word_map.specs.declared.config.Config.{Config}
-use Rattle.word_map.specs.declared.name.Name.{Name}
 use Rattle.word_map.specs.declared.name.Name.TheVariants.{Slot, PoolFree}
 use Rattle.core_state.specs.declared.item.Store.{Store}
 use Rattle.core_state.specs.declared.view.View.{View}
@@ -13,7 +12,7 @@ use Rattle.pass_table.specs.Several.{KnowsOwn}
 use Rattle.pass_table.specs.Work.{Tells}
 use Rattle.tree_query.specs.Answers.{raised}
 use Rattle.script_player.specs.Books.{Books, slots_kept, nodes_kept}
-use Rattle.world_host.specs.Rooms.{slots_taken, nodes_free, HasRooms}
+use Rattle.world_host.specs.Rooms.{slots_taken, HasRooms}
 use Rattle.world_host.proofs.ToldWords.{store_after, word-told}
 
 -- the words that tell of the room are the same

@@ -5,7 +5,9 @@ pub mod Parts
 pub mod Changes
 pub mod Viewing
 pub mod ToldWords
+pub mod SlotCounts
 pub mod KeptRooms
+pub mod EndedBatches
 pub mod HitLists
 pub mod Queried
 pub mod LiveCounts
@@ -13,7 +15,14 @@ pub mod KnownNames
 pub mod Soundness
 pub mod Creating
 pub mod FewBodies
+pub mod BookCounts
+pub mod EndedTurns
 pub mod ChangedBodies
 pub mod NamedTurns
 pub mod ReadItems
+pub mod MarkedBodies
+pub mod TakenBatches
+pub mod TakenTurns
+pub mod AddedBatches
+pub mod AddedLayers
 pub mod OpenedWorlds

@@ -1,6 +1,6 @@
 -- How entries change the numbers of bodies that are live, and that are in the broad phase.
-use Rattle.std.proofs.Common.{◌≡◌, ◌≢◌, ℕ, ◌+◌, ◌<◌, ◌≤◌, Bool, true, false, cond, List, [], ◌∷◌, ◌++◌, length, Option, Some, None, refl, ap, sym, ◌∙◌, subst, arith}
-use Rattle.std.specs.Prelude.{All, Contains, sum_by, fold, is_some, option_map, nat_eq, IsNone, IsSome, IsSomeAnd, ◌==◌}
+use Rattle.std.proofs.Common.{◌≡◌, ◌≢◌, ℕ, ◌+◌, ◌<◌, false, cond, List, [], ◌∷◌, length, Option, Some, None, refl, ap, sym, ◌∙◌, subst, arith}
+use Rattle.std.specs.Prelude.{All, Contains, sum_by, fold, is_some, option_map, nat_eq, IsNone, IsSome, IsSomeAnd}
 use Rattle.std.specs.Option.{option_map_or}
 use Rattle.std.specs.List.{IsDistinct, AllByRecursion}
 use Rattle.std.proofs.lemmas.List.Sums.{sum_by-set, sum_by-append, sum_by-cons}
@@ -8,7 +8,6 @@ use Rattle.std.proofs.lemmas.List.Elements.{All-nil, All-cons, All-head, All-tai
 use Rattle.std.proofs.lemmas.Bool.{false≢true, eq-eqb}
 use Rattle.std.proofs.lemmas.Map.Keys.{IsDistinct-tail}
 use Rattle.std.proofs.lemmas.Option.{same_Some}
-use Rattle.fixed_box.specs.declared.fix_box.FixBox.{FixBox}
 use Rattle.scene_model.specs.declared.body_view.Phase.{Phase}
 use Rattle.scene_model.specs.declared.body_view.Phase.TheVariants.{Out, Held, In}
 use Rattle.scene_model.specs.declared.entry.Entry.{Entry}
@@ -20,7 +19,7 @@ use Rattle.scene_model.specs.Query.{live_count, in_count}
 use Rattle.scene_model.specs.Consistent.{IsConsistent}
 use Rattle.scene_model.proofs.Places.{live_used, place_at-with_body_other}
 use Rattle.scene_model.proofs.Histories.{IsConsistent-after_entry}
-use Rattle.core_state.proofs.Beginning.{body_record, record_body}
+use Rattle.core_state.proofs.Beginning.{body_record}
 use Rattle.world_host.specs.Alone.{AreLawful}
 use Rattle.world_host.specs.Counted.{created_by, destroyed_by, joined_by, removed_by, CountsLive, CountsInside}
 

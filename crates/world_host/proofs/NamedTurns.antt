@@ -1,15 +1,13 @@
 -- Turns of a script on a shared world.
-use Rattle.std.proofs.Common.{◌≡◌, ℕ, ◌+◌, ◌<◌, ◌≤◌, List, [], ◌∷◌, ◌++◌, Option, Some, None, refl, ap, sym, ◌∙◌, subst, arith, map}
+use Rattle.std.proofs.Common.{◌≡◌, ℕ, ◌+◌, ◌<◌, List, [], ◌∷◌, Option, Some, None, refl, ap, sym, ◌∙◌, subst, arith, map}
 use Rattle.std.specs.Prelude.{IfSome, option_map}
 use Rattle.fixed_box.specs.declared.fix_box.FixBox.{FixBox}
 use Rattle.fixed_box.specs.declared.shape.Shape.{Shape}
-use Rattle.shape_test.specs.Touched.{is_touched}
 use Rattle.body_ident.specs.Id.{Id}
 use Rattle.scene_model.specs.declared.body_view.BodyView.{BodyView}
 use Rattle.scene_model.specs.declared.entry.Entry.{Entry}
 use Rattle.scene_model.specs.declared.entry.Entry.TheVariants.{Create}
 use Rattle.scene_model.specs.Scene.{next_index}
-use Rattle.scene_model.specs.Query.{hits}
 use Rattle.word_map.specs.declared.config.Config.{Config}
 use Rattle.pass_table.specs.Passes.{view_of}
 use Rattle.tree_query.specs.Finding.{room_of, ids_of}

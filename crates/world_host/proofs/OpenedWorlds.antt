@@ -1,32 +1,29 @@
 -- A world that was just opened for a script.
-use Rattle.std.proofs.Common.{◌≡◌, ℕ, ◌+◌, ◌^◌, ◌<◌, ◌≤◌, min, false, cond, List, [], ◌∷◌, length, refl, ap, sym, ◌∙◌, subst, arith}
-use Rattle.std.specs.Prelude.{count_by, nat_lt, map, All, IfSome, slice_index_or}
+use Rattle.std.proofs.Common.{◌≡◌, ℕ, ◌^◌, ◌<◌, ◌≤◌, min, false, List, [], ◌∷◌, length, refl, ap, sym, ◌∙◌, subst, arith}
+use Rattle.std.specs.Prelude.{count_by, map, IfSome, slice_index_or}
 use Rattle.std.specs.List.{range_with_len}
 use Rattle.std.proofs.lemmas.List.Elements.{All-nil}
-use Rattle.scene_model.specs.Scene.{Scene, empty_scene}
+use Rattle.scene_model.specs.Scene.{empty_scene}
 use Rattle.scene_model.specs.Query.{live_count, in_count}
 use Rattle.word_map.specs.declared.config.Config.{Config}
-use Rattle.word_map.specs.declared.name.Name.TheVariants.{Slot}
 use Rattle.word_map.specs.Limits.{IsConfig}
 use Rattle.core_state.specs.declared.view.Role.TheVariants.{Pass as PassRole}
 use Rattle.core_state.specs.declared.view.View.{View}
-use Rattle.core_state.specs.View.{blank_view, known_word}
+use Rattle.core_state.specs.View.{blank_view}
 use Rattle.pass_table.specs.declared.pass.Pass.{Pass}
 use Rattle.pass_table.specs.declared.world.World.{World}
 use Rattle.pass_table.specs.Holding.{IsAtRest}
 use Rattle.pass_table.specs.Passes.{view_of}
 use Rattle.pass_table.specs.Opened.{IsFresh, AreAll}
 use Rattle.batch_add.specs.declared.prepared.Prepared.{Prepared}
-use Rattle.batch_add.specs.declared.prepared_list.PreparedList.{PreparedList}
 use Rattle.batch_add.specs.PreparedLists.{batches_of, AreGood}
-use Rattle.tree_query.specs.declared.finder.Finder.{Finder}
 use Rattle.tree_query.specs.Finding.{room_of}
 use Rattle.script_player.specs.Books.{Books, no_books}
-use Rattle.script_player.specs.Table.{Table, empty_table}
+use Rattle.script_player.specs.Table.{empty_table}
 use Rattle.world_host.specs.declared.serial_world.SerialWorld.{SerialWorld}
-use Rattle.world_host.specs.Alone.{scene_of, IsLone}
+use Rattle.world_host.specs.Alone.{scene_of}
 use Rattle.world_host.specs.Rooms.{HasRooms, AreTokens}
-use Rattle.world_host.specs.Shown.{table_of, AreNamesBelow, IsSound, Shows}
+use Rattle.world_host.specs.Shown.{AreNamesBelow, IsSound, Shows}
 
 -- the first of the passes of a world
 pub first-fresh : (world : World) (pass : Pass) (list rest : List Pass) → AreAll world list → list ≡ pass ∷ rest → IsFresh world 0 pass

@@ -1,7 +1,6 @@
 -- Calls of the one pass of a world, one after another.
 use Rattle.std.proofs.Common.{◌≡◌, List, [], ◌++◌, ap, ◌∙◌}
 use Rattle.scene_model.specs.declared.entry.Entry.{Entry}
-use Rattle.word_map.specs.declared.config.Config.{Config}
 use Rattle.core_state.specs.declared.view.View.{View}
 use Rattle.pass_table.specs.declared.pass.Pass.{Pass}
 use Rattle.pass_table.specs.declared.world.World.{World}

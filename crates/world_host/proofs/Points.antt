@@ -1,12 +1,14 @@
 -- What is so at a point of a call that nobody else acted beside, is so of the scene before it.
-use Rattle.std.proofs.Common.{◌≡◌, ℕ, suc, ◌+◌, List, [], ◌∷◌, ◌++◌, Option, Some, length, append_assoc, refl, ap, sym, ◌∙◌, subst, arith}
-use Rattle.std.specs.Prelude.{option_map}
+use Rattle.std.proofs.Common.{◌≡◌, ℕ, suc, List, [], ◌∷◌, ◌++◌, Option, Some, length, get_or, drop, append_assoc, refl, ap, sym, ◌∙◌, subst, arith}
+use Rattle.std.specs.Prelude.{option_map, fold}
 use Rattle.std.specs.List.{cons_option}
 use Rattle.std.proofs.lemmas.List.{append_cancel_left, append-nil, length-append}
 use Rattle.std.proofs.lemmas.List.Elements.{filter_map-append}
 use Rattle.scene_model.specs.declared.entry.Entry.{Entry}
 use Rattle.scene_model.specs.declared.entry.Made.{Made}
-use Rattle.scene_model.specs.Scene.{Scene}
+use Rattle.scene_model.specs.Scene.{Scene, empty_scene}
+use Rattle.scene_model.specs.Step.{after_entry}
+use Rattle.scene_model.proofs.Histories.{scene_from-append}
 use Rattle.scene_model.specs.History.{scene_after}
 use Rattle.core_state.specs.declared.item.Item.{Item}
 use Rattle.core_state.specs.declared.view.View.{View}
@@ -15,7 +17,7 @@ use Rattle.core_state.specs.Guards.{scene_at}
 use Rattle.pass_table.specs.Calls.{AtPoint, MakesAt}
 use Rattle.pass_table.specs.Several.{made_by_pass}
 use Rattle.world_host.specs.Alone.{scene_of}
-use Rattle.world_host.proofs.Histories.{Sees}
+use Rattle.world_host.proofs.Histories.{Sees, scene-made}
 
 none-long : {X : Type 0} (xs : List X) → length xs ≡ 0 → xs ≡ []
 none-long [] e = refl
@@ -58,3 +60,33 @@ made-before start next entry P sees at =
     let all : length (history at.since ++ history (at.item ∷ at.later)) ≡ 1 = ap length (made-between start next at.since (at.item ∷ at.later) (entry ∷ []) sees at.parts) in
     let more = one-more at.item entry at.later at.makes in
     subst P (scene-still start at.since (none-long (history at.since) (omega (arith, length-append (history at.since) (history (at.item ∷ at.later)), all, more)))) at.holds
+
+-- ---- a call that made several
+
+made-split : (number : ℕ) (entries : List Entry) (xs ys : List Made) → xs ++ ys ≡ made_by_pass number entries → (early : List Entry) × (late : List Entry) × (entries ≡ early ++ late) × (xs ≡ made_by_pass number early)
+made-split number entries [] ys e = ([], entries, refl, refl)
+made-split number [] (x ∷ xs) ys e = absurd cc
+made-split number (entry ∷ entries) (x ∷ xs) ys e =
+    let rest = made-split number entries xs ys (ap (drop 1) e) in
+    let first : x ≡ record { pass = number; entry = entry } = ap (λ (l : List Made). get_or l 0 x) e in
+    (entry ∷ rest.0, rest.1, ap (λ (l : List Entry). entry ∷ l) rest.2, λ i. first i ∷ rest.3 i)
+
+-- at its point the scene is that after the first of them
+pub record AfterFirst (start : View) (entries : List Entry) (since : List Item) : Type 0 where
+  pub early : List Entry
+  pub late : List Entry
+  pub parts : entries ≡ early ++ late
+  pub scene : scene_at start.config (start.known ++ since) ≡ fold after_entry (scene_of start) early
+
+pub point-after : (start next : View) (fact : List Item → Type 0) (at : AtPoint start next fact) (entries : List Entry) → Sees start next entries → AfterFirst start entries at.since
+point-after start next fact at entries sees =
+    let split = made-split sees.0 entries (history at.since) (history at.later) (made-between start next at.since at.later entries sees at.parts) in
+    let bodies = start.config.bodies in
+    record {
+      early = split.0;
+      late = split.1;
+      parts = split.2;
+      scene =
+          ap (scene_after bodies) (filter_map-append made_by start.known at.since ∙ ap (λ (l : List Made). history start.known ++ l) split.3)
+          ∙ (scene_from-append (empty_scene bodies) (history start.known) (made_by_pass sees.0 split.0) ∙ scene-made sees.0 split.0 (scene_of start));
+    }

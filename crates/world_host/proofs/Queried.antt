@@ -1,13 +1,11 @@
 -- A query beside which nobody acts.
-use Rattle.std.proofs.Common.{◌≡◌, ℕ, List, [], ◌∷◌, ◌++◌, ap, ◌∙◌}
+use Rattle.std.proofs.Common.{◌≡◌, ℕ, [], ap}
 use Rattle.fixed_box.specs.declared.shape.Shape.{Shape}
 use Rattle.core_state.specs.declared.view.View.{View}
 use Rattle.pass_table.specs.declared.pass.Pass.{Pass}
 use Rattle.pass_table.specs.Passes.{view_of}
 use Rattle.pass_table.specs.Belongings.{belongings_of}
-use Rattle.pass_table.specs.Calls.{Adds}
 use Rattle.pass_table.proofs.Working.{adds-then, tells-then}
-use Rattle.core_state.specs.declared.view.Role.{Role}
 use Rattle.tree_query.specs.declared.finder.Finder.{Finder}
 use Rattle.tree_query.specs.Finding.{ids_of}
 use Rattle.tree_query.specs.Answers.{HasQueried, raised}

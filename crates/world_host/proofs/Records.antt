@@ -1,8 +1,8 @@
 -- What a scene says of the body that an id names.
-use Rattle.std.proofs.Common.{◌≡◌, ◌%◌, ◌==◌, Bool, true, false, cond, Option, Some, None, refl, ap, sym, ◌∙◌, subst, eq-eqb, inl, inr}
+use Rattle.std.proofs.Common.{◌≡◌, ◌%◌, ◌==◌, Bool, cond, Option, Some, None, refl, ap, ◌∙◌, eq-eqb, inl, inr}
 use Rattle.std.specs.Prelude.{if◌then◌else◌, IsSomeAnd, option_map, option_and_then, ℕ}
 use Rattle.std.proofs.lemmas.Bool.Decides.{eqb_tells}
-use Rattle.body_ident.specs.Id.{Id, id_of}
+use Rattle.body_ident.specs.Id.{Id}
 use Rattle.scene_model.specs.declared.body_view.BodyView.{BodyView}
 use Rattle.scene_model.specs.Scene.{Scene, Record, record_at}
 use Rattle.scene_model.specs.Query.{view_of}

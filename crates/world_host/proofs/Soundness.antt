@@ -1,14 +1,12 @@
 -- What a shared world keeps to, from command to command.
-use Rattle.std.proofs.Common.{◌≡◌, ℕ, ◌+◌, ◌≤◌, List, [], ◌∷◌, ◌++◌, length, refl, ap, sym, ◌∙◌, subst, arith}
-use Rattle.std.specs.Prelude.{All, count_by, sum_by, fold, ◌==◌}
+use Rattle.std.proofs.Common.{◌≡◌, ℕ, ◌+◌, ◌≤◌, List, ap, sym, subst, arith}
+use Rattle.std.specs.Prelude.{count_by, sum_by, fold, ◌==◌}
 use Rattle.scene_model.specs.declared.entry.Entry.{Entry}
-use Rattle.scene_model.specs.Scene.{Scene}
 use Rattle.scene_model.specs.Step.{after_entry}
 use Rattle.scene_model.specs.Query.{live_count, in_count}
 use Rattle.scene_model.specs.Consistent.{IsConsistent}
 use Rattle.scene_model.proofs.Histories.{IsConsistent-scene_after}
 use Rattle.word_map.specs.declared.config.Config.{Config}
-use Rattle.core_state.specs.declared.view.View.{View}
 use Rattle.core_state.specs.Log.{history}
 use Rattle.pass_table.specs.declared.pass.Pass.{Pass}
 use Rattle.pass_table.specs.Passes.{view_of}
@@ -18,13 +16,11 @@ use Rattle.batch_add.specs.declared.prepared_list.PreparedList.{PreparedList}
 use Rattle.batch_add.specs.PreparedLists.{batches_of, AllGood}
 use Rattle.tree_query.specs.Finding.{room_of}
 use Rattle.script_player.specs.declared.books.Batch.{Batch}
-use Rattle.script_player.specs.declared.books.Attached.{Attached}
-use Rattle.script_player.specs.Books.{Books, slots_kept, nodes_kept}
-use Rattle.script_player.specs.Table.{Table, table_with}
+use Rattle.script_player.specs.Table.{table_with}
 use Rattle.world_host.specs.declared.serial_world.SerialWorld.{SerialWorld}
 use Rattle.world_host.specs.Alone.{scene_of, IsLone, MakesEntries}
 use Rattle.world_host.specs.Rooms.{HasRooms, AreTokens}
-use Rattle.world_host.specs.Counted.{created_by, destroyed_by, joined_by, removed_by, CountsLive, CountsInside}
+use Rattle.world_host.specs.Counted.{CountsLive, CountsInside}
 use Rattle.world_host.specs.Shown.{table_of, AreNamesBelow, IsSound}
 use Rattle.world_host.proofs.KeptRooms.{RoomStays, rooms-stay}
 use Rattle.world_host.proofs.LiveCounts.{live-counted, in-counted}
@@ -87,6 +83,21 @@ sound-stays a b entries sound goes stays = record {
   tokens = tokens-stay a b stays sound.tokens;
   names = stays.names;
   finder = subst (λ (n : ℕ). n ≤ room_of b.finder) (sym (ap (λ (c : Config). c.bodies) goes.sizes)) (subst (λ (n : ℕ). a.world.map.bodies ≤ n) (sym stays.finder) sound.finder);
+  live = live-goes a b entries goes sound.live;
+  inside = inside-goes a b entries goes sound.inside;
+}
+
+-- after a call on batches, where what is left of room and batches is what the books say
+pub sound-goes : (a b : SerialWorld) (entries : List Entry) → IsSound a → Goes a b entries → HasRooms (view_of b.pass) b.books → AreTokens b.books.prepared b.batches (view_of b.pass) → room_of b.finder ≡ room_of a.finder
+    → b.books.known ≡ a.books.known → IsSound b
+sound-goes a b entries sound goes rooms tokens finder known = record {
+  lone = goes.lone;
+  rooms = rooms;
+  tokens = tokens;
+  names =
+      subst (AreNamesBelow b.world.map.bodies) (sym known)
+      (subst (λ (n : ℕ). AreNamesBelow n a.books.known) (sym (ap (λ (c : Config). c.bodies) goes.sizes)) sound.names);
+  finder = subst (λ (n : ℕ). n ≤ room_of b.finder) (sym (ap (λ (c : Config). c.bodies) goes.sizes)) (subst (λ (n : ℕ). a.world.map.bodies ≤ n) (sym finder) sound.finder);
   live = live-goes a b entries goes sound.live;
   inside = inside-goes a b entries goes sound.inside;
 }

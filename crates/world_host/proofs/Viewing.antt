@@ -1,5 +1,5 @@
 -- A body under its lock, told of the scene before the lock was taken.
-use Rattle.std.proofs.Common.{◌≡◌, ℕ, List, [], ◌∷◌, ◌++◌, Option, Some, None, refl, ap, sym, ◌∙◌, subst}
+use Rattle.std.proofs.Common.{◌≡◌, ℕ, [], ◌∷◌, ◌++◌, Some, None, refl, ap, ◌∙◌, subst}
 use Rattle.body_ident.specs.Id.{Id}
 use Rattle.scene_model.specs.declared.body_view.BodyView.{BodyView}
 use Rattle.scene_model.specs.declared.entry.Entry.TheVariants.{SetUser}
@@ -17,7 +17,7 @@ use Rattle.pass_table.proofs.LockedBodies.{guarded-tells}
 use Rattle.body_lock.specs.Seeing.{IsSeenAt}
 use Rattle.script_player.specs.declared.bodies.Change.TheVariants as changes
 use Rattle.script_player.specs.Body.{body_of}
-use Rattle.world_host.specs.Alone.{scene_of, Leaves}
+use Rattle.world_host.specs.Alone.{scene_of}
 use Rattle.world_host.specs.Answers.{ChangesAlone}
 use Rattle.world_host.proofs.Points.{point-scene}
 use Rattle.world_host.proofs.Records.{seen-body}

@@ -1,5 +1,5 @@
 -- What calls answer that a pass makes alone in its world.
-use Rattle.std.specs.Prelude.{◌≡◌, ℕ, ◌+◌, List, [], ◌∷◌, Option, Some, None}
+use Rattle.std.specs.Prelude.{◌≡◌, ℕ, [], ◌∷◌, Option, None}
 use Rattle.fixed_box.specs.declared.fix_box.FixBox.{FixBox}
 use Rattle.fixed_box.specs.declared.shape.Shape.{Shape}
 use Rattle.shape_test.specs.Touched.{is_touched}
@@ -12,7 +12,7 @@ use Rattle.pass_table.specs.Belongings.{belongings_of}
 use Rattle.pass_table.specs.Work.{Tells}
 use Rattle.body_slots.specs.Answers.{IsNextId}
 use Rattle.tree_query.specs.declared.finder.Finder.{Finder}
-use Rattle.tree_query.specs.Finding.{ids_of, room_of}
+use Rattle.tree_query.specs.Finding.{ids_of}
 use Rattle.tree_query.specs.Answers.{raised}
 use Rattle.reply_text.specs.declared.refusal.Refusal.{Refusal}
 use Rattle.script_player.specs.declared.bodies.Change.{Change}

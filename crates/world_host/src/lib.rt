@@ -6,6 +6,9 @@
 //! It stands on the calls of a shared world, and on the meaning of scripts. The layer above uses that each command does its turn.
 #![tactic(auto)]
 
+mod adding;
+mod batches;
+mod batches_alone;
 mod bodies;
 mod bodies_alone;
 mod opening;

@@ -1,5 +1,5 @@
 -- What others' steps between two turns of marking bodies leave as it was.
-use Rattle.std.proofs.Common.{◌≡◌, ℕ, ◌<◌, List, [], ◌∷◌, ◌++◌, Bool, Option, Some, None, cond, refl, ap, sym, ◌∙◌, subst}
+use Rattle.std.proofs.Common.{◌≡◌, ℕ, ◌<◌, List, [], ◌∷◌, ◌++◌, Bool, Option, Some, None, cond, get_or, take, refl, ap, sym, ◌∙◌, subst}
 use Rattle.std.proofs.lemmas.Bool.{eq-eqb}
 use Rattle.std.proofs.lemmas.List.Elements.{All-get_or}
 use Rattle.std.proofs.lemmas.List.Sums.{fold-append}
@@ -14,6 +14,7 @@ use Rattle.core_state.specs.declared.view.LockStep.{LockStep}
 use Rattle.core_state.specs.declared.view.LockStep.TheVariants.{Taken as TakenStep}
 use Rattle.core_state.specs.declared.view.Batch.{Batch}
 use Rattle.core_state.specs.declared.view.View.{View}
+use Rattle.core_state.specs.Log.{IsPrefix}
 use Rattle.core_state.specs.View.{Holds, mode_of, mode_after}
 use Rattle.pass_table.specs.Knowing.{KnowsMore}
 use Rattle.pass_table.specs.Holding.{IsAtRest}
@@ -25,6 +26,7 @@ use Rattle.body_look.specs.stages.LookLater.{looking-later}
 use Rattle.batch_add.specs.declared.mark_op.MarkStage.{MarkStage}
 use Rattle.batch_add.specs.declared.mark_op.MarkStage.TheVariants.{Looking, Outside, Sides, Boxed, Leaving, Refusing}
 use Rattle.batch_add.specs.declared.mark_op.Marking.{Marking}
+use Rattle.batch_add.specs.Parts.{IsFreeAt, WereFree}
 use Rattle.batch_add.specs.stages.Marking.{Marks, current, marks_of, IsBegunFor, HasStripe, IsAtBody, KnowsOut, KnowsHere, KnowsSides, AtMark, IsMarking}
 use Rattle.pass_table.proofs.WorkLater.{worked-sizes, worked-pass, worked-mode, worked-more}
 
@@ -77,11 +79,20 @@ module _ (id : Id) (view next : View) (guarded : IsGuarded id view) (more : Know
   pub sides-later : (words : List ℕ) (loaded : ℕ) → KnowsSides id view words loaded → KnowsSides id next words loaded
   sides-later words loaded sides k below = word-stays id view next guarded more (BoxWord id.index k) refl ∙ sides k below
 
+-- bodies that were free at points of the call were so at points of it as it goes on
+pub were-later : (layer : ℕ) (start view next : View) (ids : List Id) → IsPrefix view.known next.known → WereFree layer start view ids → WereFree layer start next ids
+were-later layer start view next ids later were k d below = point-later start view next (IsFreeAt start.config layer (get_or ids k d)) later (were k d below)
+
 -- ---- stages
 
 module _ (layer slot : ℕ) (start : View) (before : List Batch) (batch : Batch) (marks : Marks) (begun : IsBegunFor layer slot start before batch marks) (view next : View) (more : KnowsMore view next) where
   stripe_later : (stripe : ℕ) → HasStripe start before batch marks stripe view → HasStripe start before batch marks stripe next
-  stripe_later stripe h = record { steps = h.steps; free = h.free; worked = worked-more start view next _ h.worked more }
+  stripe_later stripe h = record {
+    steps = h.steps;
+    free = h.free;
+    worked = worked-more start view next _ h.worked more;
+    each = were-later batch.layer start view next (take marks.marked marks.ids) (more.since, more.known) h.each;
+  }
 
   pub body-later : IsAtBody start before batch marks view → IsAtBody start before batch marks next
   body-later at = record { next = at.next; held = stripe_later (stripe_of start.config (current marks).index) at.held }
@@ -94,10 +105,10 @@ module _ (layer slot : ℕ) (start : View) (before : List Batch) (batch : Batch)
   stage_later look Outside h = (body-later h.0, out-later (current marks) view next (guarded_at h.0 h.1.0) more h.1)
   stage_later look (Sides words loaded) h =
       let guarded = guarded_at h.0 h.1.0.0 in
-      (body-later h.0, here-later (current marks) view next guarded more batch.layer h.1, h.2, h.3, sides-later (current marks) view next guarded more words loaded h.4)
+      (body-later h.0, here-later (current marks) view next guarded more batch.layer h.1, h.2, h.3, sides-later (current marks) view next guarded more words loaded h.4, point-later start view next _ (more.since, more.known) h.5)
   stage_later look (Boxed bounds) h =
       let guarded = guarded_at h.0 h.1.0.0 in
-      (body-later h.0, here-later (current marks) view next guarded more batch.layer h.1, sides-later (current marks) view next guarded more (words_of bounds) 6 h.2)
+      (body-later h.0, here-later (current marks) view next guarded more batch.layer h.1, sides-later (current marks) view next guarded more (words_of bounds) 6 h.2, point-later start view next _ (more.since, more.known) h.3)
   stage_later look (Leaving stripe) h = (stripe_later stripe h.0, h.1)
   stage_later look (Refusing refused) h = (body-later h.0, point-later start view next _ (more.since, more.known) h.1)
 

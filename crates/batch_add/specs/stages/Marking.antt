@@ -32,7 +32,7 @@ use Rattle.batch_add.specs.declared.mark_op.MarkStage.{MarkStage}
 use Rattle.batch_add.specs.declared.mark_op.MarkStage.TheVariants.{Looking, Outside, Sides, Boxed, Leaving, Refusing}
 use Rattle.batch_add.specs.declared.mark_op.Marking.{Marking}
 use Rattle.pass_table.specs.Work.{Work, HasWorked}
-use Rattle.batch_add.specs.Parts.{IsNewest, HasMarked, HasMarkedBefore, marks_outcome, IsMarkRefusedAt}
+use Rattle.batch_add.specs.Parts.{IsNewest, IsFreeAt, WereFree, HasMarked, HasMarkedBefore, marks_outcome, IsMarkRefusedAt}
 
 -- ---- what is marked
 
@@ -85,18 +85,20 @@ marks_work start before batch bodies steps =
     let done = marks_outcome start before batch bodies in
     record { steps = steps; task = Nothing; entries = done.entries; stores = done.stores; batches = done.batches; loose = done.loose; written = done.written; places = done.places }
 
--- they are marked, and no lock is held
+-- they are marked, each was free before, and no lock is held
 pub record IsBetween (start : View) (before : List Batch) (batch : Batch) (marks : Marks) (view : View) : Type 0 where
   pub next : marks.marked < length marks.ids
   pub steps : List LockStep
   pub free : IsFree steps
   pub worked : HasWorked start view (marks_work start before batch marks.bodies steps)
+  pub each : WereFree batch.layer start view (take marks.marked marks.ids)
 
 -- they are, and this stripe alone is held
 pub record HasStripe (start : View) (before : List Batch) (batch : Batch) (marks : Marks) (stripe : ℕ) (view : View) : Type 0 where
   pub steps : List LockStep
   pub free : IsFree steps
   pub worked : HasWorked start view (marks_work start before batch marks.bodies (steps ++ TakenStep stripe Write ∷ []))
+  pub each : WereFree batch.layer start view (take marks.marked marks.ids)
 
 -- it is that of the next body
 pub record IsAtBody (start : View) (before : List Batch) (batch : Batch) (marks : Marks) (view : View) : Type 0 where
@@ -136,8 +138,10 @@ AtMark start before batch marks view look Looking = IsAtLook start before batch 
 AtMark start before batch marks view look Outside = IsAtBody start before batch marks view × KnowsOut (current marks) view
 AtMark start before batch marks view look (Sides words loaded) =
     IsAtBody start before batch marks view × KnowsHere (current marks) batch.layer view × (loaded < 6) × (length words ≡ 6) × KnowsSides (current marks) view words loaded
+    × AtPoint start view (IsFreeAt start.config batch.layer (current marks))
 AtMark start before batch marks view look (Boxed bounds) =
     IsAtBody start before batch marks view × KnowsHere (current marks) batch.layer view × KnowsSides (current marks) view (words_of bounds) 6
+    × AtPoint start view (IsFreeAt start.config batch.layer (current marks))
 AtMark start before batch marks view look (Leaving stripe) = HasStripe start before batch marks stripe view × (stripe < start.config.stripes)
 AtMark start before batch marks view look (Refusing refused) =
     IsAtBody start before batch marks view × AtPoint start view (IsMarkRefusedAt start.config batch.layer (current marks) refused)

@@ -1,8 +1,4 @@
-use Rattle.std.proofs.Common.{[], ◌∷◌}
-use Rattle.scene_model.specs.declared.entry.Entry.TheVariants.{Create}
-use Rattle.scene_model.specs.Cause.{IsCauseAt, full}
 use Rattle.pass_table.specs.Passes.{view_of}
-use Rattle.world_host.proofs.Parts.{part-leaves}
 use Rattle.world_host.proofs.Creating.{was-created, was-full}
 use Rattle.world_host.proofs.bodies_alone.create_alone.Goals as goal
 

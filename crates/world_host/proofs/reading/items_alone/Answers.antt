@@ -1,7 +1,6 @@
-use Rattle.std.proofs.Common.{rules, List, ℕ, ◌+◌, sym, subst, ap, ◌∙◌}
+use Rattle.std.proofs.Common.{rules, List, ◌+◌, sym, subst, ap, ◌∙◌}
 use Rattle.pass_table.specs.Passes.{view_of}
 use Rattle.reply_text.specs.declared.multi.MultiItem.{MultiItem}
-use Rattle.script_player.specs.declared.books.Known.{Known}
 use Rattle.world_host.proofs.ReadItems.{HasRead, told_in, read_more}
 use Rattle.world_host.proofs.reading.items_alone.Goals as goal
 

@@ -1,10 +1,11 @@
 -- How a run ends.
 use Rattle.std.proofs.Common.{◌≡◌, ◌≢◌, ◌≤◌, ◌<◌, ◌+◌, ℕ, List, [], ◌∷◌, ◌++◌, map, length, get_or, Option, Some, None, String, string_bytes, ◌⊎◌, inl, inr, refl, ap, sym, subst, ◌∙◌, length-append, arith}
 use Rattle.std.specs.Global.{Global}
-use Rattle.world_io.specs.Bytes.{Gave, GaveAll}
+use Rattle.world_io.specs.Bytes.{Gave, GaveAll, Appended, AppendedPart}
 use Rattle.world_io.specs.Faults.{Rose}
 use Rattle.world_io.proofs.BytesLemmas.{GaveAll-told, Gave-nothing}
-use Rattle.broadphase.specs.Reading.{GaveAtMost}
+use Rattle.broadphase.specs.Reading.{GaveAtMost, ScriptRead}
+use Rattle.script_text.specs.declared.script.Script.{Script}
 use Rattle.script_text.specs.Line.{script_fault}
 use Rattle.broadphase.specs.declared.status.Status.{Status}
 use Rattle.broadphase.specs.declared.status.Status.TheVariants as statuses
@@ -12,7 +13,7 @@ use Rattle.broadphase.specs.declared.reading.TheConstants.{MAX_BYTES}
 use Rattle.broadphase.specs.declared.form.Form.{Form}
 use Rattle.broadphase.specs.Form.{form_of, Asks}
 use Rattle.broadphase.specs.declared.form.Form.TheVariants.{Play, Check}
-use Rattle.broadphase.specs.Ended.{AnsweredPart, WantedMemory, Ends}
+use Rattle.broadphase.specs.Ended.{Answered, AnsweredPart, WantedMemory, Ends, answer_text}
 
 -- one word
 pub only_word : (words : List (String Global)) (item : String Global) → 1 ≤ length words → length words < 2 → item ≡ get_or words 0 item → map string_bytes words ≡ string_bytes item ∷ []
@@ -103,3 +104,14 @@ stops form statuses.WriteFault left rest before after f f' k k' (rose, inl part)
 stops form statuses.WriteFault left rest before after f f' k k' (rose, inr part) = all_of_it left rest part.read.bytes part.read.all part.read.within
 stops form statuses.Memory left rest before after f f' k k' ends = at_most left rest ends.0
 stops form statuses.TooLong left rest before after f f' k k' ends = record { bytes = ends.0.bytes; gave = ends.0.gave; bound = omega (arith, ends.0.exact) }
+
+-- a script was read, which wrote nothing, and then this was written of it
+pub answered : (form : Form) (script : Script) (left rest before mid after : Option (List ℕ)) → ScriptRead left rest script → mid ≡ before → Appended mid after (answer_text form script)
+    → Answered form left rest before after
+answered form script left rest before mid after read same wrote =
+    record { script = script; read = read; wrote = subst (λ (o : Option (List ℕ)). Appended o after (answer_text form script)) same wrote }
+
+pub answered_part : (form : Form) (script : Script) (left rest before mid after : Option (List ℕ)) → ScriptRead left rest script → mid ≡ before → AppendedPart mid after (answer_text form script)
+    → AnsweredPart form left rest before after
+answered_part form script left rest before mid after read same wrote =
+    record { script = script; read = read; wrote = subst (λ (o : Option (List ℕ)). AppendedPart o after (answer_text form script)) same wrote }

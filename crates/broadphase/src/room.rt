@@ -2,7 +2,7 @@ ghost use Rattle.std.specs.Prelude.{◌≡◌, true};
 
 /// Where a run leaves what is proved of it: the world that it opened, its passes and its spans.
 ///
-/// Until a script is played on a shared world there is nothing to leave, and a room is always empty.
+/// No run leaves anything in it yet, so a room is always empty.
 #[derive(Debug, Drop)]
 pub struct Room;
 

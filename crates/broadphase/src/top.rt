@@ -1,11 +1,11 @@
 //! The top call.
-ghost use Rattle.std.specs.Prelude.{◌≡◌, ◌≤◌, ◌↔◌, ◌+◌, ◌⊎◌, ℕ, Option, List, Some, None, OnOk, OnErr, IfOk, IsErrOf, length, codes};
+ghost use Rattle.std.specs.Prelude.{◌≡◌, ◌≤◌, ◌↔◌, ◌+◌, ◌⊎◌, ℕ, Option, List, Some, None, OnOk, OnErr, IfOk, IfErr, IsErrOf, length, codes};
 ghost use Rattle.world_io.specs.Bytes.{Appended, AppendedPart};
 ghost use Rattle.world_io.specs.Faults.{Rose};
 ghost use Rattle.script_text.specs.Line.{script_fault};
-ghost use Rattle.broadphase.specs.Reading.{GaveCount, GaveAtMost};
+ghost use Rattle.broadphase.specs.Reading.{GaveCount, GaveAtMost, ScriptRead};
 ghost use Rattle.broadphase.specs.Form.{Asks, AskNothing};
-ghost use Rattle.broadphase.specs.Ended.{Answered, AnsweredPart, Refused, RefusedPart, WantedMemory, CountsReads, Ends, answer_text, fault_text, code_text};
+ghost use Rattle.broadphase.specs.Ended.{Answered, AnsweredPart, Refused, RefusedPart, WantedMemory, CountsReads, Ends, fault_text, code_text};
 ghost use Rattle.broadphase.specs.declared.reading.TheConstants.{MAX_BYTES};
 
 use crate::form::{Form, form_of};
@@ -18,6 +18,7 @@ use itoa::Buffer;
 use script_player::PlayFault;
 use script_text::{Code, Script};
 use std::alloc::{AllocError, Global};
+use std::sync::Wait;
 use world_io::{Gate, Sink, Source};
 
 /// The word of a code.
@@ -67,59 +68,45 @@ fn refuse<K: Sink>(alloc: Global, line: u32, code: Code, sink: &mut K) -> Result
     Ok(())
 }
 
-/// Writes `ok`.
-#[tactic(auto, using(script_player::proofs::Writing::nothing_written))]
-fn tell_ok<K: Sink>(sink: &mut K) -> Result<(), PlayFault>
-    ensures ok { OnOk result (Appended (K.contents sink.old) (K.contents sink.new) (codes "ok\n")) }
-    ensures part { OnErr result (AppendedPart (K.contents sink.old) (K.contents sink.new) (codes "ok\n")) }
-    ensures fault { IsErrOf result PlayFault.Write → Rose (K.faults sink.old) (K.faults sink.new) }
-    ensures memory { ¬ IsErrOf result PlayFault.Memory }
-    ensures counted { K.faults sink.old ≤ K.faults sink.new }
-{
-    write_all(sink, b"ok\n")?;
-    Ok(())
-}
-
-/// Writes what a command has to say of a script.
-fn answer<K: Sink>(
+/// The script that a source gives; where it gives none, how the run ends, with the line of a bad script written.
+fn script_of<S: Source, K: Sink>(
     alloc: Global,
-    form: Form,
-    script: &Script,
+    source: &mut S,
     sink: &mut K,
-) -> Result<(), PlayFault>
-    ensures ok { OnOk result (Appended (K.contents sink.old) (K.contents sink.new) (answer_text form script.now)) }
-    ensures part { OnErr result (AppendedPart (K.contents sink.old) (K.contents sink.new) (answer_text form script.now)) }
-    ensures fault { IsErrOf result PlayFault.Write → Rose (K.faults sink.old) (K.faults sink.new) }
-    ensures memory { form ≡ Form.Check → ¬ IsErrOf result PlayFault.Memory }
-    ensures counted { K.faults sink.old ≤ K.faults sink.new }
+) -> Result<Script, Status>
+    ensures script { IfOk result (λ script. ScriptRead (S.left source.old) (S.left source.new) script × (K.contents sink.new ≡ K.contents sink.old)) }
+    ensures ends { (form : Form) → IfErr result (λ status. Ends form status (S.left source.old) (S.left source.new) (K.contents sink.old) (K.contents sink.new)
+        (S.faults source.old) (S.faults source.new) (K.faults sink.old) (K.faults sink.new)) }
+    ensures reads { IfErr result (λ status. CountsReads status (S.faults source.old) (S.faults source.new)) }
+    ensures none { IfOk result (λ _. S.faults source.new ≡ S.faults source.old) }
+    ensures counted { (S.faults source.old ≤ S.faults source.new) × (K.faults sink.old ≤ K.faults sink.new) }
 {
-    match form {
-        Form::Play => play(alloc, script, sink),
-        Form::Check => tell_ok(sink),
+    match run_parse(alloc, source, false) {
+        Ok(script) => Ok(script),
+        Err(ParseEnd::BadScript { line, code }) => match refuse(alloc, line, code, sink) {
+            Ok(()) => Err(Status::BadScript),
+            Err(PlayFault::Write) => Err(Status::WriteFault),
+            Err(PlayFault::Memory) => Err(Status::Memory),
+        },
+        Err(ParseEnd::ReadFault) => Err(Status::ReadFault),
+        Err(ParseEnd::TooLong) => Err(Status::TooLong),
+        Err(ParseEnd::Memory) => Err(Status::Memory),
     }
 }
 
-/// Reads a script, and writes what the command has to say of it.
-fn carry_out<S: Source, K: Sink>(alloc: Global, form: Form, source: &mut S, sink: &mut K) -> Status
-    ensures ends { Ends form result (S.left source.old) (S.left source.new) (K.contents sink.old) (K.contents sink.new)
+/// Reads a script and writes `ok`.
+fn check_script<S: Source, K: Sink>(alloc: Global, source: &mut S, sink: &mut K) -> Status
+    ensures ends { Ends Form.Check result (S.left source.old) (S.left source.new) (K.contents sink.old) (K.contents sink.new)
         (S.faults source.old) (S.faults source.new) (K.faults sink.old) (K.faults sink.new) }
     ensures reads { CountsReads result (S.faults source.old) (S.faults source.new) }
     ensures counted { (S.faults source.old ≤ S.faults source.new) × (K.faults sink.old ≤ K.faults sink.new) }
 {
-    match run_parse(alloc, source, false) {
-        Ok(script) => match answer(alloc, form, &script, sink) {
+    match script_of(alloc, source, sink) {
+        Ok(_script) => match write_all(sink, b"ok\n") {
             Ok(()) => Status::Done,
-            Err(PlayFault::Write) => Status::WriteFault,
-            Err(PlayFault::Memory) => Status::Memory,
+            Err(_) => Status::WriteFault,
         },
-        Err(ParseEnd::BadScript { line, code }) => match refuse(alloc, line, code, sink) {
-            Ok(()) => Status::BadScript,
-            Err(PlayFault::Write) => Status::WriteFault,
-            Err(PlayFault::Memory) => Status::Memory,
-        },
-        Err(ParseEnd::ReadFault) => Status::ReadFault,
-        Err(ParseEnd::TooLong) => Status::TooLong,
-        Err(ParseEnd::Memory) => Status::Memory,
+        Err(status) => status,
     }
 }
 
@@ -145,39 +132,58 @@ pub fn run_check<S: Source, K: Sink>(alloc: Global, source: &mut S, sink: &mut K
         → ¬ Rose (S.faults source.old) (S.faults source.new) → ¬ Rose (K.faults sink.old) (K.faults sink.new)
         → ¬ (script_fault bytes ≡ None) → (result ≡ Status.BadScript) ⊎ (result ≡ Status.Memory) }
 {
-    carry_out(alloc, Form::Check, source, sink)
+    check_script(alloc, source, sink)
 }
 
-/// Reads a script, plays it on the plain scene and writes its report.
-fn run_play<S: Source, K: Sink>(alloc: Global, source: &mut S, sink: &mut K) -> Status
+/// Reads a script, plays it on a shared world and writes its report.
+fn play_script<R: Wait, S: Source, K: Sink>(
+    rt: &R,
+    alloc: Global,
+    source: &mut S,
+    sink: &mut K,
+) -> Status
     ensures ends { Ends Form.Play result (S.left source.old) (S.left source.new) (K.contents sink.old) (K.contents sink.new)
         (S.faults source.old) (S.faults source.new) (K.faults sink.old) (K.faults sink.new) }
     ensures reads { CountsReads result (S.faults source.old) (S.faults source.new) }
     ensures counted { (S.faults source.old ≤ S.faults source.new) × (K.faults sink.old ≤ K.faults sink.new) }
 {
-    carry_out(alloc, Form::Play, source, sink)
+    match script_of(alloc, source, sink) {
+        Ok(script) => match play(rt, alloc, &script, sink) {
+            Ok(()) => Status::Done,
+            Err(PlayFault::Write) => Status::WriteFault,
+            Err(PlayFault::Memory) => Status::Memory,
+        },
+        Err(status) => status,
+    }
 }
 
 /// Carries out a command of the program.
-fn run_form<S: Source, K: Sink>(alloc: Global, form: Form, source: &mut S, sink: &mut K) -> Status
+fn run_form<R: Wait, S: Source, K: Sink>(
+    rt: &R,
+    alloc: Global,
+    form: Form,
+    source: &mut S,
+    sink: &mut K,
+) -> Status
     ensures ends { Ends form result (S.left source.old) (S.left source.new) (K.contents sink.old) (K.contents sink.new)
         (S.faults source.old) (S.faults source.new) (K.faults sink.old) (K.faults sink.new) }
     ensures reads { CountsReads result (S.faults source.old) (S.faults source.new) }
     ensures counted { (S.faults source.old ≤ S.faults source.new) × (K.faults sink.old ≤ K.faults sink.new) }
 {
     match form {
-        Form::Play => run_play(alloc, source, sink),
+        Form::Play => play_script(rt, alloc, source, sink),
         Form::Check => run_check(alloc, source, sink),
     }
 }
 
 /// Runs the program on the words of its command line, without its own name.
 ///
-/// `play` reads a script from the source, plays it on the plain scene and writes the report to the sink, a line for
-/// each reply as soon as it is known. `check` reads a script and writes `ok`. Reading stops at the end of the source
-/// or at byte 8,388,609. Every other words are `Usage`. The gate is called by workers alone, of which there are none
-/// yet, and the room stays empty until there is a shared world to leave in it.
-pub fn run<S: Source, K: Sink, G: Gate>(
+/// `play` reads a script from the source, opens a shared world of its sizes, plays it there and writes the report to the
+/// sink, a line for each reply as soon as it is known. The report is the one that the plain scene prints. `check` reads a
+/// script and writes `ok`. Reading stops at the end of the source or at byte 8,388,609. Every other words are `Usage`.
+/// The gate is called by workers alone, of which there are none yet, and the world is not left in the room yet.
+pub fn run<R: Wait, S: Source, K: Sink, G: Gate>(
+    rt: &R,
     alloc: Global,
     words: &[String],
     source: &mut S,
@@ -217,6 +223,6 @@ pub fn run<S: Source, K: Sink, G: Gate>(
 {
     match form_of(words) {
         None => Status::Usage,
-        Some(form) => run_form(alloc, form, source, sink),
+        Some(form) => run_form(rt, alloc, form, source, sink),
     }
 }

@@ -36,7 +36,7 @@ fn other_words_are_no_command(rt: HostRuntime) -> Result<(), Fail> {
     ] {
         let mut source = source_of(rt.alloc(), SCRIPT, &[], MANY)?;
         let mut sink = sink_of(rt.alloc(), &[], MANY, MANY)?;
-        let ended = run_words(rt.alloc(), words, &mut source, &mut sink)?;
+        let ended = run_words(&rt, rt.alloc(), words, &mut source, &mut sink)?;
         assert_eq!(rt; ended, Status::Usage, "{words:?}");
         assert_eq!(rt; sink.contents(), b"".as_slice(), "{words:?}");
         let rest = read_all(rt.alloc(), &mut source, MANY);
@@ -54,7 +54,7 @@ fn checks_a_script(rt: HostRuntime) -> Result<(), Fail> {
     ] {
         let mut source = source_of(rt.alloc(), script, &[], 3)?;
         let mut sink = sink_of(rt.alloc(), &[], 1, MANY)?;
-        let ended = run_words(rt.alloc(), &["check"], &mut source, &mut sink)?;
+        let ended = run_words(&rt, rt.alloc(), &["check"], &mut source, &mut sink)?;
         assert_eq!(rt; ended, status, "{script:?}");
         assert_eq!(rt; sink.contents(), text, "{script:?}");
         let mut source = source_of(rt.alloc(), script, &[], MANY)?;
@@ -82,7 +82,7 @@ fn reads_a_script_up_to_the_limit(rt: HostRuntime) -> Result<(), Fail> {
         let bytes = vec![in rt.alloc(); b'#'; count]?;
         let mut source = MemSource::new(bytes, Vec::new(rt.alloc()), MOST_BYTES);
         let mut sink = sink_of(rt.alloc(), &[], MANY, MANY)?;
-        let ended = run_words(rt.alloc(), &["play"], &mut source, &mut sink)?;
+        let ended = run_words(&rt, rt.alloc(), &["play"], &mut source, &mut sink)?;
         assert_eq!(rt; ended, status, "of {count}");
         assert_eq!(rt; sink.contents(), report, "of {count}");
         let rest = read_all(rt.alloc(), &mut source, MANY);

@@ -5,6 +5,7 @@ use broadphase::Status;
 use std::alloc::Global;
 use std::io::{self, Read};
 use std::process::Abort;
+use std::sync::Wait;
 use std::test::Fail;
 use world_io::{Source, StdSource};
 
@@ -13,7 +14,7 @@ fn pieces_change_nothing(rt: HostRuntime) -> Result<(), Fail> {
     for at_most in [1, 2, 7] {
         let mut source = source_of(rt.alloc(), SCRIPT, &[], at_most)?;
         let mut sink = sink_of(rt.alloc(), &[], at_most, MANY)?;
-        let ended = run_words(rt.alloc(), &["play"], &mut source, &mut sink)?;
+        let ended = run_words(&rt, rt.alloc(), &["play"], &mut source, &mut sink)?;
         assert_eq!(rt; ended, Status::Done, "pieces of {at_most}");
         assert_eq!(rt; sink.contents(), REPORT, "pieces of {at_most}");
     }
@@ -26,7 +27,7 @@ fn stops_where_a_read_fails(rt: HostRuntime) -> Result<(), Fail> {
     for call in 1..=8 {
         let mut source = source_of(rt.alloc(), SCRIPT, &[call], 10)?;
         let mut sink = sink_of(rt.alloc(), &[], MANY, MANY)?;
-        let ended = run_words(rt.alloc(), &["play"], &mut source, &mut sink)?;
+        let ended = run_words(&rt, rt.alloc(), &["play"], &mut source, &mut sink)?;
         assert_eq!(rt; ended, Status::ReadFault, "at call {call}");
         assert_eq!(rt; sink.contents(), b"".as_slice(), "at call {call}");
     }
@@ -34,8 +35,8 @@ fn stops_where_a_read_fails(rt: HostRuntime) -> Result<(), Fail> {
 }
 
 /// A sink that takes one byte at a time keeps those before the call that fails.
-fn assert_stops(
-    rt: &impl Abort,
+fn assert_stops<R: Abort + Wait>(
+    rt: &R,
     alloc: Global,
     script: &[u8],
     report: &[u8],
@@ -43,16 +44,16 @@ fn assert_stops(
 ) -> Result<(), Fail> {
     for before in 0..calls {
         let mut sink = sink_of(alloc, &[before.saturating_add(1)], 1, MANY)?;
-        let ended = play_script(alloc, script, &mut sink)?;
+        let ended = play_script(rt, alloc, script, &mut sink)?;
         assert_eq!(rt; ended, Status::WriteFault, "after {before} calls");
         assert_eq!(rt; sink.contents(), front(report, before));
         let mut sink = sink_of(alloc, &[], MANY, before as usize)?;
-        let ended = play_script(alloc, script, &mut sink)?;
+        let ended = play_script(rt, alloc, script, &mut sink)?;
         assert_eq!(rt; ended, Status::WriteFault, "with room for {before}");
         assert_eq!(rt; sink.contents(), front(report, before));
     }
     let mut sink = sink_of(alloc, &[calls.saturating_add(1)], 1, calls as usize)?;
-    assert!(rt; play_script(alloc, script, &mut sink)? != Status::WriteFault);
+    assert!(rt; play_script(rt, alloc, script, &mut sink)? != Status::WriteFault);
     assert_eq!(rt; sink.contents(), report);
     Ok(())
 }
@@ -68,7 +69,7 @@ fn stops_where_a_write_fails(rt: HostRuntime) -> Result<(), Fail> {
 #[test]
 fn a_reply_is_one_piece(rt: HostRuntime) -> Result<(), Fail> {
     let mut sink = sink_of(rt.alloc(), &[2], MANY, MANY)?;
-    let ended = play_script(rt.alloc(), SCRIPT, &mut sink)?;
+    let ended = play_script(&rt, rt.alloc(), SCRIPT, &mut sink)?;
     assert_eq!(rt; ended, Status::WriteFault);
     assert_eq!(rt; sink.contents(), b"id 0:1\n".as_slice());
     Ok(())

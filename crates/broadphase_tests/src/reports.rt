@@ -71,7 +71,7 @@ fn sequence_numbers_come_round(rt: HostRuntime) -> Result<(), Fail> {
     report.push_str("id 0:1\nbody 0:1 0 0 0 0 1 1 1 257 out\nend live 1 in 0\n")?;
     let mut source = source_of(rt.alloc(), script.as_bytes(), &[], 100_000)?;
     let mut sink = sink_of(rt.alloc(), &[], MANY, 100_000)?;
-    let ended = run_words(rt.alloc(), &["play"], &mut source, &mut sink)?;
+    let ended = run_words(&rt, rt.alloc(), &["play"], &mut source, &mut sink)?;
     assert_eq!(rt; ended, Status::Done);
     assert_eq!(rt; sink.contents(), report.as_bytes());
     Ok(())

@@ -5,6 +5,7 @@ ghost use Rattle.std.specs.Prelude.{◌<◌};
 use broadphase::{Room, Status, run};
 use std::alloc::Global;
 use std::process::Abort;
+use std::sync::Wait;
 use std::test::Fail;
 use world_io::{MemSink, MemSource, NoGate};
 
@@ -43,6 +44,7 @@ pub(crate) fn sink_of(
 }
 
 pub(crate) fn run_words(
+    rt: &impl Wait,
     alloc: Global,
     words: &[&str],
     source: &mut MemSource,
@@ -52,29 +54,30 @@ pub(crate) fn run_words(
     for word in words {
         all.push(String::from_str(alloc, word)?)?;
     }
-    Ok(run(alloc, &all, source, sink, &NoGate, &mut Room::new()))
+    Ok(run(rt, alloc, &all, source, sink, &NoGate, &mut Room::new()))
 }
 
 /// Plays a script from a source with no faults.
 pub(crate) fn play_script(
+    rt: &impl Wait,
     alloc: Global,
     script: &[u8],
     sink: &mut MemSink,
 ) -> Result<Status, Fail> {
     let mut source = source_of(alloc, script, &[], MANY)?;
-    run_words(alloc, &["play"], &mut source, sink)
+    run_words(rt, alloc, &["play"], &mut source, sink)
 }
 
 /// How a run on a script ends, and what it writes.
-pub(crate) fn assert_plays(
-    rt: &impl Abort,
+pub(crate) fn assert_plays<R: Abort + Wait>(
+    rt: &R,
     alloc: Global,
     script: &[u8],
     status: Status,
     report: &[u8],
 ) -> Result<(), Fail> {
     let mut sink = sink_of(alloc, &[], MANY, MANY)?;
-    let ended = play_script(alloc, script, &mut sink)?;
+    let ended = play_script(rt, alloc, script, &mut sink)?;
     assert_eq!(rt; ended, status, "{script:?}");
     assert_eq!(rt; sink.contents(), report, "{script:?}");
     Ok(())
@@ -98,7 +101,11 @@ fn with_ends(alloc: Global, text: &str) -> Result<Vec<u8>, Fail> {
 
 /// Plays the scripts of a table, none of which is a bad one. Each stands in a row of its own before its report, and a
 /// bar stands for the end of a line.
-pub(crate) fn assert_reports(rt: &impl Abort, alloc: Global, table: &str) -> Result<(), Fail> {
+pub(crate) fn assert_reports<R: Abort + Wait>(
+    rt: &R,
+    alloc: Global,
+    table: &str,
+) -> Result<(), Fail> {
     for row in table.lines() {
         let (script, report) = row.split_once(" => ").ok_or("a row without a report")?;
         let script = with_ends(alloc, script)?;

@@ -31,6 +31,7 @@ fn main(rt: HostRuntime) -> ExitCode {
     let mut sink = StdSink::new(rt.stdout());
     let mut room = Room::new();
     let status = run(
+        &rt,
         rt.alloc(),
         words.as_slice(),
         &mut source,

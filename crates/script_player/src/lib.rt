@@ -18,5 +18,5 @@ pub use batches::in_layer;
 pub use bodies::Change;
 pub use books::{Attached, Batch, Books, Known};
 pub use host::Host;
-pub use plain_player::PlainPlayer;
+pub use plain_player::{PlainPlayer, outcome};
 pub use playing::{PlayFault, play};

@@ -45,7 +45,7 @@ impl Model for PlainPlayer {
 }
 
 /// The reply to a command that is carried out or refused.
-fn outcome(refusal: Option<Refusal>) -> Reply
+pub fn outcome(refusal: Option<Refusal>) -> Reply
     ensures { result ≡ outcome refusal }
 {
     match refusal {

@@ -11,10 +11,13 @@ mod batches;
 mod batches_alone;
 mod bodies;
 mod bodies_alone;
+mod host;
 mod opening;
 mod query_alone;
 mod reading;
 mod serial_world;
+mod turns;
 mod users_alone;
 
+pub use host::WorldHost;
 pub use serial_world::SerialWorld;

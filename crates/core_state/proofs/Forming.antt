@@ -28,9 +28,10 @@ use Rattle.core_state.specs.Core.{Core, IsViewAt, opening}
 use Rattle.core_state.specs.Operation.{stores}
 use Rattle.core_state.specs.Kind.{Kind, Asking, Step, IsAllowed, Steps, found_by, left_by, item_of, gained_by, log_after, view_after, after_step}
 use Rattle.core_state.specs.Seats.{Opens, Visits, Joins, after_split, visitor_of, joined_view, spent_view}
-use Rattle.core_state.specs.Event.{Event, opens_pass, splits_visitor, joins_visitor, looks, of_locks, of_lists, of_bodies, of_batches, of_pool, of_walks, of_moves, LockEvent, loads_lock, takes_read, takes_write, releases, ListEvent, loads_list, stores_link, stores_head, BodyEvent, stores_field, creates, destroys, loads_body, sets_user, BatchEvent, loads_slot, reserves, marks, stores_node, places, attaches, takes_back, unmarks, lets_slot_go, PoolEvent, stores_pool_link, stores_pool_head, stores_pool_count, WalkEvent, begins_walk, ends_walk, walks_slot, walks_main, walks_child, walks_bound, MoveEvent, widens_low, widens_high, loads_parent, stores_side, stores_last_side, Run, begins, goes_on, of_removals, RemovalEvent, removes, clears_entry, clears_location}
+use Rattle.core_state.specs.Event.{Event, opens_pass, splits_visitor, joins_visitor, looks, of_locks, of_lists, of_bodies, of_batches, of_pool, of_walks, of_moves, LockEvent, loads_lock, takes_read, takes_write, releases, ListEvent, loads_list, stores_link, stores_head, BodyEvent, stores_field, creates, destroys, loads_body, sets_user, BatchEvent, loads_slot, reserves, marks, stores_node, places, attaches, takes_back, unmarks, lets_slot_go, PoolEvent, stores_pool_link, stores_pool_head, stores_pool_count, WalkEvent, begins_walk, ends_walk, walks_slot, walks_main, walks_child, walks_bound, MoveEvent, widens_low, widens_high, loads_parent, stores_side, stores_last_side, Run, begins, goes_on, of_removals, RemovalEvent, removes, clears_entry, clears_location, of_updates}
 use Rattle.core_state.specs.Formed.{IsMadeOn, IsSoundItem, HasNumbers, AreApart, IsSoundView, IsFormed}
 use Rattle.std.proofs.lemmas.Option.{same_Some, none-some}
+use Rattle.core_state.proofs.Cases.{update-case}
 use Rattle.core_state.proofs.Lookups.{at_set, at_push}
 use Rattle.core_state.proofs.Fitting.{word-fits, result_of-fits}
 use Rattle.core_state.proofs.Prefixes.{IsPrefix-refl, IsPrefix-more, longer-covers}
@@ -431,6 +432,7 @@ IsFormed-event before after (of_pool e) formed = IsFormed-pool before after e fo
 IsFormed-event before after (of_walks e) formed = IsFormed-walks before after e formed
 IsFormed-event before after (of_moves e) formed = IsFormed-moves before after e formed
 IsFormed-event before after (of_removals e) formed = IsFormed-removals before after e formed
+IsFormed-event before after (of_updates e) formed = update-case before after (λ asks kind none made. IsFormed-steps asks kind before after (says-nothing kind none) made formed) e
 
 -- the only seat of the opening
 opening-only : (c : Config) (seat : ℕ) (view : View) → IsViewAt (opening c) seat view → (seat ≡ 0) × (blank_view c (Pass 0 (c.passes - 1)) ≡ view)

@@ -3,6 +3,7 @@ pub mod Reading
 pub mod Lookups
 pub mod Fitting
 pub mod Prefixes
+pub mod Cases
 pub mod Steps
 pub mod Forming
 pub mod Frames

@@ -13,7 +13,8 @@ use Rattle.core_state.specs.Core.{Core, word_of, IsViewAt}
 use Rattle.core_state.specs.Operation.{Operation, load, store, exchange, compare_exchange, fetch_add, fetch_min, fetch_max, stores, result_of}
 use Rattle.core_state.specs.Kind.{Kind, Asking, Step, Steps, found_by, left_by, item_of, gained_by, log_after, view_after, after_step}
 use Rattle.core_state.specs.Seats.{Joins, after_split, joined_view, spent_view}
-use Rattle.core_state.specs.Event.{Event, opens_pass, splits_visitor, joins_visitor, looks, of_locks, of_lists, of_bodies, of_batches, of_pool, of_walks, of_moves, LockEvent, loads_lock, takes_read, takes_write, releases, ListEvent, loads_list, stores_link, stores_head, BodyEvent, stores_field, creates, destroys, loads_body, sets_user, BatchEvent, loads_slot, reserves, marks, stores_node, places, attaches, takes_back, unmarks, lets_slot_go, PoolEvent, stores_pool_link, stores_pool_head, stores_pool_count, WalkEvent, begins_walk, ends_walk, walks_slot, walks_main, walks_child, walks_bound, MoveEvent, widens_low, widens_high, loads_parent, stores_side, stores_last_side, Run, begins, goes_on, ChangesOne, of_removals, RemovalEvent, removes, clears_entry, clears_location}
+use Rattle.core_state.specs.Event.{Event, Run, begins, goes_on, ChangesOne}
+use Rattle.core_state.proofs.Cases.{event-case}
 use Rattle.core_state.proofs.Lookups.{at_bound, at_one, at_longer, set_here, set_else}
 use Rattle.core_state.proofs.Prefixes.{IsPrefix-refl, IsPrefix-trans}
 use Rattle.core_state.proofs.Reading.{word-stored, word-other, words-push, words-named}
@@ -102,73 +103,10 @@ steps-prefix asks kind before after steps =
 same-prefix : (before after : Core) → after.log ≡ before.log → IsPrefix before.log after.log
 same-prefix before after same = subst (IsPrefix before.log) (sym same) (IsPrefix-refl before.log)
 
-locks-prefix : (before after : Core) → LockEvent before after → IsPrefix before.log after.log
-locks-prefix before after (loads_lock e) = steps-prefix _ _ before after e
-locks-prefix before after (takes_read e) = steps-prefix _ _ before after e
-locks-prefix before after (takes_write e) = steps-prefix _ _ before after e
-locks-prefix before after (releases e) = steps-prefix _ _ before after e
-
-lists-prefix : (before after : Core) → ListEvent before after → IsPrefix before.log after.log
-lists-prefix before after (loads_list e) = steps-prefix _ _ before after e
-lists-prefix before after (stores_link e) = steps-prefix _ _ before after e
-lists-prefix before after (stores_head e) = steps-prefix _ _ before after e
-
-bodies-prefix : (before after : Core) → BodyEvent before after → IsPrefix before.log after.log
-bodies-prefix before after (stores_field e) = steps-prefix _ _ before after e
-bodies-prefix before after (creates e) = steps-prefix _ _ before after e
-bodies-prefix before after (destroys e) = steps-prefix _ _ before after e
-bodies-prefix before after (loads_body e) = steps-prefix _ _ before after e
-bodies-prefix before after (sets_user e) = steps-prefix _ _ before after e
-
-batches-prefix : (before after : Core) → BatchEvent before after → IsPrefix before.log after.log
-batches-prefix before after (loads_slot e) = steps-prefix _ _ before after e
-batches-prefix before after (reserves e) = steps-prefix _ _ before after e
-batches-prefix before after (marks e) = steps-prefix _ _ before after e
-batches-prefix before after (stores_node e) = steps-prefix _ _ before after e
-batches-prefix before after (places e) = steps-prefix _ _ before after e
-batches-prefix before after (attaches e) = steps-prefix _ _ before after e
-batches-prefix before after (takes_back e) = steps-prefix _ _ before after e
-batches-prefix before after (unmarks e) = steps-prefix _ _ before after e
-batches-prefix before after (lets_slot_go e) = steps-prefix _ _ before after e
-
-pool-prefix : (before after : Core) → PoolEvent before after → IsPrefix before.log after.log
-pool-prefix before after (stores_pool_link e) = steps-prefix _ _ before after e
-pool-prefix before after (stores_pool_head e) = steps-prefix _ _ before after e
-pool-prefix before after (stores_pool_count e) = steps-prefix _ _ before after e
-
-walks-prefix : (before after : Core) → WalkEvent before after → IsPrefix before.log after.log
-walks-prefix before after (begins_walk e) = steps-prefix _ _ before after e
-walks-prefix before after (ends_walk e) = steps-prefix _ _ before after e
-walks-prefix before after (walks_slot e) = steps-prefix _ _ before after e
-walks-prefix before after (walks_main e) = steps-prefix _ _ before after e
-walks-prefix before after (walks_child e) = steps-prefix _ _ before after e
-walks-prefix before after (walks_bound e) = steps-prefix _ _ before after e
-
-moves-prefix : (before after : Core) → MoveEvent before after → IsPrefix before.log after.log
-moves-prefix before after (widens_low index e) = steps-prefix _ _ before after e
-moves-prefix before after (widens_high index e) = steps-prefix _ _ before after e
-moves-prefix before after (loads_parent index e) = steps-prefix _ _ before after e
-moves-prefix before after (stores_side e) = steps-prefix _ _ before after e
-moves-prefix before after (stores_last_side e) = steps-prefix _ _ before after e
-
-removals-prefix : (before after : Core) → RemovalEvent before after → IsPrefix before.log after.log
-removals-prefix before after (removes e) = steps-prefix _ _ before after e
-removals-prefix before after (clears_entry e) = steps-prefix _ _ before after e
-removals-prefix before after (clears_location e) = steps-prefix _ _ before after e
-
 pub event-prefix : (before after : Core) → Event before after → IsPrefix before.log after.log
-event-prefix before after (opens_pass e) = same-prefix before after (ap (λ (c : Core). c.log) e.result)
-event-prefix before after (splits_visitor e) = same-prefix before after (ap (λ (c : Core). c.log) e.result)
-event-prefix before after (joins_visitor e) = same-prefix before after (ap (λ (c : Core). c.log) e.result)
-event-prefix before after (looks e) = steps-prefix _ _ before after e
-event-prefix before after (of_locks e) = locks-prefix before after e
-event-prefix before after (of_lists e) = lists-prefix before after e
-event-prefix before after (of_bodies e) = bodies-prefix before after e
-event-prefix before after (of_batches e) = batches-prefix before after e
-event-prefix before after (of_pool e) = pool-prefix before after e
-event-prefix before after (of_walks e) = walks-prefix before after e
-event-prefix before after (of_moves e) = moves-prefix before after e
-event-prefix before after (of_removals e) = removals-prefix before after e
+event-prefix before after event =
+    event-case before after (λ e. same-prefix before after (ap (λ (c : Core). c.log) e.result)) (λ e. same-prefix before after (ap (λ (c : Core). c.log) e.result)) (λ e. same-prefix before after (ap (λ (c : Core). c.log) e.result))
+    (λ asks kind e. steps-prefix asks kind before after e) event
 
 pub run-prefix : (first last : Core) → Run first last → IsPrefix first.log last.log
 run-prefix first last begins = IsPrefix-refl first.log
@@ -201,70 +139,6 @@ joins-one before after joins = record {
       (set_else (set before.views joins.seat joined) joins.other other spent_view apart ∙ (set_else before.views joins.seat other joined ne ∙ at));
 }
 
-locks-one : (before after : Core) → LockEvent before after → ChangesOne before after
-locks-one before after (loads_lock e) = steps-one _ _ before after e
-locks-one before after (takes_read e) = steps-one _ _ before after e
-locks-one before after (takes_write e) = steps-one _ _ before after e
-locks-one before after (releases e) = steps-one _ _ before after e
-
-lists-one : (before after : Core) → ListEvent before after → ChangesOne before after
-lists-one before after (loads_list e) = steps-one _ _ before after e
-lists-one before after (stores_link e) = steps-one _ _ before after e
-lists-one before after (stores_head e) = steps-one _ _ before after e
-
-bodies-one : (before after : Core) → BodyEvent before after → ChangesOne before after
-bodies-one before after (stores_field e) = steps-one _ _ before after e
-bodies-one before after (creates e) = steps-one _ _ before after e
-bodies-one before after (destroys e) = steps-one _ _ before after e
-bodies-one before after (loads_body e) = steps-one _ _ before after e
-bodies-one before after (sets_user e) = steps-one _ _ before after e
-
-batches-one : (before after : Core) → BatchEvent before after → ChangesOne before after
-batches-one before after (loads_slot e) = steps-one _ _ before after e
-batches-one before after (reserves e) = steps-one _ _ before after e
-batches-one before after (marks e) = steps-one _ _ before after e
-batches-one before after (stores_node e) = steps-one _ _ before after e
-batches-one before after (places e) = steps-one _ _ before after e
-batches-one before after (attaches e) = steps-one _ _ before after e
-batches-one before after (takes_back e) = steps-one _ _ before after e
-batches-one before after (unmarks e) = steps-one _ _ before after e
-batches-one before after (lets_slot_go e) = steps-one _ _ before after e
-
-pool-one : (before after : Core) → PoolEvent before after → ChangesOne before after
-pool-one before after (stores_pool_link e) = steps-one _ _ before after e
-pool-one before after (stores_pool_head e) = steps-one _ _ before after e
-pool-one before after (stores_pool_count e) = steps-one _ _ before after e
-
-walks-one : (before after : Core) → WalkEvent before after → ChangesOne before after
-walks-one before after (begins_walk e) = steps-one _ _ before after e
-walks-one before after (ends_walk e) = steps-one _ _ before after e
-walks-one before after (walks_slot e) = steps-one _ _ before after e
-walks-one before after (walks_main e) = steps-one _ _ before after e
-walks-one before after (walks_child e) = steps-one _ _ before after e
-walks-one before after (walks_bound e) = steps-one _ _ before after e
-
-moves-one : (before after : Core) → MoveEvent before after → ChangesOne before after
-moves-one before after (widens_low index e) = steps-one _ _ before after e
-moves-one before after (widens_high index e) = steps-one _ _ before after e
-moves-one before after (loads_parent index e) = steps-one _ _ before after e
-moves-one before after (stores_side e) = steps-one _ _ before after e
-moves-one before after (stores_last_side e) = steps-one _ _ before after e
-
-removals-one : (before after : Core) → RemovalEvent before after → ChangesOne before after
-removals-one before after (removes e) = steps-one _ _ before after e
-removals-one before after (clears_entry e) = steps-one _ _ before after e
-removals-one before after (clears_location e) = steps-one _ _ before after e
-
 pub event-one : (before after : Core) → Event before after → ChangesOne before after
-event-one before after (opens_pass e) = split-one before after e.seat _ _ e.result
-event-one before after (splits_visitor e) = split-one before after e.seat _ _ e.result
-event-one before after (joins_visitor e) = joins-one before after e
-event-one before after (looks e) = steps-one _ _ before after e
-event-one before after (of_locks e) = locks-one before after e
-event-one before after (of_lists e) = lists-one before after e
-event-one before after (of_bodies e) = bodies-one before after e
-event-one before after (of_batches e) = batches-one before after e
-event-one before after (of_pool e) = pool-one before after e
-event-one before after (of_walks e) = walks-one before after e
-event-one before after (of_moves e) = moves-one before after e
-event-one before after (of_removals e) = removals-one before after e
+event-one before after event =
+    event-case before after (λ e. split-one before after e.seat _ _ e.result) (λ e. split-one before after e.seat _ _ e.result) (λ e. joins-one before after e) (λ asks kind e. steps-one asks kind before after e) event

@@ -14,6 +14,7 @@ use Rattle.core_state.specs.Pool.{MayStorePoolLink, store_pool_link, MayStorePoo
 use Rattle.core_state.specs.Walks.{MayBegin, begin_walk, MayEnd, end_walk, MayWalkSlot, walk_slot, MayWalkMain, walk_main, MayWalkChild, walk_child, MayWalkBound, walk_bound}
 use Rattle.core_state.specs.Moving.{MayWidenLow, widen_low, MayWidenHigh, widen_high, MayLoadParentMoving, load_parent_moving, MayStoreSide, store_side, MayStoreLastSide, store_last_side}
 use Rattle.core_state.specs.Removing.{MayRemove, remove, MayClearEntry, clear_entry, MayClearLocation, clear_location}
+use Rattle.core_state.specs.UpdateEvent.{UpdateEvent}
 
 -- a step on a lock
 pub data LockEvent (before after : Core) : Type 0 where
@@ -91,6 +92,7 @@ pub data Event (before after : Core) : Type 0 where
   of_walks : WalkEvent before after → Event before after
   of_moves : MoveEvent before after → Event before after
   of_removals : RemovalEvent before after → Event before after
+  of_updates : UpdateEvent before after → Event before after
 
 -- events one after the other
 pub data Run (first : Core) : Core → Type 0 where

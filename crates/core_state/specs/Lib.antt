@@ -25,6 +25,7 @@ pub mod LocationsHold
 pub mod Space
 pub mod Batches
 pub mod Pool
+pub mod UpdateEvent
 pub mod Event
 pub mod Formed
 pub mod BodiesCovered

@@ -8,12 +8,14 @@ use Rattle.word_map.specs.declared.name.Name.{Name}
 use Rattle.core_state.specs.declared.view.Call.{Call}
 use Rattle.core_state.specs.declared.view.Noted.{Noted}
 use Rattle.core_state.specs.declared.view.Merged.{Merged}
-use Rattle.core_state.specs.View.{no_call}
+use Rattle.core_state.specs.View.{no_call, IsPass}
 use Rattle.core_state.specs.declared.view.Rebuild.{Rebuild}
 use Rattle.core_state.specs.declared.view.Task.{Task}
 use Rattle.core_state.specs.declared.view.Task.TheVariants.{Nothing}
 use Rattle.core_state.specs.declared.view.View.{View}
-use Rattle.core_state.specs.Core.{Core}
+use Rattle.core_state.specs.Core.{Core, IsViewAt}
+use Rattle.core_state.specs.Formed.{IsFormed}
+use Rattle.core_state.specs.Invariants.{Invariants}
 use Rattle.core_state.specs.Kind.{Kind, Step, after_step}
 use Rattle.core_state.specs.Nodes.{Nodes, owned, made, IsOwnedBy, nodes_in}
 use Rattle.core_state.specs.Noting.{IsEarly}
@@ -28,25 +30,32 @@ use Rattle.core_guard.proofs.Seats.{has-seat, seen_of}
 use Rattle.core_batch.proofs.Owning.{owned_home}
 use Rattle.core_update.proofs.SwappedPlaces.{One, Two, First, Second, OneUpdate, TwoUpdate, LocationsHold-swap}
 
-module _ (core : Core) (step : Step) (a : Acts core step) (r : Rebuild) (has : step.view.rebuild ≡ Some r) (early : IsEarly r) where
-  abbrev nodes : Nodes
-  nodes = a.laws.nodes
-
+module _ (core : Core) (step : Step) (at : IsViewAt core step.seat step.view) (pass : IsPass step.view step.number) (formed : IsFormed core) (laws : Invariants core) (r : Rebuild) (has : step.view.rebuild ≡ Some r) (early : IsEarly r) where
   -- no node is in a new tree of the pass
-  pub unmade : (n l : ℕ) → nodes.home n ≢ made step.number l
-  unmade n l home =
-      let from = has-seat node_scope (λ k v. refl) core step.number (λ v. IsSomeAnd v.rebuild (λ u. IsMadeIn core.config u l n)) ((a.laws.places.made_by n step.number l).0 home) in
-      let same : from.view ≡ step.view = same-view core a.formed from.seat step.seat step.number from.view step.view from.at a.at from.pass a.pass in
+  pub none-made : (n l : ℕ) → laws.nodes.home n ≢ made step.number l
+  none-made n l home =
+      let from = has-seat node_scope (λ k v. refl) core step.number (λ v. IsSomeAnd v.rebuild (λ u. IsMadeIn core.config u l n)) ((laws.places.made_by n step.number l).0 home) in
+      let same : from.view ≡ step.view = same-view core formed from.seat step.seat step.number from.view step.view from.at at from.pass pass in
       let t = subst (λ (o : Option Rebuild). IsSomeAnd (option_map update_on_nodes o) (λ u. IsMadeIn core.config u l n)) (ap (λ (v : View). v.rebuild) same ∙ has) from.holds in
       false≢true (sym early.unplanned ∙ t.0)
 
   -- its own ones are owned apart
-  pub own-home : (n : ℕ) → Contains r.nodes n → nodes.home n ≡ owned step.number
-  own-home n among =
+  pub owned-apart : (n : ℕ) → Contains r.nodes n → laws.nodes.home n ≡ owned step.number
+  owned-apart n among =
       let all = subst (λ (o : Option Rebuild). Contains (nodes_in o) n) (sym has) among in
-      let owns = owned-by core nodes a.laws.places step.seat step.number step.view a.at a.pass n
+      let owns = owned-by core laws.nodes laws.places step.seat step.number step.view at pass n
       (Contains-append_right (flat_map (λ b. b.nodes) step.view.batches) _ n (Contains-append_right step.view.loose (nodes_in step.view.rebuild) n all)) in
-      owned_home step.number (nodes.home n) owns (λ p l e. unmade n l (e ∙ ap (λ (q : ℕ). made q l) (subst (IsOwnedBy step.number) e owns)))
+      owned_home step.number (laws.nodes.home n) owns (λ p l e. none-made n l (e ∙ ap (λ (q : ℕ). made q l) (subst (IsOwnedBy step.number) e owns)))
+
+module _ (core : Core) (step : Step) (a : Acts core step) (r : Rebuild) (has : step.view.rebuild ≡ Some r) (early : IsEarly r) where
+  abbrev nodes : Nodes
+  nodes = a.laws.nodes
+
+  pub unmade : (n l : ℕ) → nodes.home n ≢ made step.number l
+  unmade = none-made core step a.at a.pass a.formed a.laws r has early
+
+  pub own-home : (n : ℕ) → Contains r.nodes n → nodes.home n ≡ owned step.number
+  own-home = owned-apart core step a.at a.pass a.formed a.laws r has early
 
   -- ---- a kind that notes something else of it
 

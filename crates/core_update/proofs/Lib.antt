@@ -57,6 +57,7 @@ pub mod OwnNodes
 pub mod SwappedReaders
 pub mod EarlyUpdate
 pub mod OwnGuards
+pub mod OwnersStore
 pub mod NewChildren
 pub mod PlacedNotes
 pub mod PlacedLocations
@@ -86,5 +87,6 @@ pub mod ReturnedTops
 pub mod ReturnedTrees
 pub mod ReturnedHeads
 pub mod Stacked
+pub mod StackedRuns
 pub mod UpdatesKeep
 pub mod UpdatesWiden

@@ -25,14 +25,13 @@ use Rattle.core_state.specs.WalksLead.{walk_scope, WalksLeadIn}
 use Rattle.core_state.specs.ReadersCounted.{IsTight}
 use Rattle.core_state.specs.Invariants.{Invariants}
 use Rattle.core_state.specs.Formed.{IsFormed}
-use Rattle.core_state.specs.Guards.{GuardsHold}
 use Rattle.core_state.proofs.Steps.{word-step-other}
 use Rattle.core_guard.proofs.Holders.{IsGuarded, guarded}
 use Rattle.core_guard.proofs.Leaving.{Acts}
 use Rattle.core_guard.proofs.Seats.{seen_of}
 use Rattle.core_guard.proofs.Touched.{IsKept, kept}
 use Rattle.core_batch.proofs.Lists.{contains_map, map_from}
-use Rattle.core_update.proofs.EarlyUpdate.{own-home, LocationsHold-early}
+use Rattle.core_update.proofs.EarlyUpdate.{owned-apart, own-home, LocationsHold-early}
 use Rattle.core_update.proofs.OwnGuards.{own-guarded}
 use Rattle.core_update.proofs.OwnNodes.{Invariants-own_node, LocksAgree-own_node, BodiesAgree-own_node, NodesInOnePlace-own_node, TreesSound-own_node, LocationsHold-own_node, BodiesCovered-own_node, WalksLead-own_node, ReadersCounted-own_node}
 use Rattle.core_update.proofs.Swapped.{law-swap}
@@ -159,12 +158,11 @@ GuardsHold-store_new_bound =
     (λ core step a asked. own-guarded store_new_bound core step a asked.node (ap node_in asked.names) (own-home core step a asked.r asked.stores.update asked.stores.early asked.node asked.stores.owns))
 
 -- no bound of a node that stands is stored
-pub new_bound-widens : (before after : Core) (h : Invariants before) → Steps MayStoreNewBound store_new_bound before after → IsFormed before → GuardsHold before → BoundsOnlyWiden h.nodes before after
-new_bound-widens before after h steps formed guards =
+pub new_bound-widens : (before after : Core) (h : Invariants before) → Steps MayStoreNewBound store_new_bound before after → IsFormed before → BoundsOnlyWiden h.nodes before after
+new_bound-widens before after h steps formed =
     let step = steps.step in
     let asked = steps.allowed.asked in
-    let a : Acts before steps.step = record { at = steps.allowed.at; pass = steps.allowed.pass; named = steps.allowed.named; formed = formed; guards = guards; laws = h } in
-    let home = own-home before step a asked.r asked.stores.update asked.stores.early asked.node asked.stores.owns in
+    let home = owned-apart before step steps.allowed.at steps.allowed.pass formed h asked.r asked.stores.update asked.stores.early asked.node asked.stores.owns in
     subst (BoundsOnlyWiden h.nodes before) (sym steps.result)
     (λ n k q stands.
     let other : Bound n k q ≢ step.name = λ e. subst Stands (ap h.nodes.home (same_Some n asked.node (ap node_in (e ∙ asked.names))) ∙ home) stands in

@@ -1,10 +1,5 @@
--- Each event of an update keeps everything: the form, the invariants, and what passes have for themselves.
-use Rattle.std.proofs.Common.{sym, subst}
-use Rattle.core_state.specs.Core.{Core}
-use Rattle.core_state.specs.Formed.{IsFormed}
+-- Each event of an update keeps the invariants, and what passes have for themselves.
 use Rattle.core_state.specs.Keeping.{KeepsAll}
-use Rattle.core_state.specs.Kind.{Asking, Kind, Steps}
-use Rattle.core_state.proofs.Forming.{SaysOf, IsFormed-step}
 use Rattle.core_update.proofs.ArenaLoads.{Invariants-load_arena, GuardsHold-load_arena}
 use Rattle.core_update.proofs.ArenaSwitches.{Invariants-switch_arena, GuardsHold-switch_arena}
 use Rattle.core_update.proofs.BodyNotes.{Invariants-look_at_body, GuardsHold-look_at_body}
@@ -30,7 +25,7 @@ use Rattle.core_update.proofs.SlotClears.{Invariants-clear_slot}
 use Rattle.core_update.proofs.SlotNotes.{Invariants-note_slot, GuardsHold-note_slot}
 use Rattle.core_update.proofs.UpdateBegins.{Invariants-begin_update, GuardsHold-begin_update}
 use Rattle.core_update.proofs.UpdateEnds.{Invariants-end_update, GuardsHold-end_update}
-use Rattle.core_update.specs.UpdateEvent.{UpdateEvent, begins_update, loads_arena, notes_slot, looks_at_body, stores_new_child, stores_new_bound, stores_new_parent, finishes_plan, loads_parent_to_place, widens_low_to_place, widens_high_to_place, places_noted, places_phase, gives_up, exchanges_main, clears_slot, promotes, clears_second, finds_second, loads_reader, loads_returned, links_returned, gives_returned, switches_arena, ends_update}
+use Rattle.core_state.specs.UpdateEvent.{UpdateEvent, begins_update, loads_arena, notes_slot, looks_at_body, stores_new_child, stores_new_bound, stores_new_parent, finishes_plan, loads_parent_to_place, widens_low_to_place, widens_high_to_place, places_noted, places_phase, gives_up, exchanges_main, clears_slot, promotes, clears_second, finds_second, loads_reader, loads_returned, links_returned, gives_returned, switches_arena, ends_update}
 
 pub updates-keep : KeepsAll UpdateEvent
 updates-keep before after (begins_update e) formed guards h = (Invariants-begin_update before after e formed guards h, GuardsHold-begin_update before after e formed h guards)
@@ -58,34 +53,3 @@ updates-keep before after (links_returned e) formed guards h = (Invariants-link_
 updates-keep before after (gives_returned e) formed guards h = (Invariants-give_returned before after e formed guards h, GuardsHold-give_returned before after e formed h guards)
 updates-keep before after (switches_arena e) formed guards h = (Invariants-switch_arena before after e formed guards h, GuardsHold-switch_arena before after e formed h guards)
 updates-keep before after (ends_update e) formed guards h = (Invariants-end_update before after e formed guards h, GuardsHold-end_update before after e formed h guards)
-
--- a step of a kind that makes no entry keeps the form
-formed-by : (asks : Asking) (kind : Kind) (before after : Core) → SaysOf kind → Steps asks kind before after → IsFormed before → IsFormed after
-formed-by asks kind before after says steps formed = subst IsFormed (sym steps.result) (IsFormed-step asks kind before steps.step says steps.allowed formed)
-
-pub updates-formed : (before after : Core) → UpdateEvent before after → IsFormed before → IsFormed after
-updates-formed before after (begins_update e) formed = formed-by _ _ before after (record { said = λ view name value. tt }) e formed
-updates-formed before after (loads_arena e) formed = formed-by _ _ before after (record { said = λ view name value. tt }) e formed
-updates-formed before after (notes_slot e) formed = formed-by _ _ before after (record { said = λ view name value. tt }) e formed
-updates-formed before after (looks_at_body e) formed = formed-by _ _ before after (record { said = λ view name value. tt }) e formed
-updates-formed before after (stores_new_child e) formed = formed-by _ _ before after (record { said = λ view name value. tt }) e formed
-updates-formed before after (stores_new_bound e) formed = formed-by _ _ before after (record { said = λ view name value. tt }) e formed
-updates-formed before after (stores_new_parent layer e) formed = formed-by _ _ before after (record { said = λ view name value. tt }) e formed
-updates-formed before after (finishes_plan layer e) formed = formed-by _ _ before after (record { said = λ view name value. tt }) e formed
-updates-formed before after (loads_parent_to_place index e) formed = formed-by _ _ before after (record { said = λ view name value. tt }) e formed
-updates-formed before after (widens_low_to_place index e) formed = formed-by _ _ before after (record { said = λ view name value. tt }) e formed
-updates-formed before after (widens_high_to_place index e) formed = formed-by _ _ before after (record { said = λ view name value. tt }) e formed
-updates-formed before after (places_noted e) formed = formed-by _ _ before after (record { said = λ view name value. tt }) e formed
-updates-formed before after (places_phase e) formed = formed-by _ _ before after (record { said = λ view name value. tt }) e formed
-updates-formed before after (gives_up index e) formed = formed-by _ _ before after (record { said = λ view name value. tt }) e formed
-updates-formed before after (exchanges_main e) formed = formed-by _ _ before after (record { said = λ view name value. tt }) e formed
-updates-formed before after (clears_slot e) formed = formed-by _ _ before after (record { said = λ view name value. tt }) e formed
-updates-formed before after (promotes e) formed = formed-by _ _ before after (record { said = λ view name value. tt }) e formed
-updates-formed before after (clears_second e) formed = formed-by _ _ before after (record { said = λ view name value. tt }) e formed
-updates-formed before after (finds_second e) formed = formed-by _ _ before after (record { said = λ view name value. tt }) e formed
-updates-formed before after (loads_reader e) formed = formed-by _ _ before after (record { said = λ view name value. tt }) e formed
-updates-formed before after (loads_returned e) formed = formed-by _ _ before after (record { said = λ view name value. tt }) e formed
-updates-formed before after (links_returned e) formed = formed-by _ _ before after (record { said = λ view name value. tt }) e formed
-updates-formed before after (gives_returned e) formed = formed-by _ _ before after (record { said = λ view name value. tt }) e formed
-updates-formed before after (switches_arena e) formed = formed-by _ _ before after (record { said = λ view name value. tt }) e formed
-updates-formed before after (ends_update e) formed = formed-by _ _ before after (record { said = λ view name value. tt }) e formed

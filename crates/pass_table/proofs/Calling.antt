@@ -13,7 +13,6 @@ use Rattle.word_map.specs.declared.name.Name.{Name}
 use Rattle.word_map.specs.declared.name.Name.TheVariants.{Lock}
 use Rattle.scene_model.specs.History.{scene_after, IsLawfulHistory}
 use Rattle.core_state.specs.declared.item.Item.{Item}
-use Rattle.core_state.specs.declared.view.Mode.{Mode}
 use Rattle.core_state.specs.declared.view.LockStep.{LockStep}
 use Rattle.core_state.specs.declared.view.LockStep.TheVariants.{Released}
 use Rattle.core_state.specs.declared.view.Task.TheVariants.{Nothing}

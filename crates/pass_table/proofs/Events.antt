@@ -1,9 +1,9 @@
--- Every event of the kinds that are built keeps all invariants, and what passes have for themselves: a line for each group.
+-- Every event keeps all invariants, and what passes have for themselves: a line for each group.
 use Rattle.std.proofs.Common.{refl}
 use Rattle.word_map.specs.declared.config.Config.{Config}
 use Rattle.word_map.specs.Limits.{IsConfig}
 use Rattle.core_state.specs.Core.{Core, opening}
-use Rattle.core_state.specs.Event.{Event, opens_pass, splits_visitor, joins_visitor, looks, of_locks, of_lists, of_bodies, of_batches, of_pool, of_walks, of_moves, of_removals, Run, begins, goes_on}
+use Rattle.core_state.specs.Event.{Event, opens_pass, splits_visitor, joins_visitor, looks, of_locks, of_lists, of_bodies, of_batches, of_pool, of_walks, of_moves, of_removals, of_updates, Run, begins, goes_on}
 use Rattle.core_state.specs.Formed.{IsFormed}
 use Rattle.core_state.specs.Guards.{GuardsHold}
 use Rattle.core_state.specs.Invariants.{Invariants}
@@ -18,6 +18,7 @@ use Rattle.core_batch.proofs.Keeping.{batches-keep, pool-keep}
 use Rattle.core_query.proofs.Keeping.{walks-keep}
 use Rattle.core_move.proofs.Keeping.{moves-keep}
 use Rattle.core_move.proofs.Removals.{removals-keep}
+use Rattle.core_update.proofs.UpdatesKeep.{updates-keep}
 
 pub events-keep : KeepsAll Event
 events-keep before after (opens_pass e) formed guards h = (Invariants-opens before after e h, GuardsHold-opens before after e guards)
@@ -32,6 +33,7 @@ events-keep before after (of_pool e) formed guards h = pool-keep before after e 
 events-keep before after (of_walks e) formed guards h = walks-keep before after e formed guards h
 events-keep before after (of_moves e) formed guards h = moves-keep before after e formed guards h
 events-keep before after (of_removals e) formed guards h = removals-keep before after e formed guards h
+events-keep before after (of_updates e) formed guards h = updates-keep before after e formed guards h
 
 pub Invariants-event : (before after : Core) → Event before after → IsFormed before → GuardsHold before → Invariants before → Invariants after
 Invariants-event before after event formed guards h = (events-keep before after event formed guards h).0

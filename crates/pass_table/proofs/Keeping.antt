@@ -16,9 +16,10 @@ use Rattle.core_state.specs.View.{known_alone, own_known, number_in, number_of, 
 use Rattle.core_state.specs.Core.{Core, IsViewAt, opening}
 use Rattle.core_state.specs.Kind.{Kind, Asking, Step, Steps, left_by, item_of, gained_by, view_after, after_step}
 use Rattle.core_state.specs.Seats.{Opens, Visits, Joins, after_split, visitor_of, joined_view, spent_view}
-use Rattle.core_state.specs.Event.{Event, opens_pass, splits_visitor, joins_visitor, looks, loads_lock, takes_read, takes_write, releases, loads_list, stores_link, stores_head, stores_field, creates, destroys, loads_body, sets_user, loads_slot, reserves, marks, stores_node, places, attaches, takes_back, unmarks, lets_slot_go, stores_pool_link, stores_pool_head, stores_pool_count, of_locks, of_lists, of_bodies, of_batches, of_pool, begins_walk, ends_walk, walks_slot, walks_main, walks_child, walks_bound, of_walks, widens_low, widens_high, loads_parent, stores_side, stores_last_side, of_moves, removes, clears_entry, clears_location, of_removals}
+use Rattle.core_state.specs.Event.{Event}
 use Rattle.core_state.specs.BodiesAgree.{BodiesAgree}
 use Rattle.core_state.specs.Formed.{AreApart, IsSoundView, IsFormed}
+use Rattle.core_state.proofs.Cases.{event-case}
 use Rattle.core_state.proofs.Lookups.{at_set}
 use Rattle.core_state.proofs.Prefixes.{IsPrefix-refl, IsPrefix-trans}
 use Rattle.core_state.proofs.Steps.{gains, nothing, its_item}
@@ -184,51 +185,6 @@ OwnAreKnown-joins before after joins formed own = subst OwnAreKnown (sym joins.r
         ]
 
 -- ---- all events
-
--- an event opens a pass, splits off a visitor or joins one, or is a step of some kind
-pub event-case : {P : Type 0} (before after : Core) → (Opens before after → P) → (Visits before after → P) → (Joins before after → P) → ((asks : Asking) (kind : Kind) → Steps asks kind before after → P) → Event before after → P
-event-case before after opens visits joins steps (opens_pass e) = opens e
-event-case before after opens visits joins steps (splits_visitor e) = visits e
-event-case before after opens visits joins steps (joins_visitor e) = joins e
-event-case before after opens visits joins steps (looks e) = steps _ _ e
-event-case before after opens visits joins steps (of_locks (loads_lock e)) = steps _ _ e
-event-case before after opens visits joins steps (of_locks (takes_read e)) = steps _ _ e
-event-case before after opens visits joins steps (of_locks (takes_write e)) = steps _ _ e
-event-case before after opens visits joins steps (of_locks (releases e)) = steps _ _ e
-event-case before after opens visits joins steps (of_lists (loads_list e)) = steps _ _ e
-event-case before after opens visits joins steps (of_lists (stores_link e)) = steps _ _ e
-event-case before after opens visits joins steps (of_lists (stores_head e)) = steps _ _ e
-event-case before after opens visits joins steps (of_bodies (stores_field e)) = steps _ _ e
-event-case before after opens visits joins steps (of_bodies (creates e)) = steps _ _ e
-event-case before after opens visits joins steps (of_bodies (destroys e)) = steps _ _ e
-event-case before after opens visits joins steps (of_bodies (loads_body e)) = steps _ _ e
-event-case before after opens visits joins steps (of_bodies (sets_user e)) = steps _ _ e
-event-case before after opens visits joins steps (of_batches (loads_slot e)) = steps _ _ e
-event-case before after opens visits joins steps (of_batches (reserves e)) = steps _ _ e
-event-case before after opens visits joins steps (of_batches (marks e)) = steps _ _ e
-event-case before after opens visits joins steps (of_batches (stores_node e)) = steps _ _ e
-event-case before after opens visits joins steps (of_batches (places e)) = steps _ _ e
-event-case before after opens visits joins steps (of_batches (attaches e)) = steps _ _ e
-event-case before after opens visits joins steps (of_batches (takes_back e)) = steps _ _ e
-event-case before after opens visits joins steps (of_batches (unmarks e)) = steps _ _ e
-event-case before after opens visits joins steps (of_batches (lets_slot_go e)) = steps _ _ e
-event-case before after opens visits joins steps (of_pool (stores_pool_link e)) = steps _ _ e
-event-case before after opens visits joins steps (of_pool (stores_pool_head e)) = steps _ _ e
-event-case before after opens visits joins steps (of_pool (stores_pool_count e)) = steps _ _ e
-event-case before after opens visits joins steps (of_walks (begins_walk e)) = steps _ _ e
-event-case before after opens visits joins steps (of_walks (ends_walk e)) = steps _ _ e
-event-case before after opens visits joins steps (of_walks (walks_slot e)) = steps _ _ e
-event-case before after opens visits joins steps (of_walks (walks_main e)) = steps _ _ e
-event-case before after opens visits joins steps (of_walks (walks_child e)) = steps _ _ e
-event-case before after opens visits joins steps (of_walks (walks_bound e)) = steps _ _ e
-event-case before after opens visits joins steps (of_moves (widens_low index e)) = steps _ _ e
-event-case before after opens visits joins steps (of_moves (widens_high index e)) = steps _ _ e
-event-case before after opens visits joins steps (of_moves (loads_parent index e)) = steps _ _ e
-event-case before after opens visits joins steps (of_moves (stores_side e)) = steps _ _ e
-event-case before after opens visits joins steps (of_moves (stores_last_side e)) = steps _ _ e
-event-case before after opens visits joins steps (of_removals (removes e)) = steps _ _ e
-event-case before after opens visits joins steps (of_removals (clears_entry e)) = steps _ _ e
-event-case before after opens visits joins steps (of_removals (clears_location e)) = steps _ _ e
 
 OwnAreKnown-event : (before after : Core) → Event before after → IsFormed before → OwnAreKnown before → OwnAreKnown after
 OwnAreKnown-event before after event formed own =

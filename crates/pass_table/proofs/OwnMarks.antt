@@ -1,5 +1,5 @@
 -- Every step keeps that a body is marked and unmarked by the pass that holds it, and by no other one.
-use Rattle.std.proofs.Common.{◌≡◌, ◌≢◌, ◌⊎◌, inl, inr, ℕ, List, [], ◌∷◌, ◌++◌, All, Option, Some, None, IsSomeAnd, refl, ap, sym, ◌∙◌, subst, append_assoc, arith, zero, suc, ◌-◌, length}
+use Rattle.std.proofs.Common.{◌≡◌, ◌⊎◌, inl, inr, ℕ, List, [], ◌∷◌, ◌++◌, Option, Some, None, IsSomeAnd, refl, ap, sym, ◌∙◌, subst, append_assoc, arith, zero, suc, ◌-◌, length}
 use Rattle.std.specs.Prelude.{Contains}
 use Rattle.std.proofs.lemmas.Bool.{cases_eq}
 use Rattle.std.proofs.lemmas.List.{append-nil, length-append}

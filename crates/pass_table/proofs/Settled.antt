@@ -1,6 +1,6 @@
 -- A body that no batch holds and whose stripe a pass holds stands still for it, with its phase and its locations.
 use Rattle.std.specs.Prelude.{filter_map, option_map, IsSomeAnd, All, ◌%◌}
-use Rattle.std.proofs.Common.{◌≡◌, ◌≢◌, ℕ, ◌≤◌, Bool, true, false, List, [], ◌∷◌, ◌++◌, Option, Some, None, refl, ap, sym, ◌∙◌, subst, arith}
+use Rattle.std.proofs.Common.{◌≡◌, ◌≢◌, ℕ, Bool, true, false, List, [], ◌∷◌, ◌++◌, Option, Some, None, refl, ap, sym, ◌∙◌, subst, arith}
 use mathlib.Core.Logic.{∥∥₁_elim}
 use Rattle.std.proofs.Props.{props}
 use Rattle.std.proofs.lemmas.Bool.{false≢true}
@@ -9,7 +9,6 @@ use Rattle.std.proofs.lemmas.List.Elements.{All-nil, All-cons, All-head, All-tai
 use Rattle.body_ident.specs.Id.{Id}
 use Rattle.scene_model.specs.declared.body_view.Phase.{Phase}
 use Rattle.scene_model.specs.declared.body_view.Phase.TheVariants.{Out, Held, In}
-use Rattle.scene_model.specs.declared.entry.Made.{Made}
 use Rattle.scene_model.specs.declared.entry.Entry.TheVariants.{Remove}
 use Rattle.scene_model.specs.Scene.{Record, Scene, Place, empty_scene, record_at}
 use Rattle.scene_model.specs.Step.{in_phase, with_phase}
@@ -19,7 +18,7 @@ use Rattle.scene_model.proofs.Histories.{lawful_parts}
 use Rattle.scene_model.proofs.Places.{place_at-with_change_same}
 use Rattle.word_map.specs.declared.config.Config.{Config}
 use Rattle.word_map.specs.declared.name.Name.{Name}
-use Rattle.word_map.specs.declared.name.Name.TheVariants.{State, LocA, LocB}
+use Rattle.word_map.specs.declared.name.Name.TheVariants.{LocA, LocB}
 use Rattle.word_map.specs.Names.{stripe_of}
 use Rattle.core_state.specs.declared.item.Item.{Item}
 use Rattle.core_state.specs.declared.view.Mode.{Mode}

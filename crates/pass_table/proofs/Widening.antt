@@ -5,7 +5,8 @@ use Rattle.word_map.specs.declared.name.Name.{Name}
 use Rattle.word_map.specs.declared.name.Name.TheVariants.{Lock, SlotHead, SlotNext, State, User, BoxWord, Bound, Slot, Phase, LocA, PoolNext, PoolHead, PoolFree, Reader, Parent, Child, LocB}
 use Rattle.core_state.specs.Core.{Core, word_of}
 use Rattle.core_state.specs.Kind.{Steps}
-use Rattle.core_state.specs.Event.{Event, opens_pass, splits_visitor, joins_visitor, looks, loads_lock, takes_read, takes_write, releases, loads_list, stores_link, stores_head, stores_field, creates, destroys, loads_body, sets_user, loads_slot, reserves, marks, places, attaches, takes_back, unmarks, lets_slot_go, stores_pool_link, stores_pool_head, stores_pool_count, stores_node, of_locks, of_lists, of_bodies, of_batches, of_pool, begins_walk, ends_walk, walks_slot, walks_main, walks_child, walks_bound, of_walks, widens_low, widens_high, loads_parent, stores_side, stores_last_side, of_moves, removes, clears_entry, clears_location, of_removals}
+use Rattle.core_state.specs.Event.{Event, opens_pass, splits_visitor, joins_visitor, looks, loads_lock, takes_read, takes_write, releases, loads_list, stores_link, stores_head, stores_field, creates, destroys, loads_body, sets_user, loads_slot, reserves, marks, places, attaches, takes_back, unmarks, lets_slot_go, stores_pool_link, stores_pool_head, stores_pool_count, stores_node, of_locks, of_lists, of_bodies, of_batches, of_pool, begins_walk, ends_walk, walks_slot, walks_main, walks_child, walks_bound, of_walks, widens_low, widens_high, loads_parent, stores_side, stores_last_side, of_moves, removes, clears_entry, clears_location, of_removals, of_updates}
+use Rattle.core_state.specs.Formed.{IsFormed}
 use Rattle.core_state.specs.Looking.{look}
 use Rattle.core_state.specs.Locking.{load_lock, take_read, take_write, release}
 use Rattle.core_state.specs.Lists.{load_list, store_link, store_head}
@@ -18,6 +19,7 @@ use Rattle.core_move.proofs.BoundsAside.{as_wide, aside, on_load, on_other}
 use Rattle.core_move.proofs.WidenSteps.{widen_low-widens, widen_high-widens}
 use Rattle.core_state.specs.Removing.{the_first, the_second, remove, clear_entry, clear_location}
 use Rattle.core_state.specs.Invariants.{Invariants}
+use Rattle.core_update.proofs.UpdatesWiden.{update_widens}
 use Rattle.core_batch.proofs.Owning.{batch-home}
 use Rattle.core_state.specs.Nodes.{Nodes, Stands, node_in}
 use Rattle.core_state.specs.TreesSound.{BoundsOnlyWiden}
@@ -42,7 +44,7 @@ on_own before after h steps =
 unseen : (nodes : Nodes) (before after : Core) → IsUnseen before after → BoundsOnlyWiden nodes before after
 unseen nodes before after same = as_wide nodes before after (λ n k q. sym (same.trees.words (Bound n k q) refl))
 
-module _ (before after : Core) (h : Invariants before) where
+module _ (before after : Core) (h : Invariants before) (formed : IsFormed before) where
   pub event_widens : Event before after → BoundsOnlyWiden h.nodes before after
   event_widens (opens_pass e) = as_wide h.nodes before after (λ n k q. ap (λ (c : Core). word_of c (Bound n k q)) e.result)
   event_widens (splits_visitor e) = unseen h.nodes before after (visits-unseen before after e)
@@ -92,3 +94,4 @@ module _ (before after : Core) (h : Invariants before) where
         | the_first index names cleared none ↦ aside h.nodes _ clear_location before after e (LocA index) names (λ none. none)
         | the_second index names cleared first none ↦ aside h.nodes _ clear_location before after e (LocB index) names (λ none. none)
       ]
+  event_widens (of_updates e) = update_widens before after h formed e

@@ -1,4 +1,4 @@
-//! The kinds of step that are built, a file for each group: what a kind asks and does, and the typed calls, numbered as in
+//! The kinds of step that have a typed call, a file for each group: what a kind asks and does, and its call, numbered as in
 //! docs/steps.md. Each typed call is exactly one step.
 mod batches;
 mod bodies;

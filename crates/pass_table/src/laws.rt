@@ -1,19 +1,21 @@
-//! What holds in every run of the kinds of step that are built, and of every pass. No call here does anything.
-ghost use Rattle.std.specs.Prelude.{◌≡◌, ℕ, List, ◌++◌};
+//! What holds in every run, and of every pass. No call here does anything.
+ghost use Rattle.std.specs.Prelude.{◌≡◌, ℕ, List, ◌++◌, ◌≤◌, Some};
 ghost use Rattle.scene_model.specs.declared.entry.Entry.{Entry};
 ghost use Rattle.word_map.specs.declared.config.Config.{Config};
 ghost use Rattle.word_map.specs.Limits.{IsConfig};
 ghost use Rattle.core_state.specs.declared.item.Item.{Item};
 ghost use Rattle.core_state.specs.declared.item.Store.{Store};
+ghost use Rattle.core_state.specs.declared.view.Rebuild.{Rebuild};
 ghost use Rattle.core_state.specs.declared.view.View.{View};
 ghost use Rattle.core_state.specs.View.{IsPass};
-ghost use Rattle.core_state.specs.Core.{Core, opening};
+ghost use Rattle.core_state.specs.Core.{Core, IsViewAt, opening};
 ghost use Rattle.core_state.specs.Event.{Event, Run};
 ghost use Rattle.core_state.specs.Formed.{IsFormed};
 ghost use Rattle.core_state.specs.Guards.{GuardsHold};
 ghost use Rattle.core_state.specs.Nodes.{Nodes};
 ghost use Rattle.core_state.specs.TreesSound.{BoundsOnlyWiden};
 ghost use Rattle.core_state.specs.Invariants.{Invariants};
+ghost use Rattle.core_update.specs.Stacked.{begun};
 ghost use Rattle.pass_table.specs.Knowing.{KnowsLawful};
 ghost use Rattle.pass_table.specs.Bodies.{IsCurrent};
 ghost use Rattle.pass_table.specs.Calls.{Adds};
@@ -23,9 +25,9 @@ ghost use Rattle.pass_table.specs.Passes.{view_of};
 
 use crate::pass::Pass;
 
-/// Each event of the kinds that are built leads from a core that meets all invariants to one that does, and no event
-/// stores a word that another pass has for itself. So all cores of all runs meet them, and in every run what a pass has
-/// for itself stands still.
+/// Each event, of whatever kind, leads from a core that meets all invariants to one that does, and stores no word that
+/// another pass has for itself. So all cores of all runs meet them, and in every run what a pass has for itself stands
+/// still.
 pub fn events_keep_all()
     ensures event { (before after : Core) → Event before after → IsFormed before → GuardsHold before → Invariants before → Invariants after }
     ensures guards { (before after : Core) → Event before after → IsFormed before → Invariants before → GuardsHold before → GuardsHold after }
@@ -33,9 +35,17 @@ pub fn events_keep_all()
     ensures run_guards { (c : Config) (last : Core) → IsConfig c → Run (opening c) last → GuardsHold last }
 {}
 
-/// Bounds of trees only widen: every event of the kinds that are built leaves each bound as wide as it was.
+/// Bounds of trees only widen: every event leaves each bound of a node that stands as wide as it was, and so does each
+/// event of a run.
 pub fn bounds_only_widen()
-    ensures { (before after : Core) (h : Invariants before) → Event before after → BoundsOnlyWiden h.nodes before after }
+    ensures event { (before after : Core) (h : Invariants before) → Event before after → IsFormed before → BoundsOnlyWiden h.nodes before after }
+    ensures run { (c : Config) (last next : Core) (h : Invariants last) → IsConfig c → Run (opening c) last → Event last next → BoundsOnlyWiden h.nodes last next }
+{}
+
+/// In every run a tree that is given back never has more than 28 nodes that wait, besides the roots of those that are not
+/// begun. So a stack of 40 has room for them.
+pub fn returned_nodes_are_few()
+    ensures { (c : Config) (last : Core) (seat number : ℕ) (view : View) (r : Rebuild) → IsConfig c → Run (opening c) last → IsViewAt last seat view → IsPass view number → view.rebuild ≡ Some r → begun r.returning ≤ 28 }
 {}
 
 /// What a pass knows was the whole log when it made its last step, in a core that meets all invariants; so the history

@@ -1,11 +1,13 @@
 //! What is proved of the steps by which an update finds that no reader is left in what it took out of sight, and gives back
 //! the nodes of the trees that it merged. No call here does anything.
 ghost use Rattle.std.specs.Prelude.{◌≡◌, ◌≢◌, ◌≤◌, ℕ, true, List, [], Some, Contains};
+ghost use Rattle.word_map.specs.declared.config.Config.{Config};
 ghost use Rattle.word_map.specs.declared.name.Name.{Name};
 ghost use Rattle.core_state.specs.declared.view.View.{View};
 ghost use Rattle.core_state.specs.declared.view.Rebuild.{Rebuild};
 ghost use Rattle.core_state.specs.declared.view.Waiting.{Waiting};
-ghost use Rattle.core_state.specs.Core.{Core, IsViewAt};
+ghost use Rattle.core_state.specs.Core.{Core, IsViewAt, opening};
+ghost use Rattle.core_state.specs.Event.{Run};
 ghost use Rattle.core_state.specs.View.{IsPass};
 ghost use Rattle.core_state.specs.Nodes.{free, spare, returning, IsOwnedBy};
 ghost use Rattle.core_state.specs.Noting.{StoresNew};
@@ -45,10 +47,12 @@ pub fn returned_nodes_have_ten_levels()
 {}
 
 /// A tree that is begun never has more than 28 nodes that wait to be given back: they are a stack before the roots of the
-/// other trees. Roots alone are such a stack, and so is what is left where its first node goes and the children come.
+/// other trees. Roots alone are such a stack, and so is what is left where its first node goes and the children come. So in
+/// every run what an update has to give back is one.
 pub fn returned_nodes_are_stacked()
     ensures begins { (r : Rebuild) → IsStacked (with_tops r).returning }
     ensures goes_on { (word : Name → ℕ) (tops : List Waiting) → IsStacked tops → IsStacked (tops_after word tops) }
+    ensures run { (c : Config) (last : Core) → Run (opening c) last → (seat : ℕ) (view : View) (r : Rebuild) → IsViewAt last seat view → view.rebuild ≡ Some r → IsStacked r.returning }
     ensures few { (core : Core) (h : Invariants core) (seat number : ℕ) (view : View) (r : Rebuild) → IsViewAt core seat view → IsPass view number → view.rebuild ≡ Some r → IsStacked r.returning → begun r.returning ≤ 28 }
 {}
 

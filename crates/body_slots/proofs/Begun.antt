@@ -24,7 +24,7 @@ use Rattle.body_slots.specs.declared.create_op.CreateStage.TheVariants.{Taking}
 use Rattle.body_slots.specs.declared.destroy_op.DestroyOp.{DestroyOp}
 use Rattle.body_slots.specs.declared.destroy_op.DestroyStage.TheVariants.{Looking}
 use Rattle.body_slots.specs.stages.Creating.{CreatesBody}
-use Rattle.body_slots.specs.stages.Destroying.{DestroysBody}
+use Rattle.body_slots.specs.stages.Destroying.{DestroysBody, IsBegunFor}
 
 module _ (layer : ℕ) (bounds : FixBox) (user : ℕ) (view next : View) (taking : TakeOp) where
   abbrev Begun : CreateOp
@@ -44,6 +44,9 @@ module _ (layer : ℕ) (bounds : FixBox) (user : ℕ) (view next : View) (taking
 stripe-first : (c : Config) (index : ℕ) → IsConfig c → stripe_of c index < index_lock c
 stripe-first c index limits = let range = stripes-range c.stripes limits.stripes in mod-lt index {m = c.stripes} (omega arith)
 
+pub begun-for : (id : Id) (view : View) → IsConfig view.config → id.index < view.config.bodies → IsAtRest view → IsBegunFor id view
+begun-for id view limits below rest = record { below = below; striped = stripe-first view.config id.index limits; rest = rest }
+
 module _ (id : Id) (view next : View) (look : LookOp) where
   abbrev BegunFor : DestroyOp
   BegunFor = record { id = id; look = look; stage = Looking; made = None }
@@ -51,6 +54,6 @@ module _ (id : Id) (view next : View) (look : LookOp) where
   pub destroying-begun : IsConfig view.config → id.index < view.config.bodies → IsAtRest view → look ≡ looking_of view.config id Write ItsPhase → IsLooking look view look next → DestroysBody BegunFor view BegunFor next
   destroying-begun limits below rest is looking = (
     refl,
-    record { below = below; striped = stripe-first view.config id.index limits; rest = rest },
+    begun-for id view limits below rest,
     subst (λ (first : LookOp). IsLooking first view look next) is looking,
   )

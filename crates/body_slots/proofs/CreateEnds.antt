@@ -228,9 +228,13 @@ leave-turn before answer view next number lock found pass at same go = record {
 }
 
 -- what it was begun with
-own_begun : (first : CreateOp) (start : View) (layer : ℕ) (bounds : FixBox) (user : ℕ) → IsBegun first start layer bounds user → IsBegun first start first.layer first.bounds first.user
+pub own_begun : (first : CreateOp) (start : View) (layer : ℕ) (bounds : FixBox) (user : ℕ) → IsBegun first start layer bounds user → IsBegun first start first.layer first.bounds first.user
 own_begun first start layer bounds user begun =
     record { layer_as = refl; bounds_as = refl; user_as = refl; in_layers = begun.in_layers; fits = begun.fits; rest = begun.rest }
+
+-- the next sequence number, plus 256
+pub next-state : (state last word : ℕ) → last ≡ state % 256 → word ≡ 256 + (last + 1) % 256 → word ≡ created_state state
+next-state state last word is says = omega arith
 
 -- the store of the state word may be made
 pub may-create : (before first : CreateOp) (start view : View) (index state value : ℕ) → CreatesBody first start before view → before.stage ≡ Filled index state → value ≡ created_state state

@@ -33,6 +33,7 @@ use Rattle.pass_table.specs.Stepping.{step_by, Stored}
 use Rattle.pass_table.specs.Turning.{AtMostOneStep, MadeBy, IsUnderWay}
 use Rattle.pass_table.specs.Holding.{MayLetGo, LetGo}
 use Rattle.pass_table.specs.Calls.{StoresWord}
+use Rattle.pass_table.specs.Ended.{HasEnded}
 use Rattle.pass_table.proofs.Knowing.{known-more, step-alone}
 use Rattle.pass_table.proofs.Turning.{one-step}
 use Rattle.pass_table.proofs.Calling.{adds-none, stepped-sizes, steady-now, stored-gained, stored-made, word-beside, released-step, released-made, released-lawful}
@@ -48,8 +49,8 @@ use Rattle.body_slots.specs.declared.answers.DestroyRefused.{DestroyRefused}
 use Rattle.body_slots.specs.declared.destroy_op.DestroyStage.{DestroyStage}
 use Rattle.body_slots.specs.declared.destroy_op.DestroyStage.TheVariants.{Locked, Headed, Linked, InFront, Destroyed, Leaving}
 use Rattle.body_slots.specs.declared.destroy_op.DestroyOp.{DestroyOp}
-use Rattle.body_slots.specs.Answers.{HasDestroyed}
-use Rattle.body_slots.specs.stages.Destroying.{both_taken, KnowsOut, HasStripeAlone, AtDestroy, PastLook, IsBegunFor, DestroysBody, DestroyAnswers, stage_left, IsDestroyTurn}
+use Rattle.body_slots.specs.Answers.{HasDestroyed, IsDestroyAnswer}
+use Rattle.body_slots.specs.stages.Destroying.{both_taken, KnowsOut, HasStripeAlone, AtDestroy, PastLook, IsBegunFor, DestroysBody, stage_left, IsDestroyTurn}
 use Rattle.body_slots.specs.stages.DestroyLater.{first-taken, both-stripe, both-list, out-more, destroyed-later, answer-later}
 use Rattle.body_slots.proofs.CreateTurns.{doing-left}
 use Rattle.body_slots.proofs.DestroyTurns.{has-list, has-out}
@@ -243,14 +244,13 @@ module _ (id : Id) (start view : View) (answer : Result (Unit {0}) DestroyRefuse
   pub may-leave : MayLetGo view (stripe_of start.config id.index)
   may-leave = record { mode = Write; holds = worked-mode start view _ at.2 begun.rest (stripe_of start.config id.index) ∙ at.3.held; done = at.2.doing }
 
-module _ (first : DestroyOp) (start view : View) (answer : Result (Unit {0}) DestroyRefused) (begun : IsBegunFor first.id start) (at : PastLook first.id start view (Leaving answer)) where
-  has_left : (next : View) (found : ℕ) → LetGo view (stripe_of start.config first.id.index) found next → DestroyAnswers first start next answer
+  pub has_left : (next : View) (found : ℕ) → LetGo view (stripe_of start.config id.index) found next → HasEnded start next × IsDestroyAnswer id start next answer
   has_left next found go =
-      let lock = stripe_of start.config first.id.index in
+      let lock = stripe_of start.config id.index in
       let by = released-made view next lock found go at.2.adds.number (worked-pass start view _ at.2) in
       let done = worked-done start next _ (worked-released start view next _ at.2 lock found go refl) begun.rest refl at.3.alone in (
         record { rest = done.rest; tells = done.tells; keeps = done-keeps start next _ done; lawful = released-lawful view next lock found go },
-        answer-later first.id start view next answer (known-more MayRelease release view next (Lock lock) go.0 0 found go.1) (λ entries adds. adds-none start view next entries (worked-role start view _ at.2) adds by) at.4,
+        answer-later id start view next answer (known-more MayRelease release view next (Lock lock) go.0 0 found go.1) (λ entries adds. adds-none start view next entries (worked-role start view _ at.2) adds by) at.4,
       )
 
 -- so is the last turn
@@ -264,7 +264,7 @@ leave-turn before answer view next number lock found pass at same go = record {
   keeps = λ first start making. tt;
   answered = λ first start making.
       let there = subst (AtDestroy first.id start view before.look) at making.2 in
-      has_left first start view answer making.1 there next found
+      has_left first.id start view answer making.1 there next found
       (subst (λ (l : ℕ). LetGo view l found next) (same ∙ (λ i. stripe_of (worked-sizes start view _ there.2 i) (making.0 i).index)) go);
 }
 

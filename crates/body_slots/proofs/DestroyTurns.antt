@@ -1,5 +1,5 @@
 -- What the turns of a destruction leave that look at the body, and those that take the lock of the list.
-use Rattle.std.proofs.Common.{◌≡◌, ◌⊎◌, ℕ, ◌+◌, ◌<◌, List, [], Bool, true, false, Option, Some, None, Err, Result, eqb, cond, refl, ap, sym, ◌∙◌, subst, arith}
+use Rattle.std.proofs.Common.{◌≡◌, ◌⊎◌, ℕ, ◌<◌, List, [], Bool, true, false, Option, Some, None, Err, Result, eqb, cond, refl, ap, sym, ◌∙◌, subst, arith}
 use Rattle.body_ident.specs.Id.{Id}
 use Rattle.scene_model.specs.declared.body_view.Phase.{Phase as BodyPhase}
 use Rattle.scene_model.specs.declared.body_view.Phase.TheVariants.{Held, In}
@@ -42,7 +42,7 @@ use Rattle.body_slots.specs.declared.destroy_op.DestroyStage.{DestroyStage}
 use Rattle.body_slots.specs.declared.destroy_op.DestroyStage.TheVariants.{Looking, TakingList, Locked, Leaving}
 use Rattle.body_slots.specs.declared.destroy_op.DestroyOp.{DestroyOp}
 use Rattle.body_slots.specs.Answers.{IsDestroyAnswer, IsInUseAt}
-use Rattle.body_slots.specs.stages.Destroying.{stripe_taken, both_taken, KnowsOut, HasStripeAlone, AtDestroy, PastLook, IsBegunFor, DestroysBody, DestroyAnswers, stage_left, takes_at, IsDestroyTurn}
+use Rattle.body_slots.specs.stages.Destroying.{stripe_taken, both_taken, KnowsOut, HasStripeAlone, AtDestroy, PastLook, IsBegunFor, DestroysBody, DestroyAnswers, stage_left, takes_at, IsDestroyTurn, IsFoundOut}
 use Rattle.body_slots.specs.stages.DestroyLater.{stripe-held, both-stripe, both-list}
 
 -- ---- stages
@@ -106,11 +106,10 @@ out-quiet id view next quiet sizes holds out = (
   quiet-word view next (Phase id.index) quiet sizes (phase-steady id.index Write view holds) ∙ out.1,
 )
 
-pub list-done : (id : Id) (start view next : View) (taking : TakeOp) → IsAtRest start → HasTaken (taking_of (index_lock start.config) Write) view next → MadeBy view next None
-    → PastLook id start view (TakingList taking) → PastLook id start next Locked
-list-done id start view next taking rest taken by at = (
-  worked-taken start view next _ at.0 (index_lock start.config) Write taken by,
-  out-quiet id view next taken.quiet (ap (λ (v : View). v.config) taken.left.rest) (stripe-held id start view _ _ rest at.0) at.1,
+pub list-done : (id : Id) (start view next : View) → IsAtRest start → HasTaken (taking_of (index_lock start.config) Write) view next → MadeBy view next None → IsFoundOut id start view → PastLook id start next Locked
+list-done id start view next rest taken by found = (
+  worked-taken start view next _ found.0 (index_lock start.config) Write taken by,
+  out-quiet id view next taken.quiet (ap (λ (v : View). v.config) taken.left.rest) (stripe-held id start view _ _ rest found.0) found.1,
 )
 
 pub list-on : (id : Id) (start view next : View) (taking after : TakeOp) → IsAtRest start → IsTaking (taking_of (index_lock start.config) Write) view after next → MadeBy view next None

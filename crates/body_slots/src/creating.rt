@@ -207,7 +207,8 @@ impl CreateOp {
     }
 
     /// The name and the value of a word that the body is given.
-    fn field(&self, index: u32, number: u32) -> (Name, u64)
+    #[inline(always)]
+    pub(crate) fn field(&self, index: u32, number: u32) -> (Name, u64)
         requires below { number < 8 }
         ensures name { result.0 ≡ field_name index number }
         ensures value { result.1 ≡ field_value self.now number }

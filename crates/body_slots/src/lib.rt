@@ -10,13 +10,15 @@
 #![tactic(auto)]
 
 mod answers;
-mod calls;
 mod create_op;
 mod creating;
 mod destroy_op;
 mod destroying;
+mod whole_create;
+mod whole_destroy;
 
 pub use answers::{DestroyRefused, Full};
-pub use calls::{create, destroy};
 pub use create_op::CreateOp;
 pub use destroy_op::DestroyOp;
+pub use whole_create::create;
+pub use whole_destroy::destroy;

@@ -1,5 +1,5 @@
 -- How creating a body goes, turn by turn.
-use Rattle.std.specs.Prelude.{◌≡◌, ℕ, zero, suc, ◌+◌, ◌-◌, ◌^◌, ◌<◌, List, [], ◌∷◌, Option, Some, None, Result, slice_index}
+use Rattle.std.specs.Prelude.{◌≡◌, ℕ, zero, suc, ◌+◌, ◌-◌, ◌^◌, ◌<◌, List, [], ◌∷◌, Option, Some, None, Ok, Err, Result, slice_index}
 use Rattle.fixed_box.specs.FixBox.{words_of}
 use Rattle.fixed_box.specs.declared.fix_box.FixBox.{FixBox}
 use Rattle.body_ident.specs.Id.{Id}
@@ -112,3 +112,18 @@ create_takes operation = takes_at operation.stage
 
 abbrev pub IsCreateTurn : Turn (Result Id Full) → CreateOp → CreateOp → View → View → Type 0
 IsCreateTurn turn before after view next = IsTurn CreatesBody CreateAnswers create_left (λ operation. operation.made) create_takes turn before after view next
+
+-- ---- all turns at once
+
+-- the operation at another stage, after a turn that made no entry
+abbrev pub at_stage : CreateOp → CreateStage → CreateOp
+at_stage operation stage = record operation { stage = stage; made = None }
+
+-- whatever was begun and may go on as one operation may go on as another
+abbrev pub CreatesOn : CreateOp → View → CreateOp → View → Type 0
+CreatesOn before view after next = (first : CreateOp) (start : View) → CreatesBody first start before view → CreatesBody first start after next
+
+-- where the index that was taken off leads, or that there was none
+abbrev pub once_taken : Result ℕ Full → CreateStage
+once_taken (Ok index) = Taken index
+once_taken (Err refused) = Leaving (Err refused)

@@ -105,3 +105,17 @@ destroy_takes operation = takes_at operation.look operation.stage
 
 abbrev pub IsDestroyTurn : Turn (Result (Unit {0}) DestroyRefused) → DestroyOp → DestroyOp → View → View → Type 0
 IsDestroyTurn turn before after view next = IsTurn DestroysBody DestroyAnswers destroy_left (λ operation. operation.made) destroy_takes turn before after view next
+
+-- ---- all turns at once
+
+-- the stripe is held, and the body is live and out
+abbrev pub IsFoundOut : Id → View → View → Type 0
+IsFoundOut id start view = IsCalling start view (stripe_taken start.config id) Nothing [] × KnowsOut id view
+
+-- a destruction of this id's body was begun for which this holds
+abbrev pub SomeDestroys : Id → (View → Type 0) → Type 0
+SomeDestroys id holds = (start : View) × IsBegunFor id start × holds start
+
+-- whatever was begun for which the first holds, the second does
+abbrev pub DestroysOn : Id → (View → Type 0) → (View → Type 0) → Type 0
+DestroysOn id before after = (start : View) → IsBegunFor id start → before start → after start

@@ -1,14 +1,9 @@
-use Rattle.std.proofs.Common.{◌≡◌, ℕ, ◌+◌, ◌%◌, ap, sym, ◌∙◌, arith}
+use Rattle.std.proofs.Common.{ℕ, ◌+◌, ◌%◌, ap, sym, ◌∙◌}
 use Rattle.core_state.specs.declared.view.View.{View}
 use Rattle.core_state.specs.View.{IsPass, number_of}
-use Rattle.core_state.specs.Lives.{created_state}
 use Rattle.pass_table.specs.Passes.{view_of}
-use Rattle.body_slots.proofs.CreateEnds.{may-create, create-turn}
+use Rattle.body_slots.proofs.CreateEnds.{next-state, may-create, create-turn}
 use Rattle.body_slots.proofs.create_op.CreateOp.store_state.Goals as goal
-
--- the next sequence number, plus 256
-next-state : (state last word : ℕ) → last ≡ state % 256 → word ≡ 256 + (last + 1) % 256 → word ≡ created_state state
-next-state state last word is says = omega arith
 
 pub step_13-requires-clause-asks : goal.step_13-requires-clause-asks
 step_13-requires-clause-asks c =

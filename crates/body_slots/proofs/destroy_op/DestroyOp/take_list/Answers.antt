@@ -16,7 +16,7 @@ returns-in-Done-clause-turn c =
     let taking = c.args.taking in
     let left = some-left taking in
     destroy-on c.go_on.result c.args.self.now c.go_on.new.self (TakingList taking) Locked view next c.go_on.ensures.more c.go_on.ensures.stage c.requires.stage c.turn.ensures.step c.turn.ensures.made (omega arith) tt
-    (λ first start making at. list-done first.id start view next taking making.1.rest (c.in-Done.ensures.answers (taking_of (index_lock start.config) Write) view at.2) c.turn.ensures.made at)
+    (λ first start making at. list-done first.id start view next making.1.rest (c.in-Done.ensures.answers (taking_of (index_lock start.config) Write) view at.2) c.turn.ensures.made (at.0, at.1))
 
 pub returns-in-More-clause-turn : goal.returns-in-More-clause-turn
 returns-in-More-clause-turn c =

@@ -34,6 +34,7 @@ use Rattle.pass_table.proofs.WorkLater.{worked-sizes, worked-batches, worked-loo
 use Rattle.batch_add.specs.stages.Keeping.{index_at, IsKept, IsBegunFor}
 use Rattle.batch_add.specs.stages.GivingUp.{WorksFree, WorksUnder, unmark_entries, with_marks, unplaced, unmarking_work, IsAtBody, UnderStripe, AtGiving, IsGivingUp, ComesNext}
 use Rattle.batch_add.specs.stages.GivingLater.{under-stripe}
+use Rattle.batch_add.specs.stages.GiveSteps.{HasUnmarked}
 use Rattle.pass_table.proofs.Working.{worked-begun, worked-loosely}
 use Rattle.batch_add.proofs.GiveLists.{body-gone, body-cleared}
 use Rattle.batch_add.proofs.GiveWork.{under-released, under-stored, under-made}
@@ -226,49 +227,86 @@ module _ (start : View) (before : List Batch) (batch : Batch) (after : List Batc
 
     -- and its stripe is let go
     pub body-left : (next : View) (found : ℕ) → LetGo view (stripe_of start.config at.m.index) found next → UnderStripe start before batch after view at.m (at.gone ++ at.m ∷ []) at.later
-        → WorksFree start next (unmarking_work start before batch after (at.gone ++ at.m ∷ []) at.later)
-    body-left next found go work = under-released start view next _ (stripe_of start.config at.m.index) found go refl work
+        → HasUnmarked (suc done) start before batch after next
+    body-left next found go work = record {
+      gone = at.gone ++ at.m ∷ [];
+      left = at.later;
+      parts = at.parts ∙ sym (append_assoc at.gone (at.m ∷ []) at.later);
+      many = length-append at.gone (at.m ∷ []) ∙ (let many = at.many in omega arith);
+      work = under-released start view next _ (stripe_of start.config at.m.index) found go refl work;
+    }
 
   -- ---- what comes next
 
-  pub comes-next : (done : ℕ) (gone left : List Marked) → batch.marked ≡ gone ++ left → length gone ≡ done → WorksFree start view (unmarking_work start before batch after gone left)
-      → (stage : GiveStage) → ComesNext kept done view stage → AtGiving start before batch after view stage
-  comes-next done gone [] parts many work Bare comes =
-      subst (λ (l : List Marked). WorksFree start view (unmarking_work start before batch after l [])) (sym (append-nil gone) ∙ sym parts) work
-  comes-next done gone (m ∷ later) parts many work Bare comes =
-      let at : IsAtBody batch done = record { gone = gone; m = m; later = later; parts = parts; many = many } in
-      let less = body-less kept batch begun.keeps done at in
-      absurd (omega arith)
-  comes-next done gone [] parts many work (Striping number taking) comes =
-      let all : length batch.marked ≡ length gone = ap (λ (l : List Marked). length l) (parts ∙ append-nil gone) in
-      let most = marked-many kept batch begun.keeps in
-      let less = comes.1 in
-      absurd (omega arith)
-  comes-next done gone (m ∷ later) parts many work (Striping number taking) comes =
-      let at : IsAtBody batch done = record { gone = gone; m = m; later = later; parts = parts; many = many } in (
-        record { gone = gone; m = m; later = later; parts = parts; many = many ∙ sym comes.0 },
-        work,
-        subst (λ (l : ℕ). IsTaking (taking_of l Write) view taking view) (λ i. stripe_of (worked-sizes start view _ work.worked i) (body-index kept batch begun.keeps done at i)) comes.2,
-      )
-  comes-next done gone left parts many work (Striped number) comes = absurd comes
-  comes-next done gone left parts many work (Cleared number) comes = absurd comes
-  comes-next done gone left parts many work (Unmarked number) comes = absurd comes
-  comes-next done gone left parts many work (Locking taking) comes = absurd comes
-  comes-next done gone left parts many work Locked comes = absurd comes
-  comes-next done gone left parts many work (Next free given) comes = absurd comes
-  comes-next done gone left parts many work (Headed free given head) comes = absurd comes
-  comes-next done gone left parts many work (Linked free given) comes = absurd comes
-  comes-next done gone left parts many work (Given free) comes = absurd comes
-  comes-next done gone left parts many work Counted comes = absurd comes
+  module _ (done : ℕ) (u : HasUnmarked done start before batch after view) where
+    gone_left : length batch.marked ≡ done + length u.left
+    gone_left = ap (λ (l : List Marked). length l) u.parts ∙ (length-append u.gone u.left ∙ ap (λ (n : ℕ). n + length u.left) u.many)
 
-  -- after a body whose stripe was let go
-  pub next-body : (done : ℕ) (at : IsAtBody batch done) → WorksFree start view (unmarking_work start before batch after (at.gone ++ at.m ∷ []) at.later) → (stage : GiveStage)
-      → ComesNext kept (suc done) view stage → AtGiving start before batch after view stage
-  next-body done at work stage comes =
-      comes-next (suc done) (at.gone ++ at.m ∷ []) at.later (at.parts ∙ sym (append_assoc at.gone (at.m ∷ []) at.later))
-      (length-append at.gone (at.m ∷ []) ∙ (let many = at.many in omega arith)) work stage comes
+    -- a body is left
+    pub body-next : done < kept.marked → (at : IsAtBody batch done) × WorksFree start view (unmarking_work start before batch after at.gone (at.m ∷ at.later))
+    body-next less = go u.left refl
+      where
+        go : (l : List Marked) → u.left ≡ l → (at : IsAtBody batch done) × WorksFree start view (unmarking_work start before batch after at.gone (at.m ∷ at.later))
+        go [] none =
+            let rest : length u.left ≡ 0 = ap (λ (l : List Marked). length l) none in
+            let all = gone_left in
+            let most = marked-many kept batch begun.keeps in
+            absurd (omega arith)
+        go (m ∷ later) some = (
+          record { gone = u.gone; m = m; later = later; parts = u.parts ∙ ap (λ (l : List Marked). u.gone ++ l) some; many = u.many },
+          subst (λ (l : List Marked). WorksFree start view (unmarking_work start before batch after u.gone l)) some u.work,
+        )
+
+    -- or none
+    pub bodies-done : done ≡ kept.marked → WorksFree start view (unmarking_work start before batch after batch.marked [])
+    bodies-done all = go u.left refl
+      where
+        go : (l : List Marked) → u.left ≡ l → WorksFree start view (unmarking_work start before batch after batch.marked [])
+        go [] none =
+            subst (λ (l : List Marked). WorksFree start view (unmarking_work start before batch after l [])) (sym (append-nil u.gone) ∙ (ap (λ (l : List Marked). u.gone ++ l) (sym none) ∙ sym u.parts))
+            (subst (λ (l : List Marked). WorksFree start view (unmarking_work start before batch after u.gone l)) none u.work)
+        go (m ∷ later) some =
+            let rest : length u.left ≡ suc (length later) = ap (λ (l : List Marked). length l) some in
+            let count = gone_left in
+            let most = marked-many kept batch begun.keeps in
+            absurd (omega arith)
+
+  pub comes-next : (done : ℕ) → HasUnmarked done start before batch after view → (stage : GiveStage) → ComesNext kept done view stage → AtGiving start before batch after view stage
+  comes-next done u Bare comes = bodies-done done u comes
+  comes-next done u (Striping number taking) comes =
+      let next = body-next number (subst (λ (n : ℕ). HasUnmarked n start before batch after view) (sym comes.0) u) (subst (λ (n : ℕ). n < kept.marked) (sym comes.0) comes.1) in (
+        next.0,
+        next.1,
+        subst (λ (l : ℕ). IsTaking (taking_of l Write) view taking view)
+            (λ i. stripe_of (worked-sizes start view _ next.1.worked i) ((ap (λ (n : ℕ). index_at kept n) (sym comes.0) ∙ body-index kept batch begun.keeps number next.0) i)) comes.2,
+      )
+  comes-next done u (Striped number) comes = absurd comes
+  comes-next done u (Cleared number) comes = absurd comes
+  comes-next done u (Unmarked number) comes = absurd comes
+  comes-next done u (Locking taking) comes = absurd comes
+  comes-next done u Locked comes = absurd comes
+  comes-next done u (Next free given) comes = absurd comes
+  comes-next done u (Headed free given head) comes = absurd comes
+  comes-next done u (Linked free given) comes = absurd comes
+  comes-next done u (Given free) comes = absurd comes
+  comes-next done u Counted comes = absurd comes
 
 -- ---- the beginning
+
+-- no body is unmarked yet
+pub none-unmarked : (kept : KeptBatch) (view : View) (number : ℕ) → IsPass view number → (before : List Batch) (batch : Batch) (after : List Batch) → IsBegunFor kept view before batch after
+    → HasUnmarked 0 view before batch after view
+none-unmarked kept view number pass before batch after begun = record {
+  gone = [];
+  left = batch.marked;
+  parts = refl;
+  many = refl;
+  work = record {
+    steps = [];
+    free = λ lock. refl;
+    worked = subst (λ (l : List Batch). HasWorked view view (record (begun_work view) { batches = l; places = true })) begun.among (worked-loosely view view _ (worked-begun view number pass begun.rest));
+  };
+}
 
 pub giving-begun : (kept : KeptBatch) (stage : GiveStage) (view next : View) (number : ℕ) → IsPass view number → next ≡ view
     → ((before : List Batch) × (batch : Batch) × (after : List Batch) × IsBegunFor kept view before batch after) → ComesNext kept 0 view stage
@@ -278,12 +316,5 @@ giving-begun kept stage view next number pass still some comes =
     (record {
       kept = refl;
       some = some;
-      each = λ before batch after begun. comes-next view before batch after kept begun view 0 [] batch.marked refl refl (work before batch after begun) stage comes;
+      each = λ before batch after begun. comes-next view before batch after kept begun view 0 (none-unmarked kept view number pass before batch after begun) stage comes;
     })
-  where
-    work : (before : List Batch) (batch : Batch) (after : List Batch) → IsBegunFor kept view before batch after → WorksFree view view (unmarking_work view before batch after [] batch.marked)
-    work before batch after begun = record {
-      steps = [];
-      free = λ lock. refl;
-      worked = subst (λ (l : List Batch). HasWorked view view (record (begun_work view) { batches = l; places = true })) begun.among (worked-loosely view view _ (worked-begun view number pass begun.rest));
-    }

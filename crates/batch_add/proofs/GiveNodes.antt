@@ -1,7 +1,7 @@
 -- How the nodes of a batch that is given up are put into the pool again.
 use Rattle.std.specs.Prelude.{flat_map, filter}
 use Rattle.std.proofs.Common.{◌≡◌, ◌≢◌, ℕ, zero, suc, ◌+◌, ◌<◌, ◌≤◌, ◌==◌, not, List, [], ◌∷◌, ◌++◌, None, Contains, AllPairs, length, take, drop, get_or, append_assoc, refl, ap, sym, ◌∙◌, subst, arith}
-use Rattle.std.proofs.lemmas.List.{length-append}
+use Rattle.std.proofs.lemmas.List.{append-nil, length-append}
 use Rattle.std.proofs.lemmas.List.Elements.{Contains-append_right}
 use Rattle.word_map.specs.declared.config.Config.{Config}
 use Rattle.word_map.specs.declared.name.Name.TheVariants.{PoolHead, PoolNext, PoolFree}
@@ -39,6 +39,7 @@ use Rattle.batch_add.specs.Parts.{StoresFrom}
 use Rattle.batch_add.specs.stages.Keeping.{node_of, IsKept, IsBegunFor}
 use Rattle.batch_add.specs.stages.GivingUp.{WorksUnder, putting, giving_work, counted_work, IsAtNode, KnowsFree, IsPutting}
 use Rattle.batch_add.specs.stages.GivingLater.{under-pool, pool-steady, under-more, put-later}
+use Rattle.batch_add.specs.stages.GiveSteps.{HasPut}
 use Rattle.batch_add.proofs.GiveLists.{node-gone, written-more}
 use Rattle.batch_add.proofs.GiveWork.{under-stored, under-told}
 use Rattle.batch_add.proofs.GiveBodies.{nodes-many}
@@ -124,29 +125,66 @@ module _ (start : View) (before : List Batch) (batch : Batch) (after : List Batc
 
   -- ---- the count is loaded
 
-  pub count-known : (next : View) (count : ℕ) → LoadedCount view next count → 0 < length batch.nodes
-      → WorksUnder (pool_lock start.config) start view (giving_work start before batch after Nothing [] batch.nodes) → IsPutting start before batch after next count 0
-  count-known next count loaded some work = go batch.nodes refl some
-    where
-      task : view.call.task ≡ Nothing
-      task = work.worked.doing
-
-      knows : KnowsFree start before batch after next count
-      knows =
-          let sizes : view.config ≡ start.config = worked-sizes start view _ work.worked in
-          let counts : count + 0 ≡ loaded.many + 0 = subst (λ (t : Task). count + given_in t ≡ loaded.many + taken_in t) task loaded.counts in
-          let most : loaded.many ≤ start.config.nodes = subst (λ (c : Config). loaded.many ≤ c.nodes) sizes loaded.most in
-          record { known = loaded.is; most = omega arith }
-
-      go : (nodes : List ℕ) → batch.nodes ≡ nodes → 0 < length nodes → IsPutting start before batch after next count 0
-      go [] same none = absurd (omega arith)
-      go (node ∷ later) same less = record {
-        at = record { gone = []; node = node; later = later; parts = same; many = refl };
-        work =
-            subst (λ (l : List ℕ). WorksUnder (pool_lock start.config) start next (giving_work start before batch after Nothing [] l)) same
-            (under-more start view next _ loaded.more _ work);
-        knows = knows;
+  pub count-known : (next : View) (count : ℕ) → LoadedCount view next count
+      → WorksUnder (pool_lock start.config) start view (giving_work start before batch after Nothing [] batch.nodes) → HasPut count 0 start before batch after next
+  count-known next count loaded work =
+      let task : view.call.task ≡ Nothing = work.worked.doing in
+      let sizes : view.config ≡ start.config = worked-sizes start view _ work.worked in
+      let counts : count + 0 ≡ loaded.many + 0 = subst (λ (t : Task). count + given_in t ≡ loaded.many + taken_in t) task loaded.counts in
+      let most : loaded.many ≤ start.config.nodes = subst (λ (c : Config). loaded.many ≤ c.nodes) sizes loaded.most in
+      record {
+        gone = [];
+        left = batch.nodes;
+        parts = refl;
+        many = refl;
+        work = under-more start view next _ loaded.more _ work;
+        knows = record { known = loaded.is; most = omega arith };
       }
+
+  -- ---- what comes next
+
+  module _ (free given : ℕ) (put : HasPut free given start before batch after view) where
+    gone_left : kept.node_count ≡ given + length put.left
+    gone_left =
+        sym (nodes-many kept batch begun.keeps)
+        ∙ (ap (λ (l : List ℕ). length l) put.parts
+        ∙ (length-append put.gone put.left ∙ ap (λ (n : ℕ). n + length put.left) put.many))
+
+    -- a node is left
+    pub node-next : given < kept.node_count → IsPutting start before batch after view free given
+    node-next less = go put.left refl
+      where
+        go : (l : List ℕ) → put.left ≡ l → IsPutting start before batch after view free given
+        go [] none =
+            let rest : length put.left ≡ 0 = ap (λ (l : List ℕ). length l) none in
+            let count = gone_left in
+            absurd (omega arith)
+        go (x ∷ l) some = record {
+          at = record { gone = put.gone; node = x; later = l; parts = put.parts ∙ ap (λ (k : List ℕ). put.gone ++ k) some; many = put.many };
+          work = subst (λ (k : List ℕ). WorksUnder (pool_lock start.config) start view (giving_work start before batch after (putting given) put.gone k)) some put.work;
+          knows = put.knows;
+        }
+
+    -- or none
+    pub nodes-done : given ≡ kept.node_count → 0 < given
+        → (0 < length batch.nodes) × WorksUnder (pool_lock start.config) start view (giving_work start before batch after (putting (length batch.nodes)) batch.nodes []) × KnowsFree start before batch after view free
+    nodes-done all some = go put.left refl
+      where
+        go : (l : List ℕ) → put.left ≡ l
+            → (0 < length batch.nodes) × WorksUnder (pool_lock start.config) start view (giving_work start before batch after (putting (length batch.nodes)) batch.nodes []) × KnowsFree start before batch after view free
+        go [] none =
+            let count : given ≡ length batch.nodes = all ∙ sym (nodes-many kept batch begun.keeps) in (
+              omega arith,
+              subst (λ (n : ℕ). WorksUnder (pool_lock start.config) start view (giving_work start before batch after (putting n) batch.nodes [])) count
+                  (subst (λ (l : List ℕ). WorksUnder (pool_lock start.config) start view (giving_work start before batch after (putting given) l []))
+                  (sym (append-nil put.gone) ∙ (ap (λ (l : List ℕ). put.gone ++ l) (sym none) ∙ sym put.parts))
+                  (subst (λ (l : List ℕ). WorksUnder (pool_lock start.config) start view (giving_work start before batch after (putting given) put.gone l)) none put.work)),
+              put.knows,
+            )
+        go (x ∷ l) some_left =
+            let rest : length put.left ≡ suc (length l) = ap (λ (k : List ℕ). length k) some_left in
+            let count = gone_left in
+            absurd (omega arith)
 
   -- ---- a node is given back
 
@@ -262,60 +300,15 @@ module _ (start : View) (before : List Batch) (batch : Batch) (after : List Batc
         most = put.knows.most;
       }
 
-      all_nodes : length batch.nodes ≡ given + suc (length put.at.later)
-      all_nodes = ap (λ (l : List ℕ). length l) put.at.parts ∙ (length-append put.at.gone (put.at.node ∷ put.at.later) ∙ ap (λ (n : ℕ). n + suc (length put.at.later)) put.at.many)
-
-      -- it was the last one
-      pub front-all : suc given ≡ kept.node_count
-          → (0 < length batch.nodes) × WorksUnder (pool_lock start.config) start next (giving_work start before batch after (putting (length batch.nodes)) batch.nodes [])
-          × KnowsFree start before batch after next free
-      front-all last = go put.at.later refl
-        where
-          many : length batch.nodes ≡ kept.node_count
-          many = nodes-many kept batch begun.keeps
-
-          go : (l : List ℕ) → put.at.later ≡ l
-              → (0 < length batch.nodes) × WorksUnder (pool_lock start.config) start next (giving_work start before batch after (putting (length batch.nodes)) batch.nodes [])
-              × KnowsFree start before batch after next free
-          go [] none =
-              let count : suc given ≡ length batch.nodes = last ∙ sym many in (
-                omega arith,
-                subst (λ (n : ℕ). WorksUnder (pool_lock start.config) start next (giving_work start before batch after (putting n) batch.nodes [])) count
-                    (subst (λ (l : List ℕ). WorksUnder (pool_lock start.config) start next (giving_work start before batch after (putting (suc given)) l [])) (sym (put.at.parts ∙ ap (λ (l : List ℕ). put.at.gone ++ put.at.node ∷ l) none))
-                    (subst (λ (l : List ℕ). WorksUnder (pool_lock start.config) start next (giving_work start before batch after (putting (suc given)) (put.at.gone ++ put.at.node ∷ []) l)) none front_work)),
-                front_knows,
-              )
-          go (x ∷ l) some =
-              let rest : length put.at.later ≡ suc (length l) = ap (λ (k : List ℕ). length k) some in
-              let all = all_nodes in
-              let count = many in
-              absurd (omega arith)
-
-      -- or another one is next
-      pub front-next : suc given ≢ kept.node_count → IsPutting start before batch after next free (suc given)
-      front-next short = go put.at.later refl
-        where
-          many : length batch.nodes ≡ kept.node_count
-          many = nodes-many kept batch begun.keeps
-
-          go : (l : List ℕ) → put.at.later ≡ l → IsPutting start before batch after next free (suc given)
-          go [] none =
-              let rest : length put.at.later ≡ 0 = ap (λ (k : List ℕ). length k) none in
-              let all = all_nodes in
-              let count = many in
-              absurd (short (omega arith))
-          go (x ∷ l) some = record {
-            at = record {
-              gone = put.at.gone ++ put.at.node ∷ [];
-              node = x;
-              later = l;
-              parts = put.at.parts ∙ (ap (λ (k : List ℕ). put.at.gone ++ put.at.node ∷ k) some ∙ sym (append_assoc put.at.gone (put.at.node ∷ []) (x ∷ l)));
-              many = length-append put.at.gone (put.at.node ∷ []) ∙ (let here = put.at.many in omega arith);
-            };
-            work =
-                subst (λ (k : List ℕ). WorksUnder (pool_lock start.config) start next (giving_work start before batch after (putting (suc given)) (put.at.gone ++ put.at.node ∷ []) k)) some front_work;
-            knows = front_knows;
-          }
+      pub front-put : HasPut free (suc given) start before batch after next
+      front-put = record {
+        gone = put.at.gone ++ put.at.node ∷ [];
+        left = put.at.later;
+        parts = put.at.parts ∙ sym (append_assoc put.at.gone (put.at.node ∷ []) put.at.later);
+        many = length-append put.at.gone (put.at.node ∷ []) ∙ (let here = put.at.many in omega arith);
+        work = front_work;
+        knows = front_knows;
+      }
 
   -- ---- the count is stored
 

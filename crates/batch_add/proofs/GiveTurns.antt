@@ -1,7 +1,6 @@
 -- How the turns of giving a batch up go on from stage to stage.
-use Rattle.std.proofs.Common.{◌≡◌, ℕ, suc, ◌+◌, ◌<◌, ◌≤◌, List, Option, Some, None, inl, ap, sym, ◌∙◌, subst, arith}
+use Rattle.std.proofs.Common.{◌≡◌, ℕ, suc, ◌+◌, ◌<◌, ◌≤◌, Option, Some, None, inl, ap, sym, ◌∙◌, subst, arith}
 use Rattle.scene_model.specs.declared.entry.Made.{Made}
-use Rattle.core_state.specs.declared.view.Batch.{Batch}
 use Rattle.core_state.specs.declared.view.View.{View}
 use Rattle.pass_table.specs.declared.take_op.TakeOp.{TakeOp}
 use Rattle.pass_table.specs.declared.turn.Turn.{Turn}
@@ -13,30 +12,16 @@ use Rattle.batch_add.specs.declared.kept_batch.KeptBatch.{KeptBatch}
 use Rattle.batch_add.specs.declared.giving_up.GiveStage.{GiveStage}
 use Rattle.batch_add.specs.declared.giving_up.GiveStage.TheVariants.{Striping, Striped, Cleared, Unmarked, Bare, Locking, Locked, Next, Headed, Linked, Given, Counted}
 use Rattle.batch_add.specs.declared.giving_up.GivingUp.{GivingUp}
-use Rattle.batch_add.specs.Parts.{HasGivenUp}
 use Rattle.batch_add.specs.stages.Keeping.{IsBegunFor}
 use Rattle.batch_add.specs.stages.GivingUp.{AtGiving, ComesNext, IsGivingUp, HasGiven, left_at, takes_at, IsGiveTurn}
-
--- a turn that goes from a stage to a stage keeps to the stages of the operation
-abbrev pub KeepsStage : KeptBatch → View → View → GiveStage → GiveStage → Type 0
-KeepsStage kept view next stage new =
-    (start : View) (before : List Batch) (batch : Batch) (after : List Batch) → IsBegunFor kept start before batch after → AtGiving start before batch after view stage
-    → AtGiving start before batch after next new
+use Rattle.batch_add.specs.stages.GiveSteps.{Progress, AtStage, IsGivenUp, IsSoFar, Leads, IsGiveStep}
 
 abbrev pub at_stage : GivingUp → GiveStage → Option Made → GivingUp
 at_stage operation stage made = record operation { stage = stage; made = made }
 
--- what it was begun for, and how far it is
-pub record IsAtStage (operation : GivingUp) (stage : GiveStage) (view : View) : Type 0 where
-  pub start : View
-  pub before : List Batch
-  pub batch : Batch
-  pub after : List Batch
-  pub begun : IsBegunFor operation.kept start before batch after
-  pub at : AtGiving start before batch after view stage
-
-pub at-stage : (operation : GivingUp) (stage : GiveStage) (view : View) → IsUnderWay IsGivingUp operation view → operation.stage ≡ stage → IsAtStage operation stage view
-at-stage operation stage view way at =
+-- the batch of an operation is being given up, and is at its stage
+pub so-far : (operation : GivingUp) (stage : GiveStage) (view : View) → IsUnderWay IsGivingUp operation view → operation.stage ≡ stage → IsSoFar operation.kept (AtStage stage) view
+so-far operation stage view way at =
     let some = way.goes.some in
     record {
       start = way.start;
@@ -47,7 +32,7 @@ at-stage operation stage view way at =
       at = subst (AtGiving way.start some.0 some.1 some.2 view) at (way.goes.each some.0 some.1 some.2 some.3);
     }
 
-keeps_on : (operation : GivingUp) (stage new : GiveStage) (made : Option Made) (view next : View) → operation.stage ≡ stage → KeepsStage operation.kept view next stage new → (first : GivingUp) (start : View)
+keeps_on : (operation : GivingUp) (stage new : GiveStage) (made : Option Made) (view next : View) → operation.stage ≡ stage → Leads operation.kept (AtStage stage) view (AtStage new) next → (first : GivingUp) (start : View)
     → IsGivingUp first start operation view → IsGivingUp first start (at_stage operation new made) next
 keeps_on operation stage new made view next at keeps first start giving = record {
   kept = giving.kept;
@@ -57,7 +42,7 @@ keeps_on operation stage new made view next at keeps first start giving = record
 
 -- a turn that goes on to a stage, with the entry that it made
 pub went-on-made : (turn : Turn (Unit {0})) (operation new : GivingUp) (stage later : GiveStage) (made : Option Made) (view next : View) → turn ≡ More → new ≡ at_stage operation later made → operation.stage ≡ stage
-    → AtMostOneStep view next → MadeBy view next made → left_at operation.kept later < left_at operation.kept stage → LoadsNow view next (takes_at later) → KeepsStage operation.kept view next stage later → IsGiveTurn turn operation new view next
+    → AtMostOneStep view next → MadeBy view next made → left_at operation.kept later < left_at operation.kept stage → LoadsNow view next (takes_at later) → Leads operation.kept (AtStage stage) view (AtStage later) next → IsGiveTurn turn operation new view next
 went-on-made turn operation new stage later made view next goes is at step by less loads keeps =
     subst (λ (t : Turn (Unit {0})). IsGiveTurn t operation new view next) (sym goes)
     (subst (λ (o : GivingUp). IsGiveTurn More operation o view next) (sym is) (record {
@@ -71,22 +56,30 @@ went-on-made turn operation new stage later made view next goes is at step by le
 
 -- without one
 pub went-on : (turn : Turn (Unit {0})) (operation new : GivingUp) (stage later : GiveStage) (view next : View) → turn ≡ More → new ≡ record operation { stage = later; made = None } → operation.stage ≡ stage
-    → AtMostOneStep view next → MadeBy view next None → left_at operation.kept later < left_at operation.kept stage → LoadsNow view next (takes_at later) → KeepsStage operation.kept view next stage later → IsGiveTurn turn operation new view next
+    → AtMostOneStep view next → MadeBy view next None → left_at operation.kept later < left_at operation.kept stage → LoadsNow view next (takes_at later) → Leads operation.kept (AtStage stage) view (AtStage later) next
+    → IsGiveTurn turn operation new view next
 went-on turn operation new stage later view next = went-on-made turn operation new stage later None view next
 
+-- a turn that goes on by a step to a stage without a lock to take
+pub went-by : (turn : Turn (Unit {0})) (operation new : GivingUp) (stage later : GiveStage) (view next : View) → turn ≡ More → new ≡ record operation { stage = later; made = None } → operation.stage ≡ stage
+    → left_at operation.kept later < left_at operation.kept stage → takes_at later ≡ None → (to : Progress) → IsGiveStep operation.kept (AtStage stage) to None view next → Leads operation.kept to next (AtStage later) next
+    → IsGiveTurn turn operation new view next
+went-by turn operation new stage later view next goes is at less takes to step leads =
+    went-on turn operation new stage later view next goes is at step.step step.made less (subst (LoadsNow view next) (sym takes) tt)
+    (λ start before batch after begun there. leads start before batch after begun (step.leads start before batch after begun there))
+
 -- the last turn
-pub ended : (operation : GivingUp) (stage : GiveStage) (view next : View) → operation.stage ≡ stage → AtMostOneStep view next → MadeBy view next None
-    → ((start : View) (before : List Batch) (batch : Batch) (after : List Batch) → IsBegunFor operation.kept start before batch after → AtGiving start before batch after view stage → HasGivenUp before batch after start next)
-    → IsGiveTurn (Done tt) operation (record operation { made = None }) view next
-ended operation stage view next at step by gives = record {
-  step = step;
-  made = by;
+pub ended : (operation : GivingUp) (stage : GiveStage) (view next : View) → operation.stage ≡ stage → (to : Progress) → IsGiveStep operation.kept (AtStage stage) to None view next
+    → Leads operation.kept to next IsGivenUp next → IsGiveTurn (Done tt) operation (record operation { made = None }) view next
+ended operation stage view next at to step gives = record {
+  step = step.step;
+  made = step.made;
   turned = tt;
   loads = tt;
   keeps = λ first start giving. tt;
   answered = λ first start giving before batch after begun.
       let here : IsBegunFor operation.kept start before batch after = subst (λ (k : KeptBatch). IsBegunFor k start before batch after) (sym giving.kept) begun in
-      gives start before batch after here (subst (AtGiving start before batch after view) at (giving.each before batch after here));
+      gives start before batch after here (step.leads start before batch after here (subst (AtGiving start before batch after view) at (giving.each before batch after here)));
 }
 
 -- at most two turns are left of taking a lock
@@ -115,7 +108,7 @@ next-less kept done view Counted comes = absurd comes
 -- a turn of taking a lock, that is to be made again or after which there is more to do
 module _ (stage_of : TakeOp → GiveStage) (more : ℕ) (operation new : GivingUp) (lefts : (taking : TakeOp) → left_at operation.kept (stage_of taking) ≡ more + turns_left taking) (takes : (taking : TakeOp) → takes_at (stage_of taking) ≡ Some taking) (taking after : TakeOp) (view next : View)
     (is : new ≡ record operation { stage = stage_of after; made = None }) (at : operation.stage ≡ stage_of taking) (step : AtMostOneStep view next) (made : MadeBy view next None) (loads : LoadsNow view next (Some after))
-    (keeps : KeepsStage operation.kept view next (stage_of taking) (stage_of after)) where
+    (keeps : Leads operation.kept (AtStage (stage_of taking)) view (AtStage (stage_of after)) next) where
   take_turn : (turn : Turn (Unit {0})) → Turned turn view next (Some taking) (more + turns_left taking) (more + turns_left after)
       → (LoadsNow view next (takes_at (stage_of after)) → GoesOn turn (LoadsNow view next (takes_at (stage_of after))))
       → ((first : GivingUp) (start : View) → IsGivingUp first start (at_stage operation (stage_of after) None) next → GoesOn turn (IsGivingUp first start (at_stage operation (stage_of after) None) next))

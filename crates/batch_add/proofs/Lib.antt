@@ -44,3 +44,4 @@ pub mod PrepareLabel
 pub mod PreparedLists
 pub mod WholeTree
 pub mod WholeMarks
+pub mod WholeGiving

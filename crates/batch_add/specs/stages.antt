@@ -8,6 +8,7 @@ pub mod DrawStages
 pub mod DrawLater
 pub mod GivingUp
 pub mod GivingLater
+pub mod GiveSteps
 pub mod Preparing
 pub mod PrepareLater
 pub mod Aborting

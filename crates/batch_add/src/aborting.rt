@@ -1,7 +1,10 @@
 //! Giving up a batch that is prepared.
-ghost use Rattle.std.specs.Prelude.{◌≡◌, None, ⊤};
-ghost use Rattle.pass_table.specs.Passes.{view_of, IsIdle};
+ghost use Rattle.std.specs.Prelude.{◌≡◌, List, None, ⊤};
+ghost use Rattle.core_state.specs.declared.view.Batch.{Batch};
+ghost use Rattle.pass_table.specs.Holding.{IsAtRest};
+ghost use Rattle.pass_table.specs.Passes.{view_of, IsOf, IsIdle};
 ghost use Rattle.batch_add.specs.Prepared.{IsGood};
+ghost use Rattle.batch_add.specs.stages.Keeping.{IsBegunFor};
 ghost use Rattle.batch_add.specs.stages.Aborting.{kept_of, IsAborting};
 ghost use Rattle.batch_add.specs.Answers.{HasAborted};
 
@@ -17,6 +20,34 @@ use scene_model::Made;
 pub struct AbortOp {
     pub(crate) number: u32,
     pub(crate) giving: GivingUp,
+}
+
+/// What is kept of a batch that is to be given up.
+pub(crate) fn kept_of(world: &World, pass: &Pass, batch: Prepared) -> KeptBatch
+    requires of { IsOf world.now pass.now }
+    requires good { IsGood batch (view_of pass.now) }
+    requires rest { IsAtRest (view_of pass.now) }
+    ensures kept { result ≡ kept_of batch }
+    ensures begun { (before : List Batch) × (some : Batch) × (after : List Batch) × IsBegunFor result (view_of pass.now) before some after }
+{
+    let marked = batch.indexes.len() as u32;
+    let node_count = batch.nodes.len() as u32;
+    let Prepared {
+        number: _number,
+        layer,
+        slot,
+        indexes,
+        nodes,
+    } = batch;
+    KeptBatch {
+        layer,
+        slot,
+        indexes,
+        marked,
+        are_placed: true,
+        nodes,
+        node_count,
+    }
 }
 
 impl Operation for AbortOp {
@@ -68,24 +99,8 @@ impl AbortOp {
         ensures kept { result.giving.kept ≡ kept_of batch }
         ensures under_way { IsAborting result (view_of pass.old) result (view_of pass.new) }
     {
-        let marked = batch.indexes.len() as u32;
-        let node_count = batch.nodes.len() as u32;
-        let Prepared {
-            number,
-            layer,
-            slot,
-            indexes,
-            nodes,
-        } = batch;
-        let kept = KeptBatch {
-            layer,
-            slot,
-            indexes,
-            marked,
-            are_placed: true,
-            nodes,
-            node_count,
-        };
+        let number = batch.number;
+        let kept = kept_of(world, pass, batch);
         AbortOp {
             number,
             giving: GivingUp::new(world, pass, kept),

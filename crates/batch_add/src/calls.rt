@@ -8,12 +8,12 @@ ghost use Rattle.batch_add.specs.Prepared.{IsGood, IsApart};
 ghost use Rattle.batch_add.specs.PreparedLists.{AreGood, IsBeside};
 ghost use Rattle.batch_add.specs.Answers.{PrepareAnswers, HasAborted};
 
-use crate::aborting::AbortOp;
+use crate::aborting::kept_of;
 use crate::answers::PrepareRefused;
 use crate::prepare_op::PrepareOp;
 use crate::prepared::Prepared;
 use body_ident::BodyId;
-use pass_table::{Pass, World, drive};
+use pass_table::{Pass, World};
 use std::alloc::Global;
 use std::sync::Wait;
 
@@ -63,7 +63,6 @@ pub fn abort<R: Wait>(rt: &R, world: &World, pass: &mut Pass, batch: Prepared)
     ensures others { (other : Prepared) → IsGood other (view_of pass.old) → IsApart other batch → IsGood other (view_of pass.new) }
     ensures lists { (list : PreparedList) → AreGood list (view_of pass.old) → IsBeside batch list → AreGood list (view_of pass.new) }
 {
-    let mut aborting = AbortOp::new(world, pass, batch);
-    drive(rt, world, pass, &mut aborting);
-    aborting.leave();
+    let kept = kept_of(world, pass, batch);
+    kept.give_up(rt, world, pass);
 }

@@ -13,10 +13,8 @@ ghost use Rattle.batch_add.specs.stages.GivingUp.{ComesNext, takes_at, give_take
 
 use crate::kept_batch::KeptBatch;
 use core_state::Mode;
-use free_list::{load_count, load_pool_head, put_node_in_front, store_count, store_pool_link};
-use pass_table::{Label, Operation, Pass, TakeOp, Turn, World, release, step_25, step_26, step_27};
-use scene_model::{Entry, Made};
-use word_map::Name;
+use pass_table::{Label, Operation, Pass, TakeOp, Turn, World};
+use scene_model::Made;
 
 /// How far it is.
 #[derive(Clone, Copy)]
@@ -201,8 +199,7 @@ impl GivingUp {
         ensures of { IsOf world.now pass.new }
         ensures turn { IsGiveTurn result self.old self.new (view_of pass.old) (view_of pass.new) }
     {
-        let index = self.kept.index(done);
-        step_25(world, pass, Name::LocA(index), 0);
+        self.kept.take_back(world, pass, done);
         self.go_on(GiveStage::Cleared { done })
     }
 
@@ -214,13 +211,9 @@ impl GivingUp {
         ensures of { IsOf world.now pass.new }
         ensures turn { IsGiveTurn result self.old self.new (view_of pass.old) (view_of pass.new) }
     {
-        let index = self.kept.index(done);
-        step_26(world, pass, Name::Phase(index), 0);
+        let made = self.kept.unmark(world, pass, done);
         self.stage = GiveStage::Unmarked { done };
-        self.made = Some(Made {
-            pass: pass.number(),
-            entry: Entry::Unmark { index },
-        });
+        self.made = Some(made);
         Turn::More
     }
 
@@ -233,7 +226,7 @@ impl GivingUp {
         ensures turn { IsGiveTurn result self.old self.new (view_of pass.old) (view_of pass.new) }
     {
         let _most = self.kept.marked;
-        release(world, pass, self.kept.stripe(world, done));
+        self.kept.leave_stripe(world, pass, done);
         let stage = stage_after(world, pass, &self.kept, done + 1);
         self.go_on(stage)
     }
@@ -246,7 +239,7 @@ impl GivingUp {
         ensures of { IsOf world.now pass.new }
         ensures turn { IsGiveTurn result self.old self.new (view_of pass.old) (view_of pass.new) }
     {
-        step_27(world, pass, Name::Slot(self.kept.layer, self.kept.slot), 0);
+        self.kept.let_slot_go(world, pass);
         if self.kept.node_count == 0 {
             self.made = None;
             return Turn::Done(());
@@ -283,7 +276,7 @@ impl GivingUp {
         ensures of { IsOf world.now pass.new }
         ensures turn { IsGiveTurn result self.old self.new (view_of pass.old) (view_of pass.new) }
     {
-        let free = load_count(world, pass);
+        let free = self.kept.load_free(world, pass);
         self.go_on(GiveStage::Next { free, given: 0 })
     }
 
@@ -295,7 +288,7 @@ impl GivingUp {
         ensures of { IsOf world.now pass.new }
         ensures turn { IsGiveTurn result self.old self.new (view_of pass.old) (view_of pass.new) }
     {
-        let head = load_pool_head(world, pass);
+        let head = self.kept.load_head(world, pass);
         self.go_on(GiveStage::Headed { free, given, head })
     }
 
@@ -314,7 +307,7 @@ impl GivingUp {
         ensures of { IsOf world.now pass.new }
         ensures turn { IsGiveTurn result self.old self.new (view_of pass.old) (view_of pass.new) }
     {
-        store_pool_link(world, pass, self.kept.node(given), head);
+        self.kept.store_link(world, pass, given, head);
         self.go_on(GiveStage::Linked { free, given })
     }
 
@@ -326,7 +319,7 @@ impl GivingUp {
         ensures of { IsOf world.now pass.new }
         ensures turn { IsGiveTurn result self.old self.new (view_of pass.old) (view_of pass.new) }
     {
-        put_node_in_front(world, pass, self.kept.node(given));
+        self.kept.put_in_front(world, pass, given);
         let last = self.kept.node_count - 1;
         if given == last {
             return self.go_on(GiveStage::Given { free });
@@ -345,7 +338,7 @@ impl GivingUp {
         ensures of { IsOf world.now pass.new }
         ensures turn { IsGiveTurn result self.old self.new (view_of pass.old) (view_of pass.new) }
     {
-        store_count(world, pass, free + u64::from(self.kept.node_count));
+        self.kept.store_free(world, pass, free);
         self.go_on(GiveStage::Counted)
     }
 
@@ -357,7 +350,7 @@ impl GivingUp {
         ensures of { IsOf world.now pass.new }
         ensures turn { IsGiveTurn result self.old self.new (view_of pass.old) (view_of pass.new) }
     {
-        release(world, pass, world.pool_lock());
+        self.kept.leave_pool(world, pass);
         self.made = None;
         Turn::Done(())
     }

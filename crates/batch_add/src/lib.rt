@@ -17,6 +17,7 @@ mod calls;
 mod draw_stage;
 mod drawing_steps;
 mod finalizing;
+mod giving_steps;
 mod giving_up;
 mod kept_batch;
 pub mod laws;
@@ -32,6 +33,7 @@ mod preparing;
 mod slot_search;
 mod tree_drawing;
 mod whole_batch;
+mod whole_giving;
 mod whole_marks;
 mod whole_tree;
 

@@ -5,11 +5,14 @@ ghost use Rattle.pass_table.specs.Passes.{view_of, IsIdle};
 ghost use Rattle.batch_add.specs.Prepared.{IsGood};
 ghost use Rattle.batch_add.specs.PreparedLists.{AreGood, IsBeside};
 
+mod spending;
+
 use crate::table::Table;
 use crate::town::{create_all, ids_from, open, some_boxes};
-use batch_add::{Prepared, PreparedList, abort, finalize, prepare};
+use batch_add::{Prepared, PreparedList, prepare};
 use fixed_box::FixBox;
 use pass_table::{Pass, World};
+use spending::Spending;
 use std::alloc::{AllocError, Global};
 use std::io;
 use std::io::Print;
@@ -85,54 +88,6 @@ fn prepare_all<R: Wait>(
     held
 }
 
-/// Attaches the last batch of the list, where there is one.
-fn attach(world: &World, pass: &mut Pass, list: &mut PreparedList)
-    requires idle { IsIdle world.now pass.old }
-    requires good { AreGood list.old (view_of pass.old) }
-    ensures idle { IsIdle world.now pass.new }
-    ensures good { AreGood list.new (view_of pass.new) }
-{
-    if let Some(last) = list.len().checked_sub(1) {
-        let batch = list.take(last);
-        finalize(world, pass, batch);
-    }
-}
-
-/// Attaches all batches of the list, the last one first.
-fn attach_all(world: &World, pass: &mut Pass, list: &mut PreparedList)
-    requires idle { IsIdle world.now pass.old }
-    requires good { AreGood list.old (view_of pass.old) }
-    ensures idle { IsIdle world.now pass.new }
-{
-    for _ in 0..list.len() {
-        attach(world, pass, list);
-    }
-}
-
-/// Gives the last batch of the list up, where there is one.
-fn give_up<R: Wait>(rt: &R, world: &World, pass: &mut Pass, list: &mut PreparedList)
-    requires idle { IsIdle world.now pass.old }
-    requires good { AreGood list.old (view_of pass.old) }
-    ensures idle { IsIdle world.now pass.new }
-    ensures good { AreGood list.new (view_of pass.new) }
-{
-    if let Some(last) = list.len().checked_sub(1) {
-        let batch = list.take(last);
-        abort(rt, world, pass, batch);
-    }
-}
-
-/// Gives all batches of the list up, the last one first.
-fn abort_all<R: Wait>(rt: &R, world: &World, pass: &mut Pass, list: &mut PreparedList)
-    requires idle { IsIdle world.now pass.old }
-    requires good { AreGood list.old (view_of pass.old) }
-    ensures idle { IsIdle world.now pass.new }
-{
-    for _ in 0..list.len() {
-        give_up(rt, world, pass, list);
-    }
-}
-
 /// What a run did with all bodies, and its nanoseconds.
 #[derive(Clone, Copy)]
 struct Stream {
@@ -146,7 +101,7 @@ struct Stream {
 fn measure<R: Clock + Print + Wait>(
     table: &Table<R>,
     boxes: &[FixBox],
-    attaches: bool,
+    spending: Spending,
 ) -> io::Result<Stream> {
     let (rt, alloc) = (table.runtime(), table.alloc());
     let (world, mut pass) = open(alloc, BODIES).ok_or(AllocError)?;
@@ -156,11 +111,7 @@ fn measure<R: Clock + Print + Wait>(
     let held = prepare_all(rt, alloc, &world, &mut pass, &mut list);
     let prepare = table.since(start)?;
     let start = table.start()?;
-    if attaches {
-        attach_all(&world, &mut pass, &mut list);
-    } else {
-        abort_all(rt, &world, &mut pass, &mut list);
-    }
+    spending.spend_all(rt, &world, &mut pass, &mut list);
     let spend = table.since(start)?;
     Ok(Stream {
         held,
@@ -173,40 +124,41 @@ fn measure<R: Clock + Print + Wait>(
 fn quickest<R: Clock + Print + Wait>(
     table: &Table<R>,
     boxes: &[FixBox],
-    attaches: bool,
+    spending: Spending,
 ) -> io::Result<Stream> {
-    let mut least = measure(table, boxes, attaches)?;
+    let mut least = measure(table, boxes, spending)?;
     for _ in 1..table.runs() {
-        let next = measure(table, boxes, attaches)?;
+        let next = measure(table, boxes, spending)?;
         least.prepare = least.prepare.min(next.prepare);
         least.spend = least.spend.min(next.spend);
     }
     Ok(least)
 }
 
-/// Writes rows for preparing batches, attaching them, and giving them up.
+/// Writes a row of calls on all bodies.
+fn write<R: Clock + Print + Wait>(
+    table: &Table<R>,
+    what: &str,
+    held: u32,
+    nanos: u128,
+) -> io::Result<()> {
+    let found = format!(in table.alloc(); "{held} batches")?;
+    table.write(what, found.as_str(), nanos, u64::from(BODIES))
+}
+
+/// Writes rows for preparing batches, attaching them, and giving them up, in one call and by turns.
 pub(crate) fn run<R: Clock + Print + Wait>(table: &Table<R>) -> io::Result<()> {
     let boxes = some_boxes(table.alloc(), BODIES)?;
-    let attached = quickest(table, &boxes, true)?;
-    let held = format!(in table.alloc(); "{} batches", attached.held)?;
-    table.write(
-        "batch, prepare",
-        held.as_str(),
-        attached.prepare,
-        u64::from(BODIES),
-    )?;
-    table.write(
-        "batch, finalize",
-        held.as_str(),
-        attached.spend,
-        u64::from(BODIES),
-    )?;
-    let given_up = quickest(table, &boxes, false)?;
-    let held = format!(in table.alloc(); "{} batches", given_up.held)?;
-    table.write(
-        "batch, abort",
-        held.as_str(),
-        given_up.spend,
-        u64::from(BODIES),
+    let attached = quickest(table, &boxes, Spending::Attach)?;
+    write(table, "batch, prepare", attached.held, attached.prepare)?;
+    write(table, "batch, finalize", attached.held, attached.spend)?;
+    let aborted = quickest(table, &boxes, Spending::Abort)?;
+    write(table, "batch, abort", aborted.held, aborted.spend)?;
+    let by_turns = quickest(table, &boxes, Spending::AbortByTurns)?;
+    write(
+        table,
+        "batch, abort by turns",
+        by_turns.held,
+        by_turns.spend,
     )
 }

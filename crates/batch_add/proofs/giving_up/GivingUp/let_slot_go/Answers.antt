@@ -11,57 +11,49 @@ use Rattle.batch_add.specs.declared.giving_up.GiveStage.TheVariants.{Bare, Locki
 use Rattle.pass_table.proofs.WorkLater.{worked-sizes}
 use Rattle.batch_add.specs.stages.GivingUp.{IsGiveTurn}
 use Rattle.batch_add.specs.stages.GivingLater.{free-lock}
-use Rattle.batch_add.proofs.GiveTurns.{at-stage, went-on, ended, few-left}
+use Rattle.batch_add.specs.stages.GiveSteps.{HasLetSlotGo}
+use Rattle.batch_add.proofs.GiveTurns.{so-far, went-on, ended, few-left}
 use Rattle.batch_add.proofs.GiveBodies.{nodes-many}
-use Rattle.batch_add.proofs.GiveSlot.{asks-slot, slot-gone, slot-step, slot-turn-made, gives-none}
+use Rattle.batch_add.proofs.GiveSlot.{gives-none}
 use Rattle.batch_add.proofs.giving_up.GivingUp.let_slot_go.Goals as goal
 
-pub step_27-requires-clause-asks : goal.step_27-requires-clause-asks
-step_27-requires-clause-asks c =
-    let view = view_of c.args.pass.now in
-    let now = at-stage c.args.self.now Bare view c.requires.under_way c.requires.stage in
-    asks-slot now.start now.before now.batch now.after c.args.self.now.kept now.begun view now.at
+pub let_slot_go-requires-clause-so_far : goal.let_slot_go-requires-clause-so_far
+let_slot_go-requires-clause-so_far c = so-far c.args.self.now Bare (view_of c.args.pass.now) c.requires.under_way c.requires.stage
 
 pub returns-then-self-eq0-clause-turn : goal.returns-then-self-eq0-clause-turn
 returns-then-self-eq0-clause-turn c =
     let kept = c.args.self.now.kept in
-    let view = view_of c.args.pass.now in
-    let next = view_of c.step_27.new.pass in
-    let stored = c.step_27.ensures.step in
-    ended c.args.self.now Bare view next c.requires.stage (slot-step view next kept.layer kept.slot stored) (slot-turn-made view next kept.layer kept.slot stored c.args.pass.now.number c.args.pass.now.numbered)
-    (λ start before batch after begun at.
-    gives-none start before batch after kept begun next (nodes-many kept batch begun.keeps ∙ c.if-self-eq0.true) (slot-gone start before batch after kept begun view at next stored))
+    let next = view_of c.let_slot_go.new.pass in
+    ended c.args.self.now Bare (view_of c.args.pass.now) next c.requires.stage HasLetSlotGo c.let_slot_go.ensures.step
+    (λ start before batch after begun gone. gives-none start before batch after kept begun next (nodes-many kept batch begun.keeps ∙ c.if-self-eq0.true) gone)
 
 pub new-taking-requires-clause-free : goal.new-taking-requires-clause-free
 new-taking-requires-clause-free c =
-    let kept = c.args.self.now.kept in
-    let view = view_of c.args.pass.now in
-    let next = view_of c.step_27.new.pass in
-    let now = at-stage c.args.self.now Bare view c.requires.under_way c.requires.stage in
-    free-lock now.start next _ now.begun.rest (slot-gone now.start now.before now.batch now.after kept now.begun view now.at next c.step_27.ensures.step) _
+    let now = so-far c.args.self.now Bare (view_of c.args.pass.now) c.requires.under_way c.requires.stage in
+    free-lock now.start (view_of c.let_slot_go.new.pass) _ now.begun.rest (c.let_slot_go.ensures.step.leads now.start now.before now.batch now.after now.begun now.at) _
 
 pub returns-clause-turn : goal.returns-clause-turn
 returns-clause-turn c =
     let operation = c.args.self.now in
     let kept = operation.kept in
     let view = view_of c.args.pass.now in
-    let mid = view_of c.step_27.new.pass in
-    let stored = c.step_27.ensures.step in
+    let mid = view_of c.let_slot_go.new.pass in
+    let step = c.let_slot_go.ensures.step in
     let taking = c.new-taking.result in
     let few = few-left taking in
     let still : view_of c.new-taking.new.pass ≡ mid = ap view_of c.new-taking.ensures.pass in
     let lock = c.pool_lock-lock.result in
     let goes : IsTaking (taking_of lock Write) mid taking mid = subst (λ (v : View). IsTaking (taking_of lock Write) mid taking v) still c.new-taking.ensures.under_way in
     subst (λ (v : View). IsGiveTurn c.go_on.result operation c.go_on.new.self view v) (sym still)
-    (went-on c.go_on.result operation c.go_on.new.self Bare (Locking taking) view mid c.go_on.ensures.more c.go_on.ensures.stage c.requires.stage (slot-step view mid kept.layer kept.slot stored)
-    (slot-turn-made view mid kept.layer kept.slot stored c.args.pass.now.number c.args.pass.now.numbered) (omega arith)
+    (went-on c.go_on.result operation c.go_on.new.self Bare (Locking taking) view mid c.go_on.ensures.more c.go_on.ensures.stage c.requires.stage step.step step.made (omega arith)
     (loads-none view mid (Some taking) (ap (λ (t : TakeOp). t.loaded) c.new-taking.ensures.begun))
     (λ start before batch after begun at.
+    let gone = step.leads start before batch after begun at in
     let many = nodes-many kept batch begun.keeps in
     let some = c.if-self-eq0.false in
     let named = c.pool_lock-lock.ensures ∙ ap (λ (s : Config). pool_lock s) (sym c.requires.of.sizes ∙ worked-sizes start view _ at.worked) in (
       more_nodes kept.node_count many some,
-      slot-gone start before batch after kept begun view at mid stored,
+      gone,
       subst (λ (l : ℕ). IsTaking (taking_of l Write) mid taking mid) named goes,
     )))
   where

@@ -1,50 +1,17 @@
-use Rattle.std.proofs.Common.{ℕ, Some, sym, ◌∙◌, ap, refl, subst, arith}
-use Rattle.scene_model.specs.declared.entry.Entry.TheVariants.{Unmark}
-use Rattle.word_map.specs.declared.name.Name.TheVariants.{Phase}
-use Rattle.core_state.specs.declared.view.View.{View}
-use Rattle.core_state.specs.View.{IsPass, number_of}
-use Rattle.core_state.specs.Batches.{MayUnmark, unmark}
-use Rattle.pass_table.specs.Stepping.{Stored}
+use Rattle.std.proofs.Common.{Some, refl, arith}
 use Rattle.pass_table.specs.declared.turn.Turn.TheVariants.{More}
 use Rattle.pass_table.specs.Passes.{view_of}
 use Rattle.batch_add.specs.declared.giving_up.GiveStage.TheVariants.{Cleared, Unmarked}
-use Rattle.pass_table.proofs.WorkLater.{worked-sizes}
-use Rattle.batch_add.proofs.GiveTurns.{at-stage, at_stage, went-on-made}
-use Rattle.batch_add.proofs.GiveBodies.{body-index, body-room, index-named, unmark-step, unmark-made, asks-unmark, unmarked-work}
+use Rattle.batch_add.proofs.GiveTurns.{at_stage, so-far, went-on-made}
 use Rattle.batch_add.proofs.giving_up.GivingUp.unmark.Goals as goal
 
-pub index-index-requires : goal.index-index-requires
-index-index-requires c =
-    let now = at-stage c.args.self.now (Cleared c.args.done) (view_of c.args.pass.now) c.requires.under_way c.requires.stage in
-    record { below = body-room c.args.self.now.kept now.batch now.begun.keeps c.args.done now.at.0 }
-
-pub step_26-requires-clause-named : goal.step_26-requires-clause-named
-step_26-requires-clause-named c =
-    let view = view_of c.args.pass.now in
-    let now = at-stage c.args.self.now (Cleared c.args.done) view c.requires.under_way c.requires.stage in
-    index-named now.start now.before now.batch now.after c.args.self.now.kept now.begun view c.args.world.now.map c.requires.of.sizes (worked-sizes now.start view _ now.at.1.worked) c.args.done c.index-index.result now.at.0
-    c.index-index.ensures.value
-
-pub step_26-requires-clause-asks : goal.step_26-requires-clause-asks
-step_26-requires-clause-asks c =
-    let view = view_of c.args.pass.now in
-    let now = at-stage c.args.self.now (Cleared c.args.done) view c.requires.under_way c.requires.stage in
-    subst (λ (n : ℕ). MayUnmark view (Phase n) 0 0) (sym (c.index-index.ensures.value ∙ body-index c.args.self.now.kept now.batch now.begun.keeps c.args.done now.at.0))
-    (asks-unmark now.start now.before now.batch now.after c.args.self.now.kept now.begun view c.args.done now.at.0 now.at.1)
+pub unmark-made-requires-clause-so_far : goal.unmark-made-requires-clause-so_far
+unmark-made-requires-clause-so_far c = so-far c.args.self.now (Cleared c.args.done) (view_of c.args.pass.now) c.requires.under_way c.requires.stage
 
 pub returns-clause-turn : goal.returns-clause-turn
 returns-clause-turn c =
     let operation = c.args.self.now in
-    let view = view_of c.args.pass.now in
-    let next = view_of c.step_26.new.pass in
     let done = c.args.done in
-    let index = c.index-index.result in
-    let stored = c.step_26.ensures.step in
-    let pass : IsPass view c.number.result = ap (λ (v : View). number_of v) (sym stored.1.leaves) ∙ c.number.ensures in
-    went-on-made More operation (at_stage operation (Unmarked done) (Some (record { pass = c.number.result; entry = Unmark index }))) (Cleared done) (Unmarked done) (Some (record { pass = c.number.result; entry = Unmark index })) view next
-    refl refl c.requires.stage (unmark-step view next index stored) (unmark-made view next index stored c.number.result pass) (omega arith) tt
-    (λ start before batch after begun at. (
-      at.0,
-      unmarked-work start before batch after operation.kept begun view done at.0 at.1 next
-          (subst (λ (n : ℕ). Stored MayUnmark unmark view (Phase n) 0 next) (c.index-index.ensures.value ∙ body-index operation.kept batch begun.keeps done at.0) stored),
-    ))
+    let made = Some c.unmark-made.result in
+    let step = c.unmark-made.ensures.step in
+    went-on-made More operation (at_stage operation (Unmarked done) made) (Cleared done) (Unmarked done) made (view_of c.args.pass.now) (view_of c.unmark-made.new.pass) refl refl c.requires.stage step.step step.made (omega arith) tt step.leads

@@ -1,6 +1,6 @@
 //! Commands on batches.
 ghost use Rattle.std.specs.Prelude.{◌≡◌, Option, List, IfOk};
-ghost use Rattle.script_player.specs.Batches.{prepare_named, finalize_named, abort_named, in_layer, add_layer, add_layers, add_named};
+ghost use Rattle.script_player.specs.Batches.{prepare_named, prepare_bodies, finalize_named, abort_named, in_layer, add_layer, add_layers, add_named};
 ghost use Rattle.std.specs.List.{range_with_len};
 ghost use Rattle.script_player.specs.UnderWay.{IsUnderWay};
 ghost use Rattle.script_player.specs.Shown.{Tries};
@@ -40,10 +40,24 @@ impl PlainPlayer {
         let Some(bodies) = self.books.known_all(alloc, names)? else {
             return Ok(Some(Refusal::NoId));
         };
+        self.prepare_bodies(alloc, batch, layer, &bodies)
+    }
+
+    /// Prepares a batch of these bodies, where no prepared batch has its name.
+    fn prepare_bodies(
+        &mut self,
+        alloc: Global,
+        batch: &Text,
+        layer: u32,
+        bodies: &[Known],
+    ) -> Result<Option<Refusal>, AllocError>
+        requires { IsUnderWay self.old }
+        ensures { IfOk result (Tries (prepare_bodies self.old batch.now layer bodies.now) self.old self.new) }
+    {
         if self.books.has_batch(batch) {
             return Ok(Some(Refusal::Batch));
         }
-        match self.take(alloc, layer, &bodies)? {
+        match self.take(alloc, layer, bodies)? {
             Ok(taken) => {
                 self.books.keep_batch(Batch {
                     name: Text::from_slice(alloc, batch.items())?,

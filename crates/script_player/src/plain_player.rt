@@ -6,7 +6,9 @@ ghost use Rattle.shape_test.specs.Touched.{is_touched};
 ghost use Rattle.word_map.specs.Limits.{IsConfig};
 ghost use Rattle.script_player.specs.Table.{empty_table};
 ghost use Rattle.script_player.specs.Attempt.{outcome};
-ghost use Rattle.script_player.specs.Turn.{create_turn, turn};
+ghost use Rattle.script_player.specs.Batches.{prepare_named, finalize_named, abort_named, add_named};
+ghost use Rattle.script_player.specs.Body.{change_named};
+ghost use Rattle.script_player.specs.Turn.{create_turn, turn, turn_of};
 ghost use Rattle.script_player.specs.UnderWay.{IsUnderWay};
 ghost use Rattle.script_player.specs.Shown.{Does, IsShownBy};
 
@@ -105,6 +107,51 @@ impl PlainPlayer {
         Ok(Reply::Hits(IdList::new(ids)))
     }
 
+    /// Changes the body that a name stands for, and answers: `destroy`, `remove`, `move` and `user`.
+    fn answer_change(&mut self, name: &Text, change: Change) -> Result<Reply, AllocError>
+        ensures { IfOk result (Does (turn_of (change_named self.old change name.now)) self.old self.new) }
+    {
+        Ok(outcome(self.change(name, change)?))
+    }
+
+    /// Adds bodies, and answers.
+    fn answer_add(&mut self, alloc: Global, names: &[Text]) -> Result<Reply, AllocError>
+        requires { IsUnderWay self.old }
+        ensures { IfOk result (Does (turn_of (add_named self.old names.now)) self.old self.new) }
+    {
+        Ok(outcome(self.add(alloc, names)?))
+    }
+
+    /// Prepares a batch, and answers.
+    fn answer_prepare(
+        &mut self,
+        alloc: Global,
+        batch: &Text,
+        layer: u32,
+        names: &[Text],
+    ) -> Result<Reply, AllocError>
+        requires { IsUnderWay self.old }
+        ensures { IfOk result (Does (turn_of (prepare_named self.old batch.now layer names.now)) self.old self.new) }
+    {
+        Ok(outcome(self.prepare(alloc, batch, layer, names)?))
+    }
+
+    /// Finalizes a batch, and answers.
+    fn answer_finalize(&mut self, batch: &Text) -> Result<Reply, AllocError>
+        requires { IsUnderWay self.old }
+        ensures { IfOk result (Does (turn_of (finalize_named self.old batch.now)) self.old self.new) }
+    {
+        Ok(outcome(self.finalize(batch)?))
+    }
+
+    /// Gives a batch up, and answers.
+    fn answer_abort(&mut self, batch: &Text) -> Result<Reply, AllocError>
+        requires { IsUnderWay self.old }
+        ensures { IfOk result (Does (turn_of (abort_named self.old batch.now)) self.old self.new) }
+    {
+        Ok(outcome(self.abort(batch)?))
+    }
+
     /// Carries a command out, and answers it. After an error the player is not used again.
     fn turn(&mut self, command: &Command) -> Result<Reply, AllocError>
         requires { IsUnderWay self.old }
@@ -118,20 +165,18 @@ impl PlainPlayer {
                 bounds,
                 user,
             } => self.create(alloc, name, *layer, *bounds, *user),
-            Command::Destroy { name } => Ok(outcome(self.change(name, Change::Destroy)?)),
-            Command::Add { names } => Ok(outcome(self.add(alloc, names.items())?)),
+            Command::Destroy { name } => self.answer_change(name, Change::Destroy),
+            Command::Add { names } => self.answer_add(alloc, names.items()),
             Command::Prepare {
                 batch,
                 layer,
                 names,
-            } => Ok(outcome(self.prepare(alloc, batch, *layer, names.items())?)),
-            Command::Finalize { batch } => Ok(outcome(self.finalize(batch)?)),
-            Command::Abort { batch } => Ok(outcome(self.abort(batch)?)),
-            Command::Remove { name } => Ok(outcome(self.change(name, Change::Remove)?)),
-            Command::Move { name, bounds } => {
-                Ok(outcome(self.change(name, Change::Move(*bounds))?))
-            }
-            Command::User { name, user } => Ok(outcome(self.change(name, Change::SetUser(*user))?)),
+            } => self.answer_prepare(alloc, batch, *layer, names.items()),
+            Command::Finalize { batch } => self.answer_finalize(batch),
+            Command::Abort { batch } => self.answer_abort(batch),
+            Command::Remove { name } => self.answer_change(name, Change::Remove),
+            Command::Move { name, bounds } => self.answer_change(name, Change::Move(*bounds)),
+            Command::User { name, user } => self.answer_change(name, Change::SetUser(*user)),
             Command::Read { name } => Ok(self.read(name)),
             Command::Multi { names } => self.multi(alloc, names.items()),
             Command::QueryBox { mask, bounds } => self.query(alloc, *mask, &Shape::Box(*bounds)),

@@ -1,5 +1,5 @@
 -- Words as they stand in printed lines.
-use Rattle.std.proofs.Common.{◌≡◌, ℕ, List, [], ◌∷◌, ◌++◌, length, map, ℤ, codes, take, drop, refl, ap, sym, ◌∙◌, append_assoc}
+use Rattle.std.proofs.Common.{◌≡◌, ℕ, List, [], ◌∷◌, ◌++◌, length, map, ℤ, codes, take, drop, Result, Ok, Err, OnErr, refl, ap, sym, ◌∙◌, append_assoc}
 use Rattle.std.proofs.lemmas.List.{take-append-drop}
 use Rattle.std.proofs.Math.Seq.{take-append_seam}
 use Rattle.std.specs.List.{flat_map}
@@ -35,6 +35,11 @@ front_kept old mid new more m h =
     let rest : List ℕ = drop (length mid) new in
     let e : new ≡ old ++ (more ++ rest) = sym (take-append-drop (length mid) new) ∙ (ap (λ (l : List ℕ). l ++ rest) (h ∙ m) ∙ append_assoc old more rest) in
     ap (take (length old)) e ∙ take-append_seam old (more ++ rest)
+
+-- the same after an error
+pub front_kept_after : {T E : Type 0} (r : Result T E) (old mid new more : List ℕ) → mid ≡ old ++ more → take (length mid) new ≡ mid → OnErr r (take (length old) new ≡ old)
+front_kept_after (Ok x) old mid new more m h = tt
+front_kept_after (Err e) old mid new more m h = front_kept old mid new more m h
 
 -- the text of a script, command by command
 pub text_by_command : (world : Config) (commands : List Command)

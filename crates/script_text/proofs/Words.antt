@@ -1,5 +1,5 @@
 -- The words of a line that has so many.
-use Rattle.std.proofs.Common.{◌≡◌, ◌≤◌, ◌<◌, ℕ, length, List, [], ◌∷◌, get_or, refl, arith}
+use Rattle.std.proofs.Common.{◌≡◌, ◌≤◌, ◌<◌, ℕ, length, List, [], ◌∷◌, drop, get_or, refl, arith}
 use Rattle.std.specs.Borrow.{Bor}
 use Rattle.script_text.specs.Lines.{texts}
 
@@ -52,3 +52,9 @@ pub words_9 : (xs : List (Bor (List ℕ))) → 9 ≤ length xs → length xs < 1
     → texts xs ≡ word xs 0 ∷ word xs 1 ∷ word xs 2 ∷ word xs 3 ∷ word xs 4 ∷ word xs 5 ∷ word xs 6 ∷ word xs 7 ∷ word xs 8 ∷ []
 words_9 [] h l = absurd (omega arith)
 words_9 (x ∷ xs) h l = rw (words_8 xs (omega arith) (omega arith)) refl
+
+-- at least two words, and those behind them
+pub two_words : (xs : List (Bor (List ℕ))) → 2 ≤ length xs → texts xs ≡ word xs 0 ∷ word xs 1 ∷ texts (drop 2 xs)
+two_words [] h = absurd (omega arith)
+two_words (x ∷ []) h = absurd (omega arith)
+two_words (x ∷ y ∷ xs) h = refl

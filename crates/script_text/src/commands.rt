@@ -1,6 +1,8 @@
 ghost use Rattle.std.specs.Prelude.{◌≡◌, ◌∷◌, [], codes};
 ghost use Rattle.script_text.specs.Lines.{texts};
-ghost use Rattle.script_text.specs.Fault.{ReadsInMemory};
+ghost use Rattle.script_text.specs.Fault.{ReadsInMemory, first_of};
+ghost use Rattle.script_text.specs.Name.{name_fault, known_names_fault};
+ghost use Rattle.script_text.specs.Fields.{layer_fault};
 ghost use Rattle.script_text.specs.Fitting.{HasWords};
 ghost use Rattle.script_text.specs.World.{SpellsWorld};
 ghost use Rattle.script_text.specs.Grammar.{world_fault, create_fault, body_fault, batch_fault, bodies_fault, prepare_fault, move_fault, set_user_fault, box_fault, point_fault, ray_fault};
@@ -101,8 +103,30 @@ pub fn read_bodies(
     read_known_names(alloc, names, args)
 }
 
+/// The `prepare` whose batch, layer and names these words spell, in a world with so many layers.
+fn read_prepared(
+    alloc: Global,
+    names: &Names,
+    layers: u32,
+    batch: &[u8],
+    layer: &[u8],
+    bodies: &[&[u8]],
+) -> Result<Command, LineError>
+    ensures { ReadsInMemory result (first_of (name_fault batch.now ∷ layer_fault layers layer.now ∷ known_names_fault names.now (texts bodies.now) ∷ []))
+        (HasWords (codes "prepare" ∷ batch.now ∷ layer.now ∷ texts bodies.now)) }
+{
+    check_name(batch)?;
+    let layer = read_layer(layers, layer)?;
+    let bodies = read_known_names(alloc, names, bodies)?;
+    Ok(Command::Prepare {
+        batch: Text::from_slice(alloc, batch)?,
+        layer,
+        names: bodies,
+    })
+}
+
 /// `prepare B LAYER NAME..` with 0 to `most` names, in a world with so many layers.
-#[tactic(auto, using(crate::proofs::Counts::prepare_count))]
+#[tactic(auto, using(crate::proofs::Counts::prepare_count, crate::proofs::Words::two_words))]
 pub fn read_prepare(
     alloc: Global,
     names: &Names,
@@ -116,14 +140,7 @@ pub fn read_prepare(
         return Err(LineError::Fault(Code::Count));
     };
     check_count(bodies, 0, most)?;
-    check_name(batch)?;
-    let layer = read_layer(layers, layer)?;
-    let bodies = read_known_names(alloc, names, bodies)?;
-    Ok(Command::Prepare {
-        batch: Text::from_slice(alloc, batch)?,
-        layer,
-        names: bodies,
-    })
+    read_prepared(alloc, names, layers, batch, layer, bodies)
 }
 
 /// `move NAME BOX`.

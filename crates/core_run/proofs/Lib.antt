@@ -1,0 +1,17 @@
+pub mod Tests
+pub mod Steps
+pub mod Beginnings
+pub mod Bodies
+pub mod Preparing
+pub mod Walking
+pub mod Climbing
+pub mod Moves
+pub mod Ways
+pub mod Attaching
+pub mod Notes
+pub mod Planning
+pub mod Placings
+pub mod Publishings
+pub mod Retirings
+pub mod TheRun
+pub mod Passes

@@ -157,13 +157,16 @@ impl GivingUp {
         }
     }
 
-    /// Goes on to a stage, after a turn that made no entry.
+    /// Goes on to a stage, after a turn that made no entry. What an earlier turn made is written over only where it is there.
+    #[inline(always)]
     fn go_on(&mut self, stage: GiveStage) -> Turn<()>
         ensures more { result ≡ More }
         ensures stage { self.new ≡ record self.old { stage = stage; made = None } }
     {
         self.stage = stage;
-        self.made = None;
+        if self.made.is_some() {
+            self.made = None;
+        }
         Turn::More
     }
 

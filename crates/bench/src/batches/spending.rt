@@ -4,6 +4,7 @@ ghost use Rattle.pass_table.specs.Passes.{view_of, IsIdle};
 ghost use Rattle.batch_add.specs.declared.prepared_list.PreparedList.{PreparedList};
 ghost use Rattle.batch_add.specs.Prepared.{IsGood};
 ghost use Rattle.batch_add.specs.PreparedLists.{AreGood, IsBeside};
+ghost use Rattle.batch_add.specs.Answers.{HasAborted};
 
 use batch_add::{AbortOp, Prepared, PreparedList, abort, finalize};
 use pass_table::{Pass, World, drive};
@@ -25,6 +26,7 @@ fn abort_by_turns<R: Wait>(rt: &R, world: &World, pass: &mut Pass, batch: Prepar
     requires idle { IsIdle world.now pass.old }
     requires good { IsGood batch (view_of pass.old) }
     ensures idle { IsIdle world.now pass.new }
+    ensures aborted { HasAborted batch (view_of pass.old) (view_of pass.new) }
     ensures lists { (list : PreparedList) → AreGood list (view_of pass.old) → IsBeside batch list → AreGood list (view_of pass.new) }
 {
     let mut aborting = AbortOp::new(world, pass, batch);

@@ -9,9 +9,6 @@ pub returns-clause-aborted : goal.returns-clause-aborted
 returns-clause-aborted g c =
     c.drive.ensures.answers c.new-aborting.result (view_of c.args.pass.now) c.new-aborting.ensures.under_way c.args.batch c.requires.good c.new-aborting.ensures.kept
 
-pub returns-clause-others : goal.returns-clause-others
-returns-clause-others g c = (returns-clause-aborted g c).others
-
 pub returns-clause-idle : goal.returns-clause-idle
 returns-clause-idle g c = record { of = c.drive.ensures.of; rest = aborted-rest c.args.batch (view_of c.args.pass.now) (view_of c.drive.new.pass) (returns-clause-aborted g c) }
 

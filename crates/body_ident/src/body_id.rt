@@ -79,21 +79,3 @@ impl BodyId {
         }
     }
 }
-
-#[cfg(test)]
-mod tests {
-    use super::*;
-
-    #[test]
-    fn words(rt: HostRuntime) {
-        assert_eq!(rt; BodyId::new(5, 200).raw(), 3_355_443_205);
-        assert_eq!(rt; BodyId::of_raw(3_355_443_205), Some(BodyId::new(5, 200)));
-        assert_eq!(rt; BodyId::of_raw(8_388_608), None);
-        assert_eq!(rt;
-            BodyId::of_raw(u32::MAX - (1 << 23)),
-            Some(BodyId::new(8_388_607, 255))
-        );
-        assert_eq!(rt; BodyId::new(5, 200).index(), 5);
-        assert_eq!(rt; BodyId::new(5, 200).seq(), 200);
-    }
-}

@@ -16,6 +16,3 @@ pub use coord::Coord;
 pub use fix_box::FixBox;
 pub use segment::Segment;
 pub use shape::Shape;
-
-#[cfg(test)]
-mod tests;

@@ -14,6 +14,3 @@ pub use id_list::IdList;
 pub use multi::{MultiItem, MultiList};
 pub use refusal::Refusal;
 pub use reply::{Reply, reply_line};
-
-#[cfg(test)]
-mod tests;

@@ -18,6 +18,3 @@ mod spans;
 pub use fraction::Frac;
 pub use segment_entry::entry;
 pub use shape_touch::touch;
-
-#[cfg(test)]
-mod tests;

@@ -28,6 +28,3 @@ pub use map::{Map, check};
 pub use name::Name;
 pub use row::{BODY_WORDS, CHILD_WORDS, NODE_WORDS};
 pub use tree_words::{BoundWord, ChildWord, LocationWord, SlotWord};
-
-#[cfg(test)]
-mod tests;

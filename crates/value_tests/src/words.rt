@@ -2,9 +2,9 @@ ghost use Rattle.std.specs.Prelude.{◌≡◌, length};
 ghost use Rattle.word_map.specs.Names.{IsName};
 ghost use Rattle.word_map.specs.Layout.{word_count};
 
-use crate::{BadConfig, Config, Field, Map, Name, check};
 use std::process::Abort;
 use std::test::Fail;
+use word_map::{BadConfig, Config, Field, Map, Name, check};
 
 const SMALL: Config = Config {
     bodies: 3,

@@ -1,5 +1,5 @@
-use super::*;
 use fixed_box::{Coord, FixBox, Segment, Shape};
+use shape_test::{Frac, entry, touch};
 use std::test::Fail;
 
 const GREATEST: i32 = 8_388_607;

@@ -1,6 +1,6 @@
-use super::*;
 use body_ident::BodyId;
 use fixed_box::{Coord, FixBox};
+use reply_text::{IdList, MultiItem, MultiList, Refusal, Reply, reply_line};
 use scene_model::{BodyView, Phase};
 use std::alloc::Global;
 use std::process::Abort;

@@ -1,4 +1,4 @@
-use super::*;
+use fixed_box::{Coord, FixBox, Segment, Shape};
 use std::test::Fail;
 
 fn corner(x: i32, y: i32, z: i32) -> Option<[Coord; 3]> {

@@ -25,6 +25,7 @@ use Rattle.core_state.specs.Nodes.{Nodes, Stands, node_in}
 use Rattle.core_state.specs.TreesSound.{BoundsOnlyWiden}
 use Rattle.core_state.specs.Unseen.{IsUnseen}
 use Rattle.core_state.proofs.Steps.{word-step-other}
+use Rattle.pass_table.specs.FormedForUpdate.{IsFormedForUpdate}
 use Rattle.core_state.proofs.Keeping.{visits-unseen, joins-unseen, load-unseen, look-plain, load_lock-plain, load_list-plain, load_body-plain, load_slot-plain}
 
 -- one on a word of an own node: this stands in no tree
@@ -44,54 +45,70 @@ on_own before after h steps =
 unseen : (nodes : Nodes) (before after : Core) → IsUnseen before after → BoundsOnlyWiden nodes before after
 unseen nodes before after same = as_wide nodes before after (λ n k q. sym (same.trees.words (Bound n k q) refl))
 
-module _ (before after : Core) (h : Invariants before) (formed : IsFormed before) where
-  pub event_widens : Event before after → BoundsOnlyWiden h.nodes before after
-  event_widens (opens_pass e) = as_wide h.nodes before after (λ n k q. ap (λ (c : Core). word_of c (Bound n k q)) e.result)
-  event_widens (splits_visitor e) = unseen h.nodes before after (visits-unseen before after e)
-  event_widens (joins_visitor e) = unseen h.nodes before after (joins-unseen before after e)
-  event_widens (looks e) = unseen h.nodes before after (load-unseen _ look before after look-plain e)
-  event_widens (of_locks (loads_lock e)) = unseen h.nodes before after (load-unseen _ load_lock before after load_lock-plain e)
-  event_widens (of_lists (loads_list e)) = unseen h.nodes before after (load-unseen _ load_list before after load_list-plain e)
-  event_widens (of_bodies (loads_body e)) = unseen h.nodes before after (load-unseen _ load_body before after load_body-plain e)
-  event_widens (of_batches (loads_slot e)) = unseen h.nodes before after (load-unseen _ load_slot before after load_slot-plain e)
-  event_widens (of_bodies (stores_field e)) =
+module _ (before after : Core) (h : Invariants before) where
+  pub event_widens : (e : Event before after) → IsFormedForUpdate before after e → BoundsOnlyWiden h.nodes before after
+  event_widens (opens_pass e) _ = as_wide h.nodes before after (λ n k q. ap (λ (c : Core). word_of c (Bound n k q)) e.result)
+  event_widens (splits_visitor e) _ = unseen h.nodes before after (visits-unseen before after e)
+  event_widens (joins_visitor e) _ = unseen h.nodes before after (joins-unseen before after e)
+  event_widens (looks e) _ = unseen h.nodes before after (load-unseen _ look before after look-plain e)
+  event_widens (of_locks (loads_lock e)) _ = unseen h.nodes before after (load-unseen _ load_lock before after load_lock-plain e)
+  event_widens (of_lists (loads_list e)) _ = unseen h.nodes before after (load-unseen _ load_list before after load_list-plain e)
+  event_widens (of_bodies (loads_body e)) _ = unseen h.nodes before after (load-unseen _ load_body before after load_body-plain e)
+  event_widens (of_batches (loads_slot e)) _ = unseen h.nodes before after (load-unseen _ load_slot before after load_slot-plain e)
+  event_widens (of_bodies (stores_field e)) _ =
       let asked = e.allowed.asked in
       on_other h.nodes _ store_field before after e (λ n k q same. subst (λ (name : Name). IsFieldOf e.step.view.config asked.index name e.step.first) (sym same) asked.field)
-  event_widens (of_batches (stores_node e)) = on_own before after h e
-  event_widens (of_locks (takes_read e)) = let asked = e.allowed.asked in aside h.nodes _ take_read before after e (Lock asked.lock) asked.names (λ none. none)
-  event_widens (of_locks (takes_write e)) = let asked = e.allowed.asked in aside h.nodes _ take_write before after e (Lock asked.lock) asked.names (λ none. none)
-  event_widens (of_locks (releases e)) = let asked = e.allowed.asked in aside h.nodes _ release before after e (Lock asked.lock) asked.names (λ none. none)
-  event_widens (of_lists (stores_link e)) = let asked = e.allowed.asked in aside h.nodes _ store_link before after e (SlotNext asked.index) asked.names (λ none. none)
-  event_widens (of_lists (stores_head e)) = let asked = e.allowed.asked in aside h.nodes _ store_head before after e SlotHead asked.names (λ none. none)
-  event_widens (of_bodies (creates e)) = let asked = e.allowed.asked in aside h.nodes _ create before after e (State asked.index) asked.names (λ none. none)
-  event_widens (of_bodies (destroys e)) = let asked = e.allowed.asked in aside h.nodes _ destroy before after e (State asked.index) asked.names (λ none. none)
-  event_widens (of_bodies (sets_user e)) = let asked = e.allowed.asked in aside h.nodes _ set_user before after e (User asked.index) asked.names (λ none. none)
-  event_widens (of_batches (reserves e)) = let asked = e.allowed.asked in aside h.nodes _ reserve before after e (Slot asked.layer asked.slot) asked.names (λ none. none)
-  event_widens (of_batches (marks e)) = let asked = e.allowed.asked in aside h.nodes _ mark before after e (Phase asked.index) asked.names (λ none. none)
-  event_widens (of_batches (places e)) = let asked = e.allowed.asked in aside h.nodes _ place_body before after e (LocA asked.m.index) asked.names (λ none. none)
-  event_widens (of_batches (attaches e)) = let asked = e.allowed.asked in aside h.nodes _ attach before after e (Slot asked.layer asked.slot) asked.names (λ none. none)
-  event_widens (of_batches (takes_back e)) = let asked = e.allowed.asked in aside h.nodes _ take_back before after e (LocA asked.m.index) asked.names (λ none. none)
-  event_widens (of_batches (unmarks e)) = let asked = e.allowed.asked in aside h.nodes _ unmark before after e (Phase asked.m.index) asked.names (λ none. none)
-  event_widens (of_batches (lets_slot_go e)) = let asked = e.allowed.asked in aside h.nodes _ let_slot_go before after e (Slot asked.layer asked.slot) asked.names (λ none. none)
-  event_widens (of_pool (stores_pool_link e)) = let asked = e.allowed.asked in aside h.nodes _ store_pool_link before after e (PoolNext asked.node) asked.names (λ none. none)
-  event_widens (of_pool (stores_pool_head e)) = let asked = e.allowed.asked in aside h.nodes _ store_pool_head before after e PoolHead asked.names (λ none. none)
-  event_widens (of_pool (stores_pool_count e)) = let asked = e.allowed.asked in aside h.nodes _ store_pool_count before after e PoolFree asked.names (λ none. none)
-  event_widens (of_walks (begins_walk e)) = let asked = e.allowed.asked in aside h.nodes _ begin_walk before after e (Reader asked.number) asked.names (λ none. none)
-  event_widens (of_walks (ends_walk e)) = let asked = e.allowed.asked in aside h.nodes _ end_walk before after e (Reader asked.number) asked.names (λ none. none)
-  event_widens (of_walks (walks_slot e)) = on_load h.nodes _ walk_slot before after e (λ found first. refl)
-  event_widens (of_walks (walks_main e)) = on_load h.nodes _ walk_main before after e (λ found first. refl)
-  event_widens (of_walks (walks_child e)) = on_load h.nodes _ walk_child before after e (λ found first. refl)
-  event_widens (of_walks (walks_bound e)) = on_load h.nodes _ walk_bound before after e (λ found first. refl)
-  event_widens (of_moves (widens_low index e)) = widen_low-widens index h.nodes before after e
-  event_widens (of_moves (widens_high index e)) = widen_high-widens index h.nodes before after e
-  event_widens (of_moves (loads_parent index e)) = let asked = e.allowed.asked in aside h.nodes _ (load_parent_moving index) before after e (Parent asked.node) asked.names (λ none. none)
-  event_widens (of_moves (stores_side e)) = let asked = e.allowed.asked in aside h.nodes _ store_side before after e (BoxWord asked.index asked.side) asked.names (λ none. none)
-  event_widens (of_moves (stores_last_side e)) = let asked = e.allowed.asked in aside h.nodes _ store_last_side before after e (BoxWord asked.index 5) asked.names (λ none. none)
-  event_widens (of_removals (removes e)) = let asked = e.allowed.asked in aside h.nodes _ remove before after e (Phase asked.index) asked.names (λ none. none)
-  event_widens (of_removals (clears_entry e)) = let asked = e.allowed.asked in aside h.nodes _ clear_entry before after e (Child asked.node asked.child) asked.names (λ none. none)
-  event_widens (of_removals (clears_location e)) =
+  event_widens (of_batches (stores_node e)) _ = on_own before after h e
+  event_widens (of_locks (takes_read e)) _ = let asked = e.allowed.asked in aside h.nodes _ take_read before after e (Lock asked.lock) asked.names (λ none. none)
+  event_widens (of_locks (takes_write e)) _ = let asked = e.allowed.asked in aside h.nodes _ take_write before after e (Lock asked.lock) asked.names (λ none. none)
+  event_widens (of_locks (releases e)) _ = let asked = e.allowed.asked in aside h.nodes _ release before after e (Lock asked.lock) asked.names (λ none. none)
+  event_widens (of_lists (stores_link e)) _ = let asked = e.allowed.asked in aside h.nodes _ store_link before after e (SlotNext asked.index) asked.names (λ none. none)
+  event_widens (of_lists (stores_head e)) _ = let asked = e.allowed.asked in aside h.nodes _ store_head before after e SlotHead asked.names (λ none. none)
+  event_widens (of_bodies (creates e)) _ = let asked = e.allowed.asked in aside h.nodes _ create before after e (State asked.index) asked.names (λ none. none)
+  event_widens (of_bodies (destroys e)) _ = let asked = e.allowed.asked in aside h.nodes _ destroy before after e (State asked.index) asked.names (λ none. none)
+  event_widens (of_bodies (sets_user e)) _ = let asked = e.allowed.asked in aside h.nodes _ set_user before after e (User asked.index) asked.names (λ none. none)
+  event_widens (of_batches (reserves e)) _ = let asked = e.allowed.asked in aside h.nodes _ reserve before after e (Slot asked.layer asked.slot) asked.names (λ none. none)
+  event_widens (of_batches (marks e)) _ = let asked = e.allowed.asked in aside h.nodes _ mark before after e (Phase asked.index) asked.names (λ none. none)
+  event_widens (of_batches (places e)) _ = let asked = e.allowed.asked in aside h.nodes _ place_body before after e (LocA asked.m.index) asked.names (λ none. none)
+  event_widens (of_batches (attaches e)) _ = let asked = e.allowed.asked in aside h.nodes _ attach before after e (Slot asked.layer asked.slot) asked.names (λ none. none)
+  event_widens (of_batches (takes_back e)) _ = let asked = e.allowed.asked in aside h.nodes _ take_back before after e (LocA asked.m.index) asked.names (λ none. none)
+  event_widens (of_batches (unmarks e)) _ = let asked = e.allowed.asked in aside h.nodes _ unmark before after e (Phase asked.m.index) asked.names (λ none. none)
+  event_widens (of_batches (lets_slot_go e)) _ = let asked = e.allowed.asked in aside h.nodes _ let_slot_go before after e (Slot asked.layer asked.slot) asked.names (λ none. none)
+  event_widens (of_pool (stores_pool_link e)) _ = let asked = e.allowed.asked in aside h.nodes _ store_pool_link before after e (PoolNext asked.node) asked.names (λ none. none)
+  event_widens (of_pool (stores_pool_head e)) _ = let asked = e.allowed.asked in aside h.nodes _ store_pool_head before after e PoolHead asked.names (λ none. none)
+  event_widens (of_pool (stores_pool_count e)) _ = let asked = e.allowed.asked in aside h.nodes _ store_pool_count before after e PoolFree asked.names (λ none. none)
+  event_widens (of_walks (begins_walk e)) _ = let asked = e.allowed.asked in aside h.nodes _ begin_walk before after e (Reader asked.number) asked.names (λ none. none)
+  event_widens (of_walks (ends_walk e)) _ = let asked = e.allowed.asked in aside h.nodes _ end_walk before after e (Reader asked.number) asked.names (λ none. none)
+  event_widens (of_walks (walks_slot e)) _ = on_load h.nodes _ walk_slot before after e (λ found first. refl)
+  event_widens (of_walks (walks_main e)) _ = on_load h.nodes _ walk_main before after e (λ found first. refl)
+  event_widens (of_walks (walks_child e)) _ = on_load h.nodes _ walk_child before after e (λ found first. refl)
+  event_widens (of_walks (walks_bound e)) _ = on_load h.nodes _ walk_bound before after e (λ found first. refl)
+  event_widens (of_moves (widens_low index e)) _ = widen_low-widens index h.nodes before after e
+  event_widens (of_moves (widens_high index e)) _ = widen_high-widens index h.nodes before after e
+  event_widens (of_moves (loads_parent index e)) _ = let asked = e.allowed.asked in aside h.nodes _ (load_parent_moving index) before after e (Parent asked.node) asked.names (λ none. none)
+  event_widens (of_moves (stores_side e)) _ = let asked = e.allowed.asked in aside h.nodes _ store_side before after e (BoxWord asked.index asked.side) asked.names (λ none. none)
+  event_widens (of_moves (stores_last_side e)) _ = let asked = e.allowed.asked in aside h.nodes _ store_last_side before after e (BoxWord asked.index 5) asked.names (λ none. none)
+  event_widens (of_removals (removes e)) _ = let asked = e.allowed.asked in aside h.nodes _ remove before after e (Phase asked.index) asked.names (λ none. none)
+  event_widens (of_removals (clears_entry e)) _ = let asked = e.allowed.asked in aside h.nodes _ clear_entry before after e (Child asked.node asked.child) asked.names (λ none. none)
+  event_widens (of_removals (clears_location e)) _ =
       elim (e.allowed.asked) [
         | the_first index names cleared none ↦ aside h.nodes _ clear_location before after e (LocA index) names (λ none. none)
         | the_second index names cleared first none ↦ aside h.nodes _ clear_location before after e (LocB index) names (λ none. none)
       ]
-  event_widens (of_updates e) = update_widens before after h formed e
+  event_widens (of_updates e) formed = update_widens before after h formed e
+
+-- what an event asks of the form of a core that is formed
+pub for_update : (before after : Core) (e : Event before after) → IsFormed before → IsFormedForUpdate before after e
+for_update before after (of_updates e) formed = formed
+for_update before after (opens_pass e) formed = tt
+for_update before after (splits_visitor e) formed = tt
+for_update before after (joins_visitor e) formed = tt
+for_update before after (looks e) formed = tt
+for_update before after (of_locks e) formed = tt
+for_update before after (of_lists e) formed = tt
+for_update before after (of_bodies e) formed = tt
+for_update before after (of_batches e) formed = tt
+for_update before after (of_pool e) formed = tt
+for_update before after (of_walks e) formed = tt
+for_update before after (of_moves e) formed = tt
+for_update before after (of_removals e) formed = tt

@@ -19,3 +19,4 @@ pub mod Belongings
 pub mod Ended
 pub mod Several
 pub mod Settled
+pub mod FormedForUpdate

@@ -11,6 +11,7 @@ ghost use Rattle.core_state.specs.View.{IsPass};
 ghost use Rattle.core_state.specs.Core.{Core, IsViewAt, opening};
 ghost use Rattle.core_state.specs.Event.{Event, Run};
 ghost use Rattle.core_state.specs.Formed.{IsFormed};
+ghost use Rattle.pass_table.specs.FormedForUpdate.{IsFormedForUpdate};
 ghost use Rattle.core_state.specs.Guards.{GuardsHold};
 ghost use Rattle.core_state.specs.Nodes.{Nodes};
 ghost use Rattle.core_state.specs.TreesSound.{BoundsOnlyWiden};
@@ -35,10 +36,10 @@ pub fn events_keep_all()
     ensures run_guards { (c : Config) (last : Core) → IsConfig c → Run (opening c) last → GuardsHold last }
 {}
 
-/// Bounds of trees only widen: every event leaves each bound of a node that stands as wide as it was, and so does each
-/// event of a run.
+/// Bounds of trees only widen: every event leaves each bound of a node that stands as wide as it was, one of an update where
+/// the core is formed, and so does each event of a run.
 pub fn bounds_only_widen()
-    ensures event { (before after : Core) (h : Invariants before) → Event before after → IsFormed before → BoundsOnlyWiden h.nodes before after }
+    ensures event { (before after : Core) (h : Invariants before) → (e : Event before after) → IsFormedForUpdate before after e → BoundsOnlyWiden h.nodes before after }
     ensures run { (c : Config) (last next : Core) (h : Invariants last) → IsConfig c → Run (opening c) last → Event last next → BoundsOnlyWiden h.nodes last next }
 {}
 

@@ -208,7 +208,7 @@ module _ (operation : PrepareOp) (start mid next : View) (current : ∥ IsCurren
   refused-mark at (WrongLayer found) had = had
 
   -- once all is undone it was refused for its reason
-  refused-so : (undone : Undone) → HasFailed operation start mid batch undone → WasRefused layer (ids_of operation) start next (refusal_of (need_of operation) undone)
+  pub refused-so : (undone : Undone) → HasFailed operation start mid batch undone → WasRefused layer (ids_of operation) start next (refusal_of (need_of operation) undone)
   refused-so (NoNodes free) failed = few-nodes free failed
   refused-so (NoMark at refused) failed = refused-mark at refused (bad-id at refused failed)
 

@@ -18,6 +18,7 @@ use Rattle.pass_table.specs.declared.turn.Turn.TheVariants.{More, Again}
 use Rattle.pass_table.specs.TakeTurns.{turns_after}
 use Rattle.pass_table.specs.Holding.{IsAtRest}
 use Rattle.pass_table.specs.Turning.{AtMostOneStep, MadeBy, Turned, IsUnderWay, LoadsNow}
+use Rattle.batch_add.specs.declared.answers.PrepareRefused.{PrepareRefused}
 use Rattle.batch_add.specs.declared.mark_op.MarkRefused.{MarkRefused}
 use Rattle.batch_add.specs.declared.mark_op.Marking.{Marking}
 use Rattle.batch_add.specs.declared.draw_stage.DrawStage.{DrawStage}
@@ -32,13 +33,15 @@ use Rattle.batch_add.specs.declared.prepare_op.Undone.TheVariants.{Mark as NoMar
 use Rattle.batch_add.specs.declared.prepare_op.PrepareStage.{PrepareStage}
 use Rattle.batch_add.specs.declared.prepare_op.PrepareStage.TheVariants.{Marking as MarkingStage}
 use Rattle.batch_add.specs.declared.prepare_op.PrepareOp.{PrepareOp}
-use Rattle.batch_add.specs.Parts.{HasReserved, HasNodes, HasMarked, HasMarkedBefore, marked_as}
+use Rattle.batch_add.specs.Parts.{HasReserved, HasNodes, HasMarked, HasMarkedBefore, marked_as, HasGivenUp}
 use Rattle.batch_add.specs.stages.Marking.{IsMarking, HasMadeMarks, mark_left, marked_bodies, mark_takes}
 use Rattle.batch_add.specs.stages.DrawStages.{IsToDraw, IsOfPlan, IsDrawing, draw_left, stage_left as draw_stage_left}
 use Rattle.batch_add.specs.stages.Keeping.{IsBegunFor}
 use Rattle.batch_add.specs.stages.GivingUp.{IsGivingUp, give_left, stage_left as give_stage_left, left_at}
-use Rattle.batch_add.specs.stages.Preparing.{CanPlan, ids_of, count_of, need_of, HasSlotAndNodes, with_slot_nodes, with_marks, IsWanted, IsInPart, IsInSome, CameToMarks, CameToDraw, CameToGive, AtPrepare, IsPreparing, BeginsTree, BeginsUndoing, kept_of, left_after, part_left, stage_left, prepare_left, entry_at, entry_of, IsPrepareTurn, takes_at}
+use Rattle.batch_add.specs.stages.Preparing.{CanPlan, ids_of, count_of, need_of, HasSlotAndNodes, with_slot_nodes, with_marks, IsWanted, IsInPart, IsInSome, CameToMarks, CameToDraw, CameToGive, HasFailed, AtPrepare, IsPreparing, HasPreparedOr, BeginsTree, BeginsUndoing, kept_of, refusal_of, left_after, part_left, stage_left, prepare_left, entry_at, entry_of, IsPrepareTurn, takes_at}
 use Rattle.batch_add.proofs.TakingNodes.{taken-newest}
+use Rattle.batch_add.specs.Answers.{WasRefused}
+use Rattle.batch_add.proofs.PrepareGives.{refused-so}
 use Rattle.batch_add.proofs.PartTurns.{goes-on, part-more, part-again, undoing-loads}
 use Rattle.tree_plan.specs.declared.node_count.TheConstants.{MAX_TREE_BODIES}
 
@@ -393,6 +396,24 @@ module _ (before : PrepareOp) (marking : Marking) (view next : View) (refused : 
   pub undoing-begun : IsUnderWay IsPreparing before view
       → (earlier : List Batch) × (batch : Batch) × IsBegunFor (kept_of (record before { marking = marking }) undone) next earlier batch []
   undoing-begun under = (under.start.batches, its_batch before, some_begun under.first under.start under.goes)
+
+  -- ---- all is undone at once
+
+  -- then it was refused for its reason
+  module _ (after : View) (given : (earlier : List Batch) (batch : Batch) → IsBegunFor (kept_of (record before { marking = marking }) undone) next earlier batch [] → HasGivenUp earlier batch [] next after)
+      (refusal : PrepareRefused) (is : refusal ≡ refusal_of before.taking.count undone) where
+    pub undone-refused : (first : PrepareOp) (start : View) → IsPreparing first start before view → HasPreparedOr first start after (Err refusal)
+    undone-refused first start preparing =
+        let so = some_marked first start preparing in
+        let at = some_at first start preparing in
+        let failed : HasFailed before start next (its_batch before) undone = (so.mid, before.taking.nodes.items, bodies, so.has, so.marked, so.many, refl) in
+        let why : refusal ≡ refusal_of (need_of before) undone = is ∙ ap (λ (n : ℕ). refusal_of n undone) at.3 in
+        let refused_so =
+        refused-so before start next after preparing.wanted.current (its_batch before) (given start.batches (its_batch before) (some_begun first start preparing)) undone failed
+        in
+        subst (λ (l : ℕ). WasRefused l (ids_of first) start after refusal) preparing.layer
+        (subst (λ (l : List Id). WasRefused before.layer l start after refusal) preparing.ids
+        (subst (WasRefused before.layer (ids_of before) start after) (sym why) refused_so))
 
   -- ---- undoing is begun
 

@@ -1,15 +1,18 @@
 -- What stays good of several batches.
-use Rattle.std.proofs.Common.{◌≡◌, ℕ, ◌+◌, ◌<◌, inl, inr, List, [], ◌∷◌, ◌++◌, length, get_or, All, sym, ◌∙◌, subst, arith}
+use Rattle.std.proofs.Common.{◌≡◌, ℕ, ◌+◌, ◌<◌, inl, inr, List, [], ◌∷◌, ◌++◌, length, get_or, All, Result, Ok, Err, IfOk, sym, ◌∙◌, subst, arith}
 use Rattle.std.specs.List.{remove}
 use Rattle.std.proofs.lemmas.Bool.{cases_lt}
 use Rattle.std.proofs.lemmas.List.{get_or_default}
 use Rattle.std.proofs.lemmas.List.Edits.{length-remove, get_or-remove_below, get_or-remove_above}
 use Rattle.std.proofs.lemmas.List.Elements.{All-nil, All-cons, All-append}
 use Rattle.std.proofs.lemmas.List.Quantifiers.{all_pairs_push, all_pairs_remove}
-use Rattle.pass_table.specs.Belongings.{Belongings}
+use Rattle.core_state.specs.declared.view.View.{View}
+use Rattle.pass_table.specs.Belongings.{Belongings, belongings_of}
+use Rattle.batch_add.specs.declared.answers.PrepareRefused.{PrepareRefused}
 use Rattle.batch_add.specs.declared.prepared.Prepared.{Prepared}
-use Rattle.batch_add.specs.Prepared.{IsGoodIn, IsApart}
-use Rattle.batch_add.specs.PreparedLists.{AllGood, AllApart}
+use Rattle.batch_add.specs.declared.prepared_list.PreparedList.{PreparedList}
+use Rattle.batch_add.specs.Prepared.{IsGood, IsGoodIn, IsApart}
+use Rattle.batch_add.specs.PreparedLists.{batches_of, AreGood, IsBeside, AllGood, AllApart}
 
 -- where each batch that was good is good still
 pub all-kept : (batches : List Prepared) (has now : Belongings) → ((other : Prepared) → IsGoodIn other has → IsGoodIn other now) → AllGood batches has → AllGood batches now
@@ -23,6 +26,12 @@ all-others batch batches has now others good beside = record { each = λ k d bel
 -- a batch that is for another slot than each that is good
 pub all-apart : (batch : Prepared) (batches : List Prepared) (has : Belongings) → ((other : Prepared) → IsGoodIn other has → IsApart other batch) → AllGood batches has → AllApart batch batches
 all-apart batch batches has apart good = record { each = λ k d below. apart (get_or batches k d) (good.each k d below) }
+
+-- and of each list of such
+pub listed-beside : (start : View) (answer : Result Prepared PrepareRefused) → IfOk answer (λ batch. (other : Prepared) → IsGood other start → IsApart other batch)
+    → IfOk answer (λ batch. (list : PreparedList) → AreGood list start → IsBeside batch list)
+listed-beside start (Ok batch) apart = λ list. all-apart batch (batches_of list) (belongings_of start) apart
+listed-beside start (Err refused) apart = tt
 
 -- one more
 pub all-push : (batch : Prepared) (batches : List Prepared) (has : Belongings) → AllGood batches has → IsGoodIn batch has → AllApart batch batches → AllGood (batches ++ batch ∷ []) has

@@ -9,8 +9,20 @@ use Rattle.batch_add.specs.declared.answers.PrepareRefused.{PrepareRefused}
 use Rattle.batch_add.specs.declared.answers.PrepareRefused.TheVariants.{Memory, Empty, NoSlot, NoNodes, Gone, Held, AlreadyIn, WrongLayer}
 use Rattle.batch_add.specs.declared.prepared.Prepared.{Prepared}
 use Rattle.batch_add.specs.Prepared.{IsGood, IsApart, HasAttached}
-use Rattle.batch_add.specs.Answers.{PrepareAnswers, HasAborted}
+use Rattle.batch_add.specs.Answers.{IsPrepareAnswer, PrepareAnswers, HasAborted}
 use Rattle.batch_add.proofs.Staying.{good-kept, apart-back}
+
+-- no turn answers want of memory
+pub answers-so : (layer : ℕ) (ids : List Id) (start next : View) (answer : Result Prepared PrepareRefused) → IsPrepareAnswer layer ids start next answer → PrepareAnswers layer ids start next answer
+answers-so layer ids start next (Ok prepared) is = is
+answers-so layer ids start next (Err Memory) is = absurd is
+answers-so layer ids start next (Err Empty) is = is
+answers-so layer ids start next (Err (NoSlot words)) is = is
+answers-so layer ids start next (Err (NoNodes need free)) is = is
+answers-so layer ids start next (Err (Gone at state)) is = is
+answers-so layer ids start next (Err (Held at slot)) is = is
+answers-so layer ids start next (Err (AlreadyIn at phase)) is = is
+answers-so layer ids start next (Err (WrongLayer at layer_of)) is = is
 
 pub prepare-rest : (layer : ℕ) (ids : List Id) (start next : View) (answer : Result Prepared PrepareRefused) → IsAtRest start → PrepareAnswers layer ids start next answer → IsAtRest next
 prepare-rest layer ids start next (Ok prepared) rest h = h.done.rest

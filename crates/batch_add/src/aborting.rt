@@ -75,6 +75,7 @@ impl Operation for AbortOp {
 
     ghost entry = { λ operation. operation.giving.made };
 
+    #[inline(always)]
     fn turn(&mut self, world: &World, pass: &mut Pass) -> Turn<()> {
         self.giving.turn(world, pass)
     }

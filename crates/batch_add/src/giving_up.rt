@@ -78,6 +78,7 @@ impl Operation for GivingUp {
 
     ghost entry = { λ operation. operation.made };
 
+    #[inline(always)]
     fn turn(&mut self, world: &World, pass: &mut Pass) -> Turn<()> {
         self.next_turn(world, pass)
     }
@@ -133,6 +134,7 @@ impl GivingUp {
     }
 
     /// The turn of the stage that it is at.
+    #[inline(always)]
     fn next_turn(&mut self, world: &World, pass: &mut Pass) -> Turn<()>
         requires of { IsOf world.now pass.old }
         requires under_way { IsUnderWay IsGivingUp self.old (view_of pass.old) }

@@ -8,7 +8,7 @@ ghost use Rattle.batch_add.specs.declared.prepare_op.PrepareStage.TheVariants.{S
 ghost use Rattle.batch_add.specs.stages.Marking.{IsForNewest};
 ghost use Rattle.batch_add.specs.stages.DrawStages.{IsToDraw};
 ghost use Rattle.batch_add.specs.stages.Keeping.{IsBegunFor};
-ghost use Rattle.batch_add.specs.stages.Preparing.{IsPreparing, IsPrepareTurn, CanPlan, BeginsNodes, BeginsMarks, BeginsTree, BeginsUndoing, kept_of, refusal_of, label_of, KeepsLabel};
+ghost use Rattle.batch_add.specs.stages.Preparing.{IsPreparing, IsPrepareTurn, CanPlan, BeginsNodes, BeginsMarks, BeginsTree, BeginsUndoing, HasHandedOver, kept_of, refusal_of, label_of, KeepsLabel};
 
 use crate::answers::{PrepareRefused, SlotWords};
 use crate::giving_up::GivingUp;
@@ -309,13 +309,23 @@ impl PrepareOp {
         ensures pass { pass.new ≡ pass.old }
         ensures begins { BeginsUndoing self.old undone self.new (view_of pass.old) }
     {
+        let kept = self.hand_over(undone);
+        self.giving = Some(GivingUp::new(world, pass, kept));
+        self.stage = PrepareStage::GivingUp { undone };
+    }
+
+    /// Hands over what is kept of the batch that is to be given up for this reason. Its lists are the operation's no more.
+    pub(crate) fn hand_over(&mut self, undone: Undone) -> KeptBatch
+        ensures kept { result ≡ kept_of self.old undone }
+        ensures rest { HasHandedOver self.old self.new }
+    {
         let indexes = mem::replace(&mut self.indexes, Vec::new(self.alloc));
         let nodes = mem::replace(&mut self.taking.nodes, Vec::new(self.alloc));
         let (marked, node_count) = match undone {
             Undone::NoNodes { .. } => (0, 0),
             Undone::Mark { at, .. } => (at, self.taking.count),
         };
-        let kept = KeptBatch {
+        KeptBatch {
             layer: self.layer,
             slot: self.slot,
             indexes,
@@ -323,14 +333,12 @@ impl PrepareOp {
             are_placed: false,
             nodes,
             node_count,
-        };
-        self.giving = Some(GivingUp::new(world, pass, kept));
-        self.stage = PrepareStage::GivingUp { undone };
+        }
     }
 }
 
 /// The refusal once all is undone, of a batch whose tree needs so many nodes.
-fn refusal(need: u32, undone: Undone) -> PrepareRefused
+pub(crate) fn refusal(need: u32, undone: Undone) -> PrepareRefused
     ensures { result ≡ refusal_of need undone }
 {
     match undone {

@@ -111,6 +111,7 @@ pub(crate) fn exchange(
 }
 
 /// A try to hold a lock so: one load, and where the word shows nobody that excludes this one, one exchange.
+#[inline(always)]
 fn try_mode(world: &World, pass: &mut Pass, lock: u32, mode: Mode) -> Take
     requires of { IsOf world.now pass.old }
     requires named { IsName world.now.map (Lock lock) }
@@ -153,6 +154,7 @@ pub fn try_take(world: &World, pass: &mut Pass, lock: u32, write: bool) -> Take
 }
 
 /// Tries until the lock is taken.
+#[inline(always)]
 fn take<R: Wait>(rt: &R, world: &World, pass: &mut Pass, lock: u32, mode: Mode)
     requires of { IsOf world.now pass.old }
     requires named { IsName world.now.map (Lock lock) }

@@ -242,6 +242,13 @@ kept_of operation undone = record {
   node_count = node_count_of operation undone;
 }
 
+-- the lists of the batch are the operation's no more, and all else is as it was
+pub record HasHandedOver (before after : PrepareOp) : Type 0 where
+  pub layer : after.layer ≡ before.layer
+  pub slot : after.slot ≡ before.slot
+  pub ids : ids_of after ≡ ids_of before
+  pub count : after.taking.count ≡ before.taking.count
+
 -- undoing is begun
 pub record BeginsUndoing (before : PrepareOp) (undone : Undone) (after : PrepareOp) (view : View) : Type 0 where
   pub giving : GivingUp

@@ -1,31 +1,13 @@
-use Rattle.std.specs.Prelude.{List, Result, Ok, Err, IfOk}
+use Rattle.std.specs.Prelude.{List}
 use Rattle.std.proofs.Common.{ℕ, subst}
 use Rattle.body_ident.specs.Id.{Id}
-use Rattle.core_state.specs.declared.view.View.{View}
 use Rattle.pass_table.specs.Belongings.{belongings_of}
 use Rattle.pass_table.specs.Passes.{view_of}
-use Rattle.batch_add.specs.declared.prepared.Prepared.{Prepared}
-use Rattle.batch_add.specs.declared.answers.PrepareRefused.{PrepareRefused}
-use Rattle.batch_add.specs.declared.answers.PrepareRefused.TheVariants.{Memory, Empty, NoSlot, NoNodes, Gone, Held, AlreadyIn, WrongLayer}
-use Rattle.batch_add.specs.declared.prepared_list.PreparedList.{PreparedList}
-use Rattle.batch_add.specs.Prepared.{IsGood, IsApart}
-use Rattle.batch_add.specs.PreparedLists.{batches_of, AreGood, IsBeside}
-use Rattle.batch_add.proofs.PreparedLists.{all-kept, all-apart}
-use Rattle.batch_add.specs.Answers.{IsPrepareAnswer, PrepareAnswers}
-use Rattle.batch_add.proofs.Resting.{prepare-rest, prepare-keeps, prepare-others, prepare-good, prepare-apart, prepare-beside}
+use Rattle.batch_add.specs.PreparedLists.{batches_of}
+use Rattle.batch_add.proofs.PreparedLists.{all-kept, listed-beside}
+use Rattle.batch_add.specs.Answers.{IsPrepareAnswer}
+use Rattle.batch_add.proofs.Resting.{answers-so, prepare-rest, prepare-keeps, prepare-others, prepare-good, prepare-apart, prepare-beside}
 use Rattle.batch_add.proofs.calls.prepare.Goals as goal
-
--- no turn answers want of memory
-answers-so : (layer : ℕ) (ids : List Id) (start next : View) (answer : Result Prepared PrepareRefused) → IsPrepareAnswer layer ids start next answer → PrepareAnswers layer ids start next answer
-answers-so layer ids start next (Ok prepared) is = is
-answers-so layer ids start next (Err Memory) is = absurd is
-answers-so layer ids start next (Err Empty) is = is
-answers-so layer ids start next (Err (NoSlot words)) is = is
-answers-so layer ids start next (Err (NoNodes need free)) is = is
-answers-so layer ids start next (Err (Gone at state)) is = is
-answers-so layer ids start next (Err (Held at slot)) is = is
-answers-so layer ids start next (Err (AlreadyIn at phase)) is = is
-answers-so layer ids start next (Err (WrongLayer at layer_of)) is = is
 
 pub returns-in-Ok-clause-answers : goal.returns-in-Ok-clause-answers
 returns-in-Ok-clause-answers g c =
@@ -62,10 +44,5 @@ returns-in-Ok-clause-beside g c = prepare-beside c.args.layer c.args.ids.now (vi
 pub returns-in-Ok-clause-lists : goal.returns-in-Ok-clause-lists
 returns-in-Ok-clause-lists g c list = all-kept (batches_of list) (belongings_of (view_of c.args.pass.now)) (belongings_of (view_of c.finish.new.pass)) (returns-in-Ok-clause-others g c)
 
-listed : (start : View) (answer : Result Prepared PrepareRefused) → IfOk answer (λ batch. (other : Prepared) → IsGood other start → IsApart other batch)
-    → IfOk answer (λ batch. (list : PreparedList) → AreGood list start → IsBeside batch list)
-listed start (Ok batch) apart = λ list. all-apart batch (batches_of list) (belongings_of start) apart
-listed start (Err refused) apart = tt
-
 pub returns-in-Ok-clause-listed : goal.returns-in-Ok-clause-listed
-returns-in-Ok-clause-listed g c = listed (view_of c.args.pass.now) c.finish.result (returns-in-Ok-clause-apart g c)
+returns-in-Ok-clause-listed g c = listed-beside (view_of c.args.pass.now) c.finish.result (returns-in-Ok-clause-apart g c)

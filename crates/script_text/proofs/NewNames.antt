@@ -9,7 +9,7 @@ use Rattle.script_text.specs.declared.command.Command.TheVariants as commands
 use Rattle.script_text.specs.declared.keyword.Keyword.{Keyword}
 use Rattle.script_text.specs.declared.keyword.Keyword.TheVariants.{World, Create, Destroy, Add, Prepare, Finalize, Abort, Remove, Move, User, Read, Multi, QueryBox, QueryPoint, QueryRay}
 use Rattle.script_text.specs.Above.{Above}
-use Rattle.script_text.specs.Command.{box_words, command_words}
+use Rattle.script_text.specs.Command.{box_words}
 use Rattle.script_text.specs.Draft.{IsNewIn}
 use Rattle.script_text.specs.Fault.{first_of}
 use Rattle.script_text.specs.Fitting.{HasWords}

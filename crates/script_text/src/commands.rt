@@ -42,12 +42,7 @@ pub fn read_world(args: &[&[u8]]) -> Result<Config, LineError>
 }
 
 /// The layer of a creation, whose name has to be new.
-fn read_created_layer(
-    names: &Names,
-    layers: u32,
-    name: &[u8],
-    layer: &[u8],
-) -> Result<u32, Code>
+fn read_created_layer(names: &Names, layers: u32, name: &[u8], layer: &[u8]) -> Result<u32, Code>
     ensures { Reads result (first_of (new_name_fault names.now name.now ∷ layer_fault layers layer.now ∷ [])) (λ n. (layer.now ≡ decimal n) × (n < layers)) }
 {
     check_new_name(names, name)?;

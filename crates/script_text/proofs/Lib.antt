@@ -7,6 +7,7 @@ pub mod Spaced
 pub mod Boxes
 pub mod Sizes
 pub mod Counts
+pub mod Creations
 pub mod Cuts
 pub mod FirstWord
 pub mod Drafts

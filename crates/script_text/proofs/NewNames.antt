@@ -4,11 +4,13 @@ use Rattle.std.specs.Fmt.{decimal}
 use Rattle.fixed_box.specs.declared.fix_box.FixBox.{FixBox}
 use Rattle.script_text.specs.declared.code.Code.{Code}
 use Rattle.script_text.specs.declared.code.Code.TheVariants.{Name}
+use Rattle.script_text.specs.declared.command.Command.{Command}
 use Rattle.script_text.specs.declared.command.Command.TheVariants as commands
 use Rattle.script_text.specs.declared.keyword.Keyword.{Keyword}
 use Rattle.script_text.specs.declared.keyword.Keyword.TheVariants.{World, Create, Destroy, Add, Prepare, Finalize, Abort, Remove, Move, User, Read, Multi, QueryBox, QueryPoint, QueryRay}
 use Rattle.script_text.specs.Above.{Above}
-use Rattle.script_text.specs.Command.{box_words, command_words}
+use Rattle.script_text.specs.Command.{box_words}
+use Rattle.script_text.specs.Draft.{IsNewIn}
 use Rattle.script_text.specs.Fault.{first_of}
 use Rattle.script_text.specs.Fitting.{HasWords}
 use Rattle.script_text.specs.Grammar.{create_fault, fields_fault}
@@ -65,3 +67,9 @@ pub created_is_new : (above : Above) (keyword : Keyword) (args : List (List ℕ)
 created_is_new above keyword args name layer user bounds good has =
     let same = sym (named Create) ∙ (ap (λ (words : List (List ℕ)). keyword_of (first_word words)) has.words_are ∙ named keyword) in
     of_keyword above keyword args name layer user bounds good same (ap rest_of has.words_are)
+
+-- the command of a line without a fault gives a new name, if it gives one
+pub gives_new_name : (above : Above) (keyword : Keyword) (args : List (List ℕ)) (c : Command) → fields_fault above keyword args ≡ None
+    → HasWords (keyword_text keyword ∷ args) c → IsNewIn above.names c
+gives_new_name above keyword args (commands.Create name layer bounds user) good has = created_is_new above keyword args name layer user bounds good has
+gives_new_name above keyword args _ good has = tt

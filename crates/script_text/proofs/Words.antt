@@ -3,10 +3,10 @@ use Rattle.std.proofs.Common.{◌≡◌, ◌≤◌, ◌<◌, ℕ, length, List, 
 use Rattle.std.specs.Borrow.{Bor}
 use Rattle.script_text.specs.Lines.{texts}
 
-abbrev nothing : Bor (List ℕ)
+abbrev pub nothing : Bor (List ℕ)
 nothing = record { ref_ptr = (0, 0); now = [] }
 
-abbrev word : List (Bor (List ℕ)) → ℕ → List ℕ
+abbrev pub word : List (Bor (List ℕ)) → ℕ → List ℕ
 word xs k = (get_or xs k nothing).now
 
 no_words : (xs : List (Bor (List ℕ))) → length xs < 1 → texts xs ≡ []

@@ -1,8 +1,10 @@
 -- What a reader has read so far.
-use Rattle.std.specs.Prelude.{◌≡◌, ℕ, List, [], ◌++◌, true, Option, Some, None}
+use Rattle.std.specs.Prelude.{◌≡◌, ℕ, List, [], ◌∷◌, ◌++◌, true, false, Option, Some, None}
 use Rattle.word_map.specs.declared.config.Config.{Config}
 use Rattle.script_text.specs.declared.command.Command.{Command}
+use Rattle.script_text.specs.declared.command.Command.TheVariants.{Create}
 use Rattle.script_text.specs.declared.draft.Draft.{Draft}
+use Rattle.script_text.specs.Name.{is_among, add_name}
 use Rattle.script_text.specs.Lines.{lines_of, some_command, commands_of}
 use Rattle.script_text.specs.Printed.{words_below}
 use Rattle.script_text.specs.Fitting.{all_fit}
@@ -28,6 +30,22 @@ words_of_lines (Some world) lines = words_below world lines
 -- the words of the commands so far
 abbrev pub words_so_far : Draft → List (List (List ℕ))
 words_so_far draft = words_of_lines draft.world draft.lines.items
+
+-- a creation gives a new name; other commands give none
+abbrev pub IsNewIn : List (List ℕ) → Command → Type 0
+IsNewIn names (Create name layer bounds user) = is_among names name ≡ false
+IsNewIn names command = Unit {0}
+
+-- the names from there on
+abbrev pub names_with : List (List ℕ) → Command → List (List ℕ)
+names_with names (Create name layer bounds user) = add_name names name
+names_with names command = names
+
+-- one command more
+pub record Keeps (command : Command) (old new : Draft) : Type 0 where
+  pub world : new.world ≡ old.world
+  pub names : new.names ≡ names_with old.names command
+  pub lines : new.lines.items ≡ old.lines.items ++ command ∷ []
 
 -- the words of one line's command more
 pub record Adds (words : List (List ℕ)) (old new : Draft) : Type 0 where

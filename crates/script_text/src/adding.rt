@@ -1,4 +1,4 @@
-ghost use Rattle.std.specs.Prelude.{◌≡◌, ◌∷◌, [], Some, None, true};
+ghost use Rattle.std.specs.Prelude.{◌≡◌, ◌∷◌, [], Some, None, OnOk, true};
 ghost use Rattle.script_text.specs.Fault.{ReadsInMemory};
 ghost use Rattle.script_text.specs.Lines.{texts};
 ghost use Rattle.script_text.specs.Keyword.{keyword_text};
@@ -7,7 +7,7 @@ ghost use Rattle.script_text.specs.Fitting.{HasWords, all_fit};
 ghost use Rattle.script_text.specs.World.{SpellsWorld};
 ghost use Rattle.script_text.specs.Grammar.{fields_fault, first_fault, named_fault, command_fault};
 ghost use Rattle.script_text.specs.Above.{opening};
-ghost use Rattle.script_text.specs.Draft.{Adds, above_below, above_next, words_so_far};
+ghost use Rattle.script_text.specs.Draft.{Adds, IsNewIn, Keeps, above_below, above_next, words_so_far};
 
 use crate::code::{Code, LineError};
 use crate::command::Command;
@@ -19,7 +19,7 @@ use crate::draft::Draft;
 use crate::keyword::{Keyword, unknown_word};
 use crate::limits::MAX_MULTI;
 use crate::names::Names;
-use std::alloc::Global;
+use std::alloc::{AllocError, Global};
 use word_map::Config;
 
 /// The command that a keyword and the words below it spell, below a world line.
@@ -101,8 +101,20 @@ impl Draft {
         Ok(())
     }
 
+    /// Keeps a command, and the name that it gives.
+    fn keep(&mut self, alloc: Global, command: Command) -> Result<(), AllocError>
+        requires { IsNewIn self.old.names command }
+        ensures { OnOk result (Keeps command self.old self.new) }
+    {
+        if let Command::Create { name, .. } = &command {
+            self.names.push_new(alloc, name.items())?;
+        }
+        self.lines.push(command)?;
+        Ok(())
+    }
+
     /// Adds a line below the world line.
-    #[tactic(auto, using(crate::proofs::NewNames::created_is_new, crate::proofs::Drafts::after_words, crate::proofs::Drafts::one_more, crate::proofs::Drafts::fit_more))]
+    #[tactic(auto, using(crate::proofs::NewNames::gives_new_name, crate::proofs::Drafts::adds_kept))]
     fn continue_with(
         &mut self,
         alloc: Global,
@@ -114,10 +126,7 @@ impl Draft {
         ensures { ReadsInMemory result (fields_fault (above_next self.old) keyword (texts args.now)) (λ _. Adds (keyword_text keyword ∷ texts args.now) self.old self.new) }
     {
         let command = read_fields(alloc, &world, &self.names, keyword, args)?;
-        if let Command::Create { name, .. } = &command {
-            self.names.push_new(alloc, name.items())?;
-        }
-        self.lines.push(command)?;
+        self.keep(alloc, command)?;
         Ok(())
     }
 

@@ -1,8 +1,9 @@
-ghost use Rattle.std.specs.Prelude.{◌≡◌, ◌∷◌, [], codes};
+ghost use Rattle.std.specs.Prelude.{◌≡◌, ◌∷◌, ◌++◌, ◌<◌, [], codes, decimal};
 ghost use Rattle.script_text.specs.Lines.{texts};
-ghost use Rattle.script_text.specs.Fault.{ReadsInMemory, first_of};
-ghost use Rattle.script_text.specs.Name.{name_fault, known_names_fault};
-ghost use Rattle.script_text.specs.Fields.{layer_fault};
+ghost use Rattle.script_text.specs.Fault.{Reads, ReadsInMemory, first_of};
+ghost use Rattle.script_text.specs.Name.{name_fault, new_name_fault, known_names_fault};
+ghost use Rattle.script_text.specs.Command.{box_words};
+ghost use Rattle.script_text.specs.Fields.{corner_fault, layer_fault, order_fault, user_fault};
 ghost use Rattle.script_text.specs.Fitting.{HasWords};
 ghost use Rattle.script_text.specs.World.{SpellsWorld};
 ghost use Rattle.script_text.specs.Grammar.{world_fault, create_fault, body_fault, batch_fault, bodies_fault, prepare_fault, move_fault, set_user_fault, box_fault, point_fault, ray_fault};
@@ -16,6 +17,7 @@ use crate::fields::{
 use crate::name_fields::{check_known_name, check_name, check_new_name, read_known_names};
 use crate::names::Names;
 use crate::text::{Text, TextList};
+use fixed_box::FixBox;
 use std::alloc::Global;
 use word_map::{Config, Field};
 
@@ -39,8 +41,37 @@ pub fn read_world(args: &[&[u8]]) -> Result<Config, LineError>
     })
 }
 
+/// The layer of a creation, whose name has to be new.
+fn read_created_layer(names: &Names, layers: u32, name: &[u8], layer: &[u8]) -> Result<u32, Code>
+    ensures { Reads result (first_of (new_name_fault names.now name.now ∷ layer_fault layers layer.now ∷ [])) (λ n. (layer.now ≡ decimal n) × (n < layers)) }
+{
+    check_new_name(names, name)?;
+    read_layer(layers, layer)
+}
+
+/// The box of a creation and its user number, which is looked at before the order of the corners.
+#[tactic(auto, using(crate::proofs::Boxes::in_order))]
+fn read_created_box(
+    x0: &[u8],
+    y0: &[u8],
+    z0: &[u8],
+    x1: &[u8],
+    y1: &[u8],
+    z1: &[u8],
+    user: &[u8],
+) -> Result<(FixBox, u32), Code>
+    ensures { Reads result (first_of (corner_fault x0.now y0.now z0.now ∷ corner_fault x1.now y1.now z1.now ∷ user_fault user.now ∷ order_fault (x0.now ∷ y0.now ∷ z0.now ∷ []) (x1.now ∷ y1.now ∷ z1.now ∷ []) ∷ []))
+        (λ r. box_words r.0 ++ decimal r.1 ∷ [] ≡ x0.now ∷ y0.now ∷ z0.now ∷ x1.now ∷ y1.now ∷ z1.now ∷ user.now ∷ []) }
+{
+    let lo = read_corner(x0, y0, z0)?;
+    let hi = read_corner(x1, y1, z1)?;
+    let user = read_user(user)?;
+    let bounds = box_between(lo, hi)?;
+    Ok((bounds, user))
+}
+
 /// `create NAME LAYER BOX USER`, in a world with so many layers.
-#[tactic(auto, using(crate::proofs::Words::words_9, crate::proofs::Boxes::in_order))]
+#[tactic(auto, using(crate::proofs::Words::words_9, crate::proofs::Creations::creation_parts))]
 pub fn read_create(
     alloc: Global,
     names: &Names,
@@ -52,12 +83,8 @@ pub fn read_create(
     let [name, layer, x0, y0, z0, x1, y1, z1, user] = args else {
         return Err(LineError::Fault(Code::Count));
     };
-    check_new_name(names, name)?;
-    let layer = read_layer(layers, layer)?;
-    let lo = read_corner(x0, y0, z0)?;
-    let hi = read_corner(x1, y1, z1)?;
-    let user = read_user(user)?;
-    let bounds = box_between(lo, hi)?;
+    let layer = read_created_layer(names, layers, name, layer)?;
+    let (bounds, user) = read_created_box(x0, y0, z0, x1, y1, z1, user)?;
     Ok(Command::Create {
         name: Text::from_slice(alloc, name)?,
         layer,

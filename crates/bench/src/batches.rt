@@ -5,13 +5,15 @@ ghost use Rattle.pass_table.specs.Passes.{view_of, IsIdle};
 ghost use Rattle.batch_add.specs.Prepared.{IsGood};
 ghost use Rattle.batch_add.specs.PreparedLists.{AreGood, IsBeside};
 
+mod preparing;
 mod spending;
 
 use crate::table::Table;
 use crate::town::{create_all, ids_from, open, some_boxes};
-use batch_add::{Prepared, PreparedList, prepare};
+use batch_add::{Prepared, PreparedList};
 use fixed_box::FixBox;
 use pass_table::{Pass, World};
+use preparing::Preparing;
 use spending::Spending;
 use std::alloc::{AllocError, Global};
 use std::io;
@@ -45,6 +47,7 @@ fn prepare_one<R: Wait>(
     world: &World,
     pass: &mut Pass,
     list: &mut PreparedList,
+    preparing: Preparing,
     first: u32,
 ) -> bool
     requires idle { IsIdle world.now pass.old }
@@ -60,7 +63,7 @@ fn prepare_one<R: Wait>(
     let Ok(ids) = ids_from(alloc, first, BATCH) else {
         return false;
     };
-    match prepare(rt, alloc, world, pass, 0, &ids) {
+    match preparing.prepare(rt, alloc, world, pass, &ids) {
         Ok(batch) => keep(list, batch),
         Err(_) => false,
     }
@@ -73,6 +76,7 @@ fn prepare_all<R: Wait>(
     world: &World,
     pass: &mut Pass,
     list: &mut PreparedList,
+    preparing: Preparing,
 ) -> u32
     requires idle { IsIdle world.now pass.old }
     requires bodies { world.now.map.bodies ≡ 65536 }
@@ -83,7 +87,8 @@ fn prepare_all<R: Wait>(
 {
     let mut held = 0u32;
     for first in (0..BODIES).step_by(BATCH as usize) {
-        held = held.wrapping_add(u32::from(prepare_one(rt, alloc, world, pass, list, first)));
+        let is_held = prepare_one(rt, alloc, world, pass, list, preparing, first);
+        held = held.wrapping_add(u32::from(is_held));
     }
     held
 }
@@ -101,6 +106,7 @@ struct Stream {
 fn measure<R: Clock + Print + Wait>(
     table: &Table<R>,
     boxes: &[FixBox],
+    preparing: Preparing,
     spending: Spending,
 ) -> io::Result<Stream> {
     let (rt, alloc) = (table.runtime(), table.alloc());
@@ -108,7 +114,7 @@ fn measure<R: Clock + Print + Wait>(
     create_all(rt, &world, &mut pass, boxes);
     let mut list = PreparedList::new(alloc);
     let start = table.start()?;
-    let held = prepare_all(rt, alloc, &world, &mut pass, &mut list);
+    let held = prepare_all(rt, alloc, &world, &mut pass, &mut list, preparing);
     let prepare = table.since(start)?;
     let start = table.start()?;
     spending.spend_all(rt, &world, &mut pass, &mut list);
@@ -124,11 +130,12 @@ fn measure<R: Clock + Print + Wait>(
 fn quickest<R: Clock + Print + Wait>(
     table: &Table<R>,
     boxes: &[FixBox],
+    preparing: Preparing,
     spending: Spending,
 ) -> io::Result<Stream> {
-    let mut least = measure(table, boxes, spending)?;
+    let mut least = measure(table, boxes, preparing, spending)?;
     for _ in 1..table.runs() {
-        let next = measure(table, boxes, spending)?;
+        let next = measure(table, boxes, preparing, spending)?;
         least.prepare = least.prepare.min(next.prepare);
         least.spend = least.spend.min(next.spend);
     }
@@ -149,12 +156,18 @@ fn write<R: Clock + Print + Wait>(
 /// Writes rows for preparing batches, attaching them, and giving them up, in one call and by turns.
 pub(crate) fn run<R: Clock + Print + Wait>(table: &Table<R>) -> io::Result<()> {
     let boxes = some_boxes(table.alloc(), BODIES)?;
-    let attached = quickest(table, &boxes, Spending::Attach)?;
+    let attached = quickest(table, &boxes, Preparing::Call, Spending::Attach)?;
     write(table, "batch, prepare", attached.held, attached.prepare)?;
     write(table, "batch, finalize", attached.held, attached.spend)?;
-    let aborted = quickest(table, &boxes, Spending::Abort)?;
+    let aborted = quickest(table, &boxes, Preparing::Call, Spending::Abort)?;
     write(table, "batch, abort", aborted.held, aborted.spend)?;
-    let by_turns = quickest(table, &boxes, Spending::AbortByTurns)?;
+    let by_turns = quickest(table, &boxes, Preparing::Turns, Spending::AbortByTurns)?;
+    write(
+        table,
+        "batch, prepare by turns",
+        by_turns.held,
+        by_turns.prepare,
+    )?;
     write(
         table,
         "batch, abort by turns",

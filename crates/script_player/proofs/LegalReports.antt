@@ -25,17 +25,17 @@ use Rattle.script_player.proofs.RightAt.{interval_at, history_up_to, right_at}
 use Rattle.script_player.proofs.ToldAlone.{item_alone, made_in, exchanges_alone, commands_of_exchanges, made_in-exchanges, told_snoc, told_length, entries_own, entries_other, made_own, made_other, kept_alone, order_alone}
 
 -- what is told of a command on a table
-abbrev exchange_on : Table → Command → Exchange
+abbrev pub exchange_on : Table → Command → Exchange
 exchange_on table c = record { command = c; reply = (turn table c).reply; made = (turn table c).entries }
 
 -- ---- one command
 
-size_at : (script : Script) (at : Standing script) → length (made_in (exchanges_at script at)) ≡ length (history_at script at)
+pub size_at : (script : Script) (at : Standing script) → length (made_in (exchanges_at script at)) ≡ length (history_at script at)
 size_at script at =
     let made : Entry → Made = λ entry. record { pass = 0; entry = entry } in
     ap (λ (m : List Entry). length m) (made_in-exchanges at.above (empty_table script.world)) ∙ sym (length-map (entries_made (empty_table script.world) at.above) made)
 
-places_at : (cs : List Command) (table : Table) → length (exchanges table cs) ≡ length cs
+pub places_at : (cs : List Command) (table : Table) → length (exchanges table cs) ≡ length cs
 places_at cs table = sym (length-map (exchanges table cs) (λ (e : Exchange). e.command)) ∙ ap (λ (xs : List Command). length xs) (commands_of_exchanges cs table)
 
 entries_at : (script : Script) (at : Standing script)
@@ -99,7 +99,7 @@ record IsUpTo (script : Script) (above : List Command) (table : Table) (place fr
   from_is : length (history_of script.world above) ≡ from
   earlier_is : told_alone 0 0 (exchanges (empty_table script.world) above) ≡ earlier
 
-table_below-snoc : (above : List Command) (table : Table) (c : Command)
+pub table_below-snoc : (above : List Command) (table : Table) (c : Command)
     → table_below table (above ++ c ∷ []) ≡ table_after (table_below table above) (turn (table_below table above) c)
 table_below-snoc [] table c = refl
 table_below-snoc (x ∷ above) table c = table_below-snoc above (table_after table (turn table x)) c

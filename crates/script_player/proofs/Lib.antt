@@ -38,3 +38,6 @@ pub mod Changing
 pub mod RightAt
 pub mod ToldAlone
 pub mod LegalReports
+pub mod EventsAlone
+pub mod OwnRefusals
+pub mod PlayedAlone

@@ -24,7 +24,7 @@ item_alone place from e =
 abbrev pub made_in : List Exchange → List Entry
 made_in es = flat_map (λ (e : Exchange). e.made) es
 
-made_in-length : (x : Exchange) (es : List Exchange) → length (made_in (x ∷ es)) ≡ length x.made + length (made_in es)
+pub made_in-length : (x : Exchange) (es : List Exchange) → length (made_in (x ∷ es)) ≡ length x.made + length (made_in es)
 made_in-length x es = ap (λ (m : List Entry). length m) (flat_map-cons (λ (e : Exchange). e.made) x es) ∙ length-append x.made (made_in es)
 
 pub exchanges_alone : (es : List Exchange) (place from : ℕ) → exchanges_of (told_alone place from es) ≡ es

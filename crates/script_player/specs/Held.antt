@@ -85,7 +85,7 @@ ends_update passes pass order answer after = false
 abbrev pub given_back : Event → Event → List ℕ → List Event → Bool
 given_back item e passes [] = false
 given_back item e passes (r ∷ later) =
-    (is_above r item && ends_update passes r.pass r.order r.answer (is_above e r))
+    (ends_update passes r.pass r.order r.answer (is_above e r) && is_above r item)
     || given_back item e (tokens_after e passes r.pass r.order r.answer (is_above e r)) later
 
 -- the entries above that brought in what is not given back
@@ -112,7 +112,7 @@ tried_in layers above (e ∷ none) = prepares_tried layers above e.command e.rep
 abbrev pub held_beside : ℕ → Event → List Exchange → List Event → List Prepared
 held_beside layers item above [] = []
 held_beside layers item above (e ∷ later) =
-    (if (e.given == item.given) && not (e.caller == item.caller) && not (is_above item e) then tried_in layers above (exchange_of e) else [])
+    (if not (e.caller == item.caller) && (e.given == item.given) && not (is_above item e) then tried_in layers above (exchange_of e) else [])
     ++ held_beside layers item (above ++ exchange_of e) later
 
 -- what prepares hold, as an order sees it

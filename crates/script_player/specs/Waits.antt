@@ -23,7 +23,7 @@ pub record IsTimeOf (earlier : List Event) (item : Event) (before : List Event) 
 
 -- another order of the same block, which is neither above nor below
 abbrev pub is_beside : Event → Event → Bool
-is_beside item e = (e.given == item.given) && not (e.caller == item.caller) && not (is_above e item) && not (is_above item e)
+is_beside item e = not (e.caller == item.caller) && (e.given == item.given) && not (is_above e item) && not (is_above item e)
 
 -- ---- orders that are under way
 

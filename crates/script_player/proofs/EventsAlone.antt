@@ -17,25 +17,8 @@ use Rattle.script_player.specs.Open.{open_from, open_of, preparing_from, prepari
 use Rattle.script_player.specs.Ordered.{IsAfter}
 use Rattle.script_player.specs.Held.{held_above, given_back, joined_above, held_beside, begun_of, held_seen}
 use Rattle.script_player.specs.Told.{Span}
+use Rattle.script_player.specs.Alone.{event_alone, events_alone}
 use Rattle.script_player.proofs.ToldAlone.{made_in, made_in-length}
-
--- what is told of one command
-abbrev pub event_alone : ℕ → ℕ → Exchange → Event
-event_alone place from e = record {
-  caller = 0;
-  pass = 0;
-  given = place;
-  answered = place;
-  order = Some (Plain e.command);
-  answer = Replied e.reply;
-  span = record { from = from; to = from + length e.made };
-  made = e.made;
-  lanes = [];
-}
-
-abbrev pub events_alone : ℕ → ℕ → List Exchange → List Event
-events_alone place from [] = []
-events_alone place from (e ∷ later) = event_alone place from e ∷ events_alone (place + 1) (from + length e.made) later
 
 pub exchanges_of_events : (es : List Exchange) (place from : ℕ) → exchanges_told (events_alone place from es) ≡ es
 exchanges_of_events [] place from = refl

@@ -41,3 +41,4 @@ pub mod LegalReports
 pub mod EventsAlone
 pub mod OwnRefusals
 pub mod PlayedAlone
+pub mod StoryAlone

@@ -39,6 +39,7 @@ use Rattle.script_player.specs.Ordered.{HasMade, HasEntriesOf, IsSpan}
 use Rattle.script_player.specs.Held.{held_above, held_beside, begun_by, begun_of, joined_above, held_seen}
 use Rattle.script_player.specs.Refusals.{is_name_taken, own_of, own_refusal}
 use Rattle.script_player.specs.Replied.{AreToldEach, IsToldEach, IsMultiOf, kept_for, IsRightCommand, IsRightAnswer}
+use Rattle.script_player.specs.Alone.{event_alone, events_alone, serial_events}
 use Rattle.script_player.specs.Legality.{IsRightEvent, AreRightEvents, IsPlayed}
 use Rattle.script_player.proofs.Reporting.{report_is, exchanges-append, entries_stand}
 use Rattle.script_player.proofs.Standing.{entries_made-append, point_at}
@@ -48,7 +49,7 @@ use Rattle.script_player.proofs.RightAt.{interval_at, history_up_to, right_at}
 use Rattle.script_player.proofs.ToldAlone.{made_in, commands_of_exchanges, made_in-exchanges, entries_own, entries_other}
 use Rattle.script_player.proofs.LegalReports.{exchange_on, size_at, places_at, table_below-snoc}
 use Rattle.script_player.proofs.OwnRefusals.{own_alone}
-use Rattle.script_player.proofs.EventsAlone.{event_alone, events_alone, exchanges_of_events, events_length, events_snoc, known_alone, none_open, none_preparing, no_token, carried_alone, made_alone_own, made_alone_other, held_alone, none_beside, joined_alone, after_alone}
+use Rattle.script_player.proofs.EventsAlone.{exchanges_of_events, events_length, events_snoc, known_alone, none_open, none_preparing, no_token, carried_alone, made_alone_own, made_alone_other, held_alone, none_beside, joined_alone, after_alone}
 
 -- ---- what several bodies are told to be
 
@@ -210,7 +211,7 @@ own_at script at =
         (none_preparing es [] 0 0)
     ∙ ap (λ (known : List Event). own_refusal (plan_of script) 0 known at.command) (sym (known_alone es (length at.above) (length (history_at script at)) 0 0 e))
 
-one_right : (script : Script) (at : Standing script) (later : List Exchange) (place from : ℕ)
+pub one_right : (script : Script) (at : Standing script) (later : List Exchange) (place from : ℕ)
     → IsRightEvent (plan_of script) (history_of script.world script.lines) (events_alone 0 0 (exchanges_at script at))
     (event_alone (length at.above) (length (history_at script at)) (exchange_on (table_at script at) at.command)) (events_alone place from later)
 one_right script at later place from =

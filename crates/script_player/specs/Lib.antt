@@ -40,3 +40,4 @@ pub mod Replied
 pub mod Waits
 pub mod Closing
 pub mod Legality
+pub mod Alone

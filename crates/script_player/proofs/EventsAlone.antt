@@ -1,24 +1,20 @@
 -- What is told of a script that main gives alone: the answers, one for each line.
-use Rattle.std.proofs.Common.{◌≡◌, ℕ, suc, ◌+◌, ◌≤◌, ◌<◌, true, false, cond, eqb, Bool, List, [], ◌∷◌, ◌++◌, length, map, Option, Some, None, refl, ap, sym, ◌∙◌, true≢false, length-append, arith, All}
-use Rattle.std.specs.Prelude.{option_map, is_some, bytes_eq}
-use Rattle.std.specs.List.{flat_map, filter, find}
+use Rattle.std.proofs.Common.{◌≡◌, ℕ, suc, ◌+◌, ◌≤◌, true, false, cond, eqb, Bool, List, [], ◌∷◌, ◌++◌, length, Option, Some, None, refl, ap, sym, ◌∙◌, true≢false, arith, All}
+use Rattle.std.specs.Prelude.{option_map}
+use Rattle.std.specs.List.{find}
 use Rattle.std.specs.Option.{unwrap_or}
 use Rattle.std.proofs.lemmas.List.{append-nil}
 use Rattle.std.proofs.lemmas.List.Concat.{flat_map-cons}
 use Rattle.std.proofs.lemmas.List.Elements.{All-nil, All-cons}
 use Rattle.scene_model.specs.declared.entry.Entry.{Entry}
-use Rattle.script_text.specs.declared.command.Command.{Command}
 use Rattle.script_player.specs.Exchange.{Exchange}
-use Rattle.script_player.specs.Prepared.{Prepared, prepared_by, prepared_from, kept_by}
-use Rattle.script_player.specs.Line.{Plan, Plain}
-use Rattle.script_player.specs.Answer.{Replied}
-use Rattle.script_player.specs.Event.{Event, exchanges_told, known_before, is_above, spans_told, lane_by, made_by_events}
-use Rattle.script_player.specs.Open.{open_from, open_of, preparing_from, preparing_of, tokens_from, tokens_of, maker_of}
+use Rattle.script_player.specs.Prepared.{Prepared, prepared_by, prepared_from}
+use Rattle.script_player.specs.Event.{Event, exchanges_told, known_before, made_by_events}
+use Rattle.script_player.specs.Open.{open_from, preparing_from, tokens_from}
 use Rattle.script_player.specs.Ordered.{IsAfter}
-use Rattle.script_player.specs.Held.{held_above, given_back, joined_above, held_beside, begun_of, held_seen}
-use Rattle.script_player.specs.Told.{Span}
+use Rattle.script_player.specs.Held.{held_above, given_back, joined_above, held_beside}
 use Rattle.script_player.specs.Alone.{event_alone, events_alone}
-use Rattle.script_player.proofs.ToldAlone.{made_in, made_in-length}
+use Rattle.script_player.proofs.Entries.{made_in, made_in-length}
 
 pub exchanges_of_events : (es : List Exchange) (place from : ℕ) → exchanges_told (events_alone place from es) ≡ es
 exchanges_of_events [] place from = refl

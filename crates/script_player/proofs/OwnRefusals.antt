@@ -1,13 +1,12 @@
 -- The refusals that come from the script and the answers above alone, where main gives all commands.
-use Rattle.std.proofs.Common.{◌≡◌, ◌⊎◌, ℕ, true, false, cond, Bool, List, [], ◌∷◌, Option, Some, None, refl, ap, sym, subst, ◌∙◌, true≢false, inl, inr}
-use Rattle.std.specs.Prelude.{if◌then◌else◌, map, is_some, option_map, option_and_then, ◌||◌, IsTrue}
-use Rattle.std.proofs.lemmas.Bool.{cases_Bool}
+use Rattle.std.proofs.Common.{◌≡◌, ℕ, true, false, cond, Bool, List, [], ◌∷◌, Option, Some, None, refl, ap, sym, subst, ◌∙◌, inl, inr}
+use Rattle.std.specs.Prelude.{if◌then◌else◌, map, is_some, option_map, option_and_then, ◌||◌}
 use Rattle.fixed_box.specs.declared.fix_box.FixBox.{FixBox}
 use Rattle.body_ident.specs.Id.{Id}
 use Rattle.scene_model.specs.declared.entry.Entry.{Entry}
 use Rattle.scene_model.specs.declared.entry.Entry.TheVariants as entries
 use Rattle.scene_model.specs.Scene.{Scene}
-use Rattle.scene_model.specs.History.{Interval, AtSomePoint}
+use Rattle.scene_model.specs.History.{Interval}
 use Rattle.scene_model.specs.Cause.{Cause, IsCause}
 use Rattle.word_map.specs.declared.config.Config.{Config}
 use Rattle.script_text.specs.declared.command.Command.{Command}

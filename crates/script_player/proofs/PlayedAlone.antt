@@ -1,55 +1,61 @@
 -- A script that main gives alone is played as the rules ask for.
-use Rattle.std.proofs.Common.{◌≡◌, ℕ, suc, ◌+◌, ◌<◌, ◌≤◌, true, false, cond, eqb, leb, Bool, List, [], ◌∷◌, ◌++◌, length, take, map, Option, Some, None, refl, ap, sym, subst, ◌∙◌, true≢false, append_assoc, length-append, arith, inl, inr}
-use Rattle.std.specs.Prelude.{option_map, is_some, ◌||◌, nat_le}
-use Rattle.std.specs.List.{flat_map}
-use Rattle.std.specs.Option.{unwrap_or}
+use Rattle.std.proofs.Common.{◌≡◌, ℕ, ◌+◌, ◌≤◌, true, false, Bool, List, [], ◌∷◌, ◌++◌, length, take, Option, Some, None, refl, ap, sym, subst, ◌∙◌, length-append, arith}
+use Rattle.std.specs.Prelude.{◌||◌}
 use Rattle.std.proofs.lemmas.List.{length-map, map-append, append-nil}
-use Rattle.std.proofs.lemmas.Bool.{cases_Bool}
 use Rattle.body_ident.specs.Id.{Id}
 use Rattle.scene_model.specs.declared.entry.Entry.{Entry}
 use Rattle.scene_model.specs.declared.entry.Entry.TheVariants as entries
 use Rattle.scene_model.specs.declared.entry.Made.{Made}
-use Rattle.scene_model.specs.Scene.{Scene}
-use Rattle.scene_model.specs.History.{Interval, AtSomePoint, point}
+use Rattle.scene_model.specs.History.{Interval, point}
 use Rattle.script_text.specs.declared.command.Command.{Command}
 use Rattle.script_text.specs.declared.command.Command.TheVariants as commands
 use Rattle.script_text.specs.declared.script.Script.{Script}
 use Rattle.reply_text.specs.declared.multi.MultiItem.{MultiItem}
 use Rattle.reply_text.specs.declared.reply.Reply.{Reply}
 use Rattle.reply_text.specs.declared.reply.Reply.TheVariants as replies
-use Rattle.reply_text.specs.Reply.{reply_text}
 use Rattle.script_player.specs.Table.{Table, empty_table}
 use Rattle.script_player.specs.Turn.{turn, table_after}
-use Rattle.script_player.specs.Report.{table_below, entries_made, end_text, serial_report}
-use Rattle.script_player.specs.Standing.{made_alone, history_of, scene_below, Standing, history_at, scene_at, table_at, turn_at}
+use Rattle.script_player.specs.Report.{table_below, entries_made}
+use Rattle.script_player.specs.Standing.{made_alone, history_of, Standing, history_at, scene_at, table_at, turn_at}
 use Rattle.script_player.specs.Exchange.{Exchange, exchanges, exchanges_at, ids_of_names}
 use Rattle.script_player.specs.Prepared.{Prepared, prepared_from, Kept, kept_by, kept_at}
-use Rattle.script_player.specs.Refused.{TellsItem, TellsItems, AnswersMulti, IsAnsweredFirst}
+use Rattle.script_player.specs.Refused.{TellsItems, AnswersMulti, IsAnsweredFirst}
 use Rattle.script_player.specs.Right.{IsSpent, IsRightFor}
 use Rattle.script_player.specs.Done.{prepared_named}
 use Rattle.script_player.specs.Taking.{unmarks}
-use Rattle.script_player.specs.Told.{Span, entries_by}
-use Rattle.script_player.specs.Line.{Plan, Line, Own, Plain, plan_of, lines_of_script}
-use Rattle.script_player.specs.Answer.{Replied}
-use Rattle.script_player.specs.Event.{Event, exchanges_told, known_before, spans_told, made_by_events}
-use Rattle.script_player.specs.Open.{open_from, open_of, is_any_open, carrier_of, is_hindered, has_name, batches_left, preparing_of, is_preparing, maker_of, tokens_of, first_token}
-use Rattle.script_player.specs.Stands.{answers_own, IsOwnLine, StandBelow, Stand}
-use Rattle.script_player.specs.Spoken.{story_text, event_text}
-use Rattle.script_player.specs.Ordered.{HasMade, HasEntriesOf, IsSpan}
-use Rattle.script_player.specs.Held.{held_above, held_beside, begun_by, begun_of, joined_above, held_seen}
+use Rattle.script_player.specs.Span.{entries_by}
+use Rattle.script_player.specs.Line.{plan_of}
+use Rattle.script_player.specs.Event.{Event, exchanges_told, known_before, made_by_events}
+use Rattle.script_player.specs.Open.{has_name, batches_left, is_preparing}
+use Rattle.script_player.specs.Ordered.{HasEntriesOf, IsSpan}
+use Rattle.script_player.specs.Held.{held_beside, begun_by, begun_of, joined_above, held_seen}
 use Rattle.script_player.specs.Refusals.{is_name_taken, own_of, own_refusal}
-use Rattle.script_player.specs.Replied.{AreToldEach, IsToldEach, IsMultiOf, kept_for, IsRightCommand, IsRightAnswer}
-use Rattle.script_player.specs.Alone.{event_alone, events_alone, serial_events}
-use Rattle.script_player.specs.Legality.{IsRightEvent, AreRightEvents, IsPlayed}
-use Rattle.script_player.proofs.Reporting.{report_is, exchanges-append, entries_stand}
-use Rattle.script_player.proofs.Standing.{entries_made-append, point_at}
-use Rattle.script_player.proofs.Lawful.{lawful_of}
+use Rattle.script_player.specs.Replied.{AreToldEach, IsMultiOf, kept_for, IsRightCommand, IsRightAnswer}
+use Rattle.script_player.specs.Alone.{event_alone, events_alone}
+use Rattle.script_player.specs.Legal.{IsRightEvent}
+use Rattle.script_player.proofs.Reporting.{entries_stand}
 use Rattle.script_player.proofs.Refusing.{answered_at}
 use Rattle.script_player.proofs.RightAt.{interval_at, history_up_to, right_at}
-use Rattle.script_player.proofs.ToldAlone.{made_in, commands_of_exchanges, made_in-exchanges, entries_own, entries_other}
-use Rattle.script_player.proofs.LegalReports.{exchange_on, size_at, places_at, table_below-snoc}
+use Rattle.script_player.proofs.Entries.{made_in, commands_of_exchanges, made_in-exchanges, entries_own}
 use Rattle.script_player.proofs.OwnRefusals.{own_alone}
-use Rattle.script_player.proofs.EventsAlone.{exchanges_of_events, events_length, events_snoc, known_alone, none_open, none_preparing, no_token, carried_alone, made_alone_own, made_alone_other, held_alone, none_beside, joined_alone, after_alone}
+use Rattle.script_player.proofs.EventsAlone.{exchanges_of_events, known_alone, none_open, none_preparing, made_alone_own, held_alone, none_beside, joined_alone, after_alone}
+
+-- what is told of a command on a table
+abbrev pub exchange_on : Table → Command → Exchange
+exchange_on table c = record { command = c; reply = (turn table c).reply; made = (turn table c).entries }
+
+pub size_at : (script : Script) (at : Standing script) → length (made_in (exchanges_at script at)) ≡ length (history_at script at)
+size_at script at =
+    let made : Entry → Made = λ entry. record { pass = 0; entry = entry } in
+    ap (λ (m : List Entry). length m) (made_in-exchanges at.above (empty_table script.world)) ∙ sym (length-map (entries_made (empty_table script.world) at.above) made)
+
+pub places_at : (cs : List Command) (table : Table) → length (exchanges table cs) ≡ length cs
+places_at cs table = sym (length-map (exchanges table cs) (λ (e : Exchange). e.command)) ∙ ap (λ (xs : List Command). length xs) (commands_of_exchanges cs table)
+
+pub table_below-snoc : (above : List Command) (table : Table) (c : Command)
+    → table_below table (above ++ c ∷ []) ≡ table_after (table_below table above) (turn (table_below table above) c)
+table_below-snoc [] table c = refl
+table_below-snoc (x ∷ above) table c = table_below-snoc above (table_after table (turn table x)) c
 
 -- ---- what several bodies are told to be
 
@@ -187,12 +193,11 @@ answer_at script at later place from _ =
     let right : IsRightFor script.world (kept_at script at) 0 (interval_at script at) (exchanges_told earlier) at.command t.reply t.entries =
     subst (λ (above : List Exchange). IsRightFor script.world (kept_at script at) 0 (interval_at script at) above at.command t.reply t.entries) (sym same) (right_at script at) in
     let named : (name : List ℕ) (layer : ℕ) → (kept_at script at name layer).named ≡ has_name name (batches_left earlier) =
-    λ name layer. ap (λ (above : List Exchange). has_name name (prepared_from [] above)) (sym same) in
-    (
+    λ name layer. ap (λ (above : List Exchange). has_name name (prepared_from [] above)) (sym same) in (
       subst (λ (known : List Event). IsRightCommand (plan_of script) (kept_for (plan_of script) earlier item (events_alone place from later)) 0 0 (interval_at script at) known at.command t.reply t.entries)
           (sym (known_alone es p f 0 0 e))
           (subst (λ (k : List ℕ → ℕ → Kept). IsRightCommand (plan_of script) k 0 0 (interval_at script at) earlier at.command t.reply t.entries) kept
-              (command_alone script earlier (kept_at script at) (interval_at script at) at.command t.reply t.entries right named)),
+          (command_alone script earlier (kept_at script at) (interval_at script at) at.command t.reply t.entries right named)),
       refl,
     )
 
@@ -205,10 +210,10 @@ own_at script at =
     let t = turn_at script at in
     let same = exchanges_of_events es 0 0 in
     own_alone script earlier (kept_at script at) (interval_at script at) (scene_at script at) at.command t.reply t.entries
-        (subst (λ (above : List Exchange). IsRightFor script.world (kept_at script at) 0 (interval_at script at) above at.command t.reply t.entries) (sym same) (right_at script at))
-        (subst (λ (above : List Exchange). IsAnsweredFirst script.world (kept_at script at) (scene_at script at) above at.command t.reply) (sym same) (answered_at script at))
-        (λ name layer. ap (λ (above : List Exchange). has_name name (prepared_from [] above)) (sym same))
-        (none_preparing es [] 0 0)
+    (subst (λ (above : List Exchange). IsRightFor script.world (kept_at script at) 0 (interval_at script at) above at.command t.reply t.entries) (sym same) (right_at script at))
+    (subst (λ (above : List Exchange). IsAnsweredFirst script.world (kept_at script at) (scene_at script at) above at.command t.reply) (sym same) (answered_at script at))
+    (λ name layer. ap (λ (above : List Exchange). has_name name (prepared_from [] above)) (sym same))
+    (none_preparing es [] 0 0)
     ∙ ap (λ (known : List Event). own_refusal (plan_of script) 0 known at.command) (sym (known_alone es (length at.above) (length (history_at script at)) 0 0 e))
 
 pub one_right : (script : Script) (at : Standing script) (later : List Exchange) (place from : ℕ)

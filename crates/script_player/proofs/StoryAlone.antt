@@ -1,5 +1,5 @@
 -- The story of a script that main gives alone is a legal one.
-use Rattle.std.proofs.Common.{◌≡◌, ℕ, suc, ◌+◌, ◌<◌, ◌≤◌, true, false, cond, eqb, Bool, List, [], ◌∷◌, ◌++◌, length, take, map, Option, Some, None, refl, ap, sym, subst, ◌∙◌, append_assoc, length-append, arith, inl, inr}
+use Rattle.std.proofs.Common.{◌≡◌, ℕ, ◌+◌, ◌≤◌, false, cond, eqb, Bool, List, [], ◌∷◌, ◌++◌, length, map, Option, refl, ap, sym, subst, ◌∙◌, append_assoc, length-append, arith, inl, inr}
 use Rattle.std.specs.Prelude.{is_some, ◌||◌, nat_le, codes}
 use Rattle.std.specs.List.{flat_map}
 use Rattle.std.proofs.lemmas.List.{length-map, append-nil}
@@ -16,22 +16,23 @@ use Rattle.script_player.specs.Turn.{turn, table_after}
 use Rattle.script_player.specs.Report.{table_below, entries_made, end_text, serial_report}
 use Rattle.script_player.specs.Standing.{history_of, scene_below, Standing, history_at}
 use Rattle.script_player.specs.Exchange.{Exchange, exchanges, exchanges_at}
-use Rattle.script_player.specs.Told.{Span, entries_by}
-use Rattle.script_player.specs.Line.{Line, Own, Plain, plan_of}
+use Rattle.script_player.specs.Span.{entries_by}
+use Rattle.script_player.specs.Line.{Own, Plain, plan_of}
 use Rattle.script_player.specs.Answer.{Replied}
-use Rattle.script_player.specs.Event.{Event, span_of, spans_told, made_by_events}
-use Rattle.script_player.specs.Open.{open_of, is_any_open, carrier_of, is_hindered, has_name, batches_of}
-use Rattle.script_player.specs.Stands.{answers_own, IsOwnLine, StandBelow, Stand}
+use Rattle.script_player.specs.Event.{Event, spans_told, made_by_events}
+use Rattle.script_player.specs.Open.{batches_left, open_of, carrier_of, is_hindered, has_name, batches_of}
+use Rattle.script_player.specs.Stands.{answers_own, IsOwnLine, StandBelow}
 use Rattle.script_player.specs.Spoken.{name_of, event_text, story_text}
 use Rattle.script_player.specs.Alone.{event_alone, events_alone, serial_events}
-use Rattle.script_player.specs.Legality.{IsRightEvent, AreRightEvents, IsPlayed}
+use Rattle.script_player.specs.Legal.{IsRightEvent, AreRightEvents, IsPlayed, Legal}
+use Rattle.script_player.specs.Prepared.{Prepared}
+use Rattle.script_player.specs.Closing.{in_name_order, AreGivenUp}
 use Rattle.script_player.proofs.Reporting.{report_is, exchanges-append}
 use Rattle.script_player.proofs.Standing.{entries_made-append}
 use Rattle.script_player.proofs.Lawful.{lawful_of}
-use Rattle.script_player.proofs.ToldAlone.{made_in, made_in-length, commands_of_exchanges, made_in-exchanges, entries_own, entries_other}
-use Rattle.script_player.proofs.LegalReports.{exchange_on, size_at, places_at, table_below-snoc}
-use Rattle.script_player.proofs.EventsAlone.{events_length, events_snoc, none_open, carried_alone, made_alone_own, made_alone_other}
-use Rattle.script_player.proofs.PlayedAlone.{one_right}
+use Rattle.script_player.proofs.Entries.{made_in, made_in-length, made_in-exchanges, entries_own, entries_other}
+use Rattle.script_player.proofs.EventsAlone.{events_snoc, none_open, carried_alone, made_alone_own, made_alone_other}
+use Rattle.script_player.proofs.PlayedAlone.{exchange_on, places_at, table_below-snoc, one_right}
 
 -- ---- how the answers stand
 
@@ -66,8 +67,7 @@ stand_alone script [] table es place from p f = ap (λ (o : Option Event). is_so
 stand_alone script (c ∷ cs) table es place from p f =
     let e = exchange_on table c in
     let after = table_after table (turn table c) in
-    let size = length-append es (e ∷ []) in
-    (
+    let size = length-append es (e ∷ []) in (
       own_line script es place from e,
       subst (λ (earlier : List Event). StandBelow (plan_of script) (place + 1) earlier (map (λ command. Own (Plain command)) cs) (events_alone (place + 1) (from + length e.made) (exchanges after cs)))
           (events_snoc es e 0 0 place from (omega (arith, p)) (omega (arith, f)))
@@ -161,7 +161,7 @@ text_alone script (x ∷ es) place from h =
     ∙ ap (λ (b : Bool). (cond b (name_of plan 0 ++ codes " ") [] ++ reply_text x.reply) ++ story_text plan later) (sym above)
     ∙ sym (flat_map-cons (event_text plan) (event_alone place from x) later)
 
-pub played_of : (script : Script) → IsPlayed (plan_of script) (serial_report script) (spans_told (serial_events script)) (history_of script.world script.lines) []
+pub played_of : (script : Script) → IsPlayed (plan_of script) (serial_report script) (spans_told (serial_events script)) (history_of script.world script.lines) (serial_events script) []
 played_of script =
     let table = empty_table script.world in
     let es = exchanges table script.lines in
@@ -169,11 +169,24 @@ played_of script =
     let size : 0 + length es ≤ length (plan_of script).lines =
     omega (arith, places_at script.lines table, length-map script.lines (λ (c : Command). Own (Plain c))) in
     record {
-      told = told;
       stand = stand_alone script script.lines table [] 0 0 refl refl;
       right = all_right script script.lines [] table 0 0 [] refl (record { table_is = refl; place_is = refl; from_is = refl; earlier_is = refl });
       lawful = lawful_of script;
       entries = λ pass. passes script pass ∙ ap (made_by_events 1 pass) (sym (append-nil told));
       spans_are = ap spans_told (append-nil told);
       lines = report_is script ∙ ap (λ (text : List ℕ). text ++ end_text (scene_below script.world script.lines)) (text_alone script es 0 0 size);
+    }
+
+-- where no batch is left, nothing more follows
+pub legal_of : (script : Script) → batches_left (serial_events script) ≡ []
+    → Legal (plan_of script) (serial_report script) (spans_told (serial_events script)) (history_of script.world script.lines)
+legal_of script none =
+    let plan = plan_of script in
+    let history = history_of script.world script.lines in
+    let told = serial_events script in
+    record {
+      told = told;
+      closing = [];
+      played = played_of script;
+      closed = subst (λ (ps : List Prepared). AreGivenUp plan history told told (in_name_order ps) []) (sym none) tt;
     }

@@ -4,10 +4,9 @@ use Rattle.std.specs.Prelude.{ℕ, ◌+◌, List, [], ◌∷◌, length, Some}
 use Rattle.script_text.specs.declared.script.Script.{Script}
 use Rattle.script_player.specs.Table.{empty_table}
 use Rattle.script_player.specs.Exchange.{Exchange, exchanges}
-use Rattle.script_player.specs.Told.{Span}
 use Rattle.script_player.specs.Line.{Plain}
 use Rattle.script_player.specs.Answer.{Replied}
-use Rattle.script_player.specs.Event.{Event, spans_told}
+use Rattle.script_player.specs.Event.{Event}
 
 -- what is told of one command
 abbrev pub event_alone : ℕ → ℕ → Exchange → Event

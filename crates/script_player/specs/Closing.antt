@@ -1,6 +1,5 @@
 -- The end of a script: the batches that are left are given up, in the order of their names.
-use Rattle.std.specs.Prelude.{◌≡◌, ℕ, ◌+◌, ⊤, ◌==◌, nat_lt, if◌then◌else◌, Bool, true, false, List, [], ◌∷◌, ◌++◌, length, Option, Some, All}
-use Rattle.scene_model.specs.declared.entry.Entry.{Entry}
+use Rattle.std.specs.Prelude.{◌≡◌, ℕ, ◌+◌, ⊤, ◌==◌, nat_lt, if◌then◌else◌, Bool, true, false, List, [], ◌∷◌, ◌++◌, length, Some, All}
 use Rattle.scene_model.specs.declared.entry.Made.{Made}
 use Rattle.script_text.specs.declared.command.Command.TheVariants as commands
 use Rattle.reply_text.specs.declared.reply.Reply.TheVariants as replies

@@ -1,11 +1,9 @@
 -- The story of a play, as data: what was answered, in the order of the report.
-use Rattle.std.specs.Prelude.{ℕ, ◌+◌, ◌==◌, nat_lt, if◌then◌else◌, Bool, false, ◌||◌, List, [], ◌∷◌, ◌++◌, map, Option, Some, None}
+use Rattle.std.specs.Prelude.{ℕ, ◌+◌, ◌==◌, nat_lt, if◌then◌else◌, Bool, false, ◌||◌, List, [], ◌∷◌, ◌++◌, Option, Some}
 use Rattle.std.specs.List.{filter, flat_map}
 use Rattle.scene_model.specs.declared.entry.Entry.{Entry}
-use Rattle.script_text.specs.declared.command.Command.{Command}
-use Rattle.reply_text.specs.declared.reply.Reply.{Reply}
 use Rattle.script_player.specs.Exchange.{Exchange}
-use Rattle.script_player.specs.Told.{Span}
+use Rattle.script_player.specs.Span.{Span}
 use Rattle.script_player.specs.Line.{Order, Plain}
 use Rattle.script_player.specs.Answer.{Answer, Replied, is_last}
 

@@ -4,9 +4,8 @@
 -- the nodes of its tree, unless it ended before that began, or one of these was answered before it was given: that the
 -- prepare is refused, that its batch is given up, or that an update is done which began after its batch came in.
 -- Orders of one block see one another, but for those of one section, which follow one another.
-use Rattle.std.specs.Prelude.{ℕ, ◌+◌, ◌==◌, if◌then◌else◌, Bool, true, false, ◌&&◌, ◌||◌, not, List, [], ◌∷◌, ◌++◌, length, take, drop, Option, Some, None, bytes_eq, map}
-use Rattle.std.specs.List.{filter, flat_map, list_any}
-use Rattle.std.specs.Option.{option_map_or}
+use Rattle.std.specs.Prelude.{ℕ, ◌+◌, ◌==◌, if◌then◌else◌, Bool, false, ◌&&◌, ◌||◌, not, List, [], ◌∷◌, ◌++◌, length, take, drop, Option, Some, None, bytes_eq}
+use Rattle.std.specs.List.{filter, flat_map, list_any, range_with_len}
 use Rattle.scene_model.specs.declared.entry.Entry.{Entry}
 use Rattle.script_text.specs.declared.command.Command.{Command}
 use Rattle.script_text.specs.declared.command.Command.TheVariants as commands
@@ -14,13 +13,34 @@ use Rattle.reply_text.specs.declared.reply.Reply.{Reply}
 use Rattle.reply_text.specs.declared.reply.Reply.TheVariants as replies
 use Rattle.script_player.specs.Exchange.{Exchange, all_known_by}
 use Rattle.script_player.specs.Prepared.{Prepared, without, prepared_by, Kept, kept_by}
-use Rattle.script_player.specs.Seen.{parts_of, came_in, tried}
+use Rattle.scene_model.specs.declared.entry.Entry.TheVariants.{Join}
+use Rattle.script_player.specs.declared.books.Known.{Known}
+use Rattle.script_player.specs.Batches.{in_layer}
 use Rattle.script_player.specs.Line.{Order, Plain, Update, Retire, Step, Plan}
-use Rattle.script_player.specs.Answer.{Answer, Replied, Pending, Stepped, is_last, is_done}
-use Rattle.script_player.specs.Event.{Event, is_above, is_of_order, exchange_of, exchanges_told}
+use Rattle.script_player.specs.Answer.{Answer, Pending, Stepped, is_done}
+use Rattle.script_player.specs.Event.{Event, is_above, exchange_of, exchanges_told}
 use Rattle.script_player.specs.Open.{open_of, callers, without_pass}
 
 -- ---- prepares of an order
+
+-- what an add does for each layer that there are bodies of
+abbrev pub part_of : ℕ → List Known → List Prepared
+part_of layer [] = []
+part_of layer (known ∷ bodies) = record { name = []; layer = layer; bodies = length (known ∷ bodies); indexes = [] } ∷ []
+
+abbrev pub parts_of : ℕ → Option (List Known) → List Prepared
+parts_of layers None = []
+parts_of layers (Some bodies) = flat_map (λ layer. part_of layer (in_layer layer bodies)) (range_with_len 0 layers)
+
+-- how many batches came in, and how many prepares an add made so: one more where the next was refused
+abbrev pub came_in : List Entry → ℕ
+came_in [] = 0
+came_in (Join layer indexes ∷ later) = came_in later + 1
+came_in (entry ∷ later) = came_in later
+
+abbrev pub tried : Reply → List Entry → ℕ
+tried (replies.Refused refusal) made = came_in made + 1
+tried reply made = came_in made
 
 -- so many bodies are to be held in a layer; no name stands for this
 abbrev pub unnamed : ℕ → ℕ → List Prepared

@@ -16,14 +16,12 @@ pub mod Created
 pub mod Queried
 pub mod InLayers
 pub mod Exchange
-pub mod Told
 pub mod Prepared
-pub mod Seen
 pub mod Refused
 pub mod Done
 pub mod Undone
 pub mod Right
-pub mod Legal
+pub mod Span
 pub mod Line
 pub mod Answer
 pub mod Shifted
@@ -39,5 +37,5 @@ pub mod Refusals
 pub mod Replied
 pub mod Waits
 pub mod Closing
-pub mod Legality
 pub mod Alone
+pub mod Legal

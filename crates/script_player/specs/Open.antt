@@ -1,13 +1,12 @@
 -- Orders that are not finished, batches and tokens: what the events so far tell of them.
-use Rattle.std.specs.Prelude.{ℕ, ◌+◌, ◌==◌, nat_lt, if◌then◌else◌, Bool, true, false, ◌||◌, ◌&&◌, not, List, [], ◌∷◌, ◌++◌, length, Option, Some, None, is_some, is_none, option_map, bytes_eq}
+use Rattle.std.specs.Prelude.{ℕ, ◌+◌, ◌==◌, if◌then◌else◌, Bool, false, ◌||◌, ◌&&◌, not, List, [], ◌∷◌, ◌++◌, length, Option, Some, None, is_some, option_map, bytes_eq}
 use Rattle.std.specs.List.{filter, list_any, find, range_with_len}
 use Rattle.std.specs.Option.{option_map_or, unwrap_or}
-use Rattle.script_text.specs.declared.command.Command.{Command}
 use Rattle.script_text.specs.declared.command.Command.TheVariants as commands
 use Rattle.script_player.specs.Exchange.{Exchange, all_known_by}
 use Rattle.script_player.specs.Prepared.{Prepared, prepared_from}
-use Rattle.script_player.specs.Line.{Order, Plain, Update, Retire, Velocity, Step, Plan}
-use Rattle.script_player.specs.Answer.{Answer, Replied, Pending, Stepped, is_last, is_under_way, is_done}
+use Rattle.script_player.specs.Line.{Order, Plain, Update, Retire, Step, Plan}
+use Rattle.script_player.specs.Answer.{Answer, Pending, Stepped, is_last, is_under_way, is_done}
 use Rattle.script_player.specs.Event.{Event, exchange_of, exchanges_told}
 
 -- ---- unfinished orders

@@ -2,7 +2,7 @@
 use Rattle.std.specs.Prelude.{◌≡◌, ◌≢◌, ℕ, ◌+◌, ◌<◌, ◌≤◌, ⊤, true, List, [], ◌∷◌, ◌++◌, length, take}
 use Rattle.scene_model.specs.declared.entry.Entry.{Entry}
 use Rattle.scene_model.specs.declared.entry.Made.{Made}
-use Rattle.script_player.specs.Told.{Span, entries_by}
+use Rattle.script_player.specs.Span.{Span, entries_by}
 use Rattle.script_player.specs.Answer.{is_last, is_under_way}
 use Rattle.script_player.specs.Event.{Event, is_above, is_of_order, made_by_events}
 

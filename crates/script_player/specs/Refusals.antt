@@ -1,17 +1,16 @@
 -- The refusals that come from the script and the answers above alone: a name stands for no id, or a batch is there
 -- or is not.
-use Rattle.std.specs.Prelude.{◌≡◌, ℕ, ◌==◌, nat_lt, if◌then◌else◌, Bool, true, false, ◌||◌, not, List, [], ◌∷◌, length, Option, Some, None, is_some, is_none}
-use Rattle.std.specs.List.{filter, list_any}
+use Rattle.std.specs.Prelude.{◌≡◌, ℕ, nat_lt, if◌then◌else◌, Bool, ◌||◌, List, [], ◌∷◌, length, Option, Some, None, is_some}
 use Rattle.script_text.specs.declared.command.Command.{Command}
 use Rattle.script_text.specs.declared.command.Command.TheVariants as commands
 use Rattle.reply_text.specs.declared.refusal.Refusal.{Refusal}
 use Rattle.reply_text.specs.declared.refusal.Refusal.TheVariants as refusals
 use Rattle.reply_text.specs.declared.reply.Reply.{Reply}
 use Rattle.reply_text.specs.declared.reply.Reply.TheVariants as replies
-use Rattle.script_player.specs.Exchange.{Exchange, all_known_by}
+use Rattle.script_player.specs.Exchange.{all_known_by}
 use Rattle.script_player.specs.Prepared.{Prepared}
 use Rattle.script_player.specs.Line.{Order, Plain, Plan}
-use Rattle.script_player.specs.Answer.{Answer, Replied, is_last}
+use Rattle.script_player.specs.Answer.{Answer, Replied}
 use Rattle.script_player.specs.Event.{Event, known_before, exchanges_told}
 use Rattle.script_player.specs.Open.{has_name, is_preparing, batches_of, batches_left, preparing_of}
 

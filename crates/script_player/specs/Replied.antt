@@ -1,5 +1,5 @@
 -- When the last answer to an order is right for its span, and the entries are those that it asks for.
-use Rattle.std.specs.Prelude.{◌≡◌, ℕ, ◌+◌, ◌<◌, ◌≤◌, ◌==◌, ⊤, if◌then◌else◌, Bool, true, false, ◌&&◌, List, [], ◌∷◌, ◌++◌, length, take, fold, Option, Some, None, slice_get, option_map, bytes_eq}
+use Rattle.std.specs.Prelude.{◌≡◌, ℕ, ◌+◌, ◌<◌, ◌≤◌, ◌==◌, ⊤, if◌then◌else◌, Bool, true, false, List, [], ◌∷◌, length, take, fold, Option, Some, None, slice_get, bytes_eq}
 use Rattle.std.specs.List.{find, list_any, flat_map}
 use Rattle.body_ident.specs.Id.{Id}
 use Rattle.scene_model.specs.declared.entry.Entry.{Entry}
@@ -14,7 +14,7 @@ use Rattle.reply_text.specs.declared.refusal.Refusal.TheVariants as refusals
 use Rattle.reply_text.specs.declared.reply.Reply.{Reply}
 use Rattle.reply_text.specs.declared.reply.Reply.TheVariants as replies
 use Rattle.script_player.specs.Taking.{unmarks}
-use Rattle.script_player.specs.Exchange.{Exchange, known_by, id_of_name, ids_of_names}
+use Rattle.script_player.specs.Exchange.{known_by, id_of_name, ids_of_names}
 use Rattle.script_player.specs.Prepared.{Prepared, Kept}
 use Rattle.script_player.specs.Refused.{TellsItem, AnswersMulti}
 use Rattle.script_player.specs.Right.{IsSpent, IsRightFor}

@@ -1,5 +1,5 @@
 -- Boxes that are moved, and what a step does.
-use Rattle.std.specs.Prelude.{◌≡◌, ℕ, zero, suc, ◌-◌, ◌==◌, ◌&&◌, Bool, true, false, T, if◌then◌else◌, ℤ, pos, negsuc, ◌+ℤ◌, int_le, List, [], ◌∷◌, ◌++◌, length, Option, Some, None, option_map, option_and_then, filter_map, bytes_eq}
+use Rattle.std.specs.Prelude.{◌≡◌, ℕ, zero, ◌-◌, ◌==◌, ◌&&◌, Bool, true, false, T, if◌then◌else◌, ℤ, pos, negsuc, ◌+ℤ◌, int_le, List, [], ◌∷◌, ◌++◌, length, Option, Some, None, option_map, option_and_then, filter_map, bytes_eq}
 use Rattle.std.specs.List.{list_any, list_all, filter}
 use Rattle.fixed_box.specs.declared.coord.Coord.{Coord}
 use Rattle.fixed_box.specs.declared.fix_box.FixBox.{FixBox}

@@ -1,5 +1,5 @@
 -- The text of a story: the line that each answer has in the report.
-use Rattle.std.specs.Prelude.{ℕ, zero, suc, ◌-◌, nat_lt, nat_le, if◌then◌else◌, List, [], ◌∷◌, ◌++◌, length, codes, decimal, slice_index_or}
+use Rattle.std.specs.Prelude.{ℕ, zero, suc, ◌-◌, nat_lt, nat_le, if◌then◌else◌, List, [], ◌++◌, length, codes, decimal, slice_index_or}
 use Rattle.std.specs.List.{flat_map}
 use Rattle.script_player.specs.Line.{Plan}
 use Rattle.script_player.specs.Answer.{answer_text}

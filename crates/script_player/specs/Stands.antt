@@ -1,13 +1,11 @@
 -- How answers stand below one another: each line has its own, of an order that it gives or goes on with, and each order
 -- has one last answer.
-use Rattle.std.specs.Prelude.{◌≡◌, ◌⊎◌, ℕ, ◌+◌, ⊤, nat_lt, nat_le, Bool, true, false, ◌||◌, ◌&&◌, List, [], ◌∷◌, ◌++◌, length, Option, Some, None, codes, slice_index_or}
-use Rattle.std.specs.List.{list_any, flat_map}
-use Rattle.reply_text.specs.declared.reply.Reply.{Reply}
+use Rattle.std.specs.Prelude.{◌≡◌, ℕ, ◌+◌, ⊤, Bool, true, false, ◌||◌, List, [], ◌∷◌, ◌++◌, Option, Some, None}
 use Rattle.reply_text.specs.declared.reply.Reply.TheVariants as replies
 use Rattle.script_player.specs.Line.{Line, Own, Start, Go, Block, Order, Velocity, Step, Plan, Label, worker_of}
-use Rattle.script_player.specs.Answer.{Answer, Replied, Stepped, Ready, At, Blocked, Unfinished, Idle, Actors, is_last, answer_text}
-use Rattle.script_player.specs.Event.{Event, way_of}
-use Rattle.script_player.specs.Open.{open_of, is_any_open, carrier_of, is_hindered, is_actor_hindered, callers}
+use Rattle.script_player.specs.Answer.{Answer, Replied, Stepped, Ready, Blocked, Unfinished, Idle, Actors, is_last}
+use Rattle.script_player.specs.Event.{Event}
+use Rattle.script_player.specs.Open.{open_of, is_any_open, carrier_of, is_hindered, is_actor_hindered}
 use Rattle.script_player.specs.Went.{GoesOn}
 
 -- ---- which answers a line may have

@@ -1,13 +1,12 @@
 -- When an order may be told to wait, or be refused for what others have under way.
-use Rattle.std.specs.Prelude.{◌≡◌, ◌≢◌, ◌⊎◌, ℕ, zero, suc, ◌+◌, ◌*◌, ◌%◌, ◌<◌, ◌==◌, ⊤, if◌then◌else◌, nat_lt, nat_le, Bool, true, false, ◌||◌, ◌&&◌, not, List, [], ◌∷◌, ◌++◌, length, Option, Some, None, All, Contains, count_by, IfSome}
+use Rattle.std.specs.Prelude.{◌≡◌, ◌≢◌, ◌⊎◌, ℕ, zero, suc, ◌*◌, ◌%◌, ◌<◌, ◌==◌, ⊤, nat_lt, nat_le, Bool, true, false, ◌||◌, ◌&&◌, not, List, [], ◌∷◌, ◌++◌, length, Option, Some, None, count_by}
 use Rattle.std.specs.List.{filter, list_any}
 use Rattle.body_ident.specs.Id.{Id}
-use Rattle.script_text.specs.declared.command.Command.{Command}
 use Rattle.script_text.specs.declared.command.Command.TheVariants as commands
 use Rattle.script_player.specs.Exchange.{id_of_name}
 use Rattle.script_player.specs.Line.{Order, Plain, Update, Retire, Plan}
 use Rattle.script_player.specs.Line as labels
-use Rattle.script_player.specs.Answer.{Answer, Replied, Busy, Pending, At, Blocked, is_last, is_done}
+use Rattle.script_player.specs.Answer.{Answer, Replied, Busy, Pending, Blocked, is_done}
 use Rattle.script_player.specs.Event.{Event, is_above, way_of, exchanges_told}
 use Rattle.script_player.specs.Open.{open_of, callers, tokens_of}
 use Rattle.script_player.specs.Went.{mask_of_order, is_query, asks_layer, is_at, is_block}

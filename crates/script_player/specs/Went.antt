@@ -1,14 +1,13 @@
 -- How an order goes on that was not finished.
-use Rattle.std.specs.Prelude.{◌≡◌, ◌⊎◌, ℕ, ◌+◌, ◌%◌, ◌^◌, ⊤, nat_lt, nat_le, nat_eq, ◌==◌, if◌then◌else◌, Bool, true, false, ◌||◌, ◌&&◌, not, List, [], ◌∷◌, ◌++◌, length, Option, Some, None}
-use Rattle.std.specs.List.{list_any, list_all, range_with_len}
+use Rattle.std.specs.Prelude.{◌≡◌, ℕ, ⊤, nat_le, ◌==◌, Bool, true, false, ◌||◌, ◌&&◌, not, List, Option, Some, None}
+use Rattle.std.specs.List.{list_any, range_with_len}
 use Rattle.std.specs.Int.{bit_at}
 use Rattle.script_text.specs.declared.command.Command.{Command}
 use Rattle.script_text.specs.declared.command.Command.TheVariants as commands
-use Rattle.reply_text.specs.declared.reply.Reply.{Reply}
 use Rattle.reply_text.specs.declared.reply.Reply.TheVariants as replies
 use Rattle.script_player.specs.Line.{Order, Plain, Label, label_number, is_same_label, has_label}
 use Rattle.script_player.specs.Line as labels
-use Rattle.script_player.specs.Answer.{Answer, Replied, Busy, NoToken, Pending, Stepped, At, Blocked, is_last}
+use Rattle.script_player.specs.Answer.{Answer, Replied, Pending, Stepped, At, Blocked, is_last}
 use Rattle.script_player.specs.Event.{Event, way_of}
 
 -- ---- tables

@@ -36,5 +36,8 @@ pub mod Stopping
 pub mod StoppedLayers
 pub mod Changing
 pub mod RightAt
-pub mod ToldAlone
-pub mod LegalReports
+pub mod Entries
+pub mod EventsAlone
+pub mod OwnRefusals
+pub mod PlayedAlone
+pub mod StoryAlone

@@ -1,5 +1,5 @@
 //! What follows from the meaning of scripts. No call here does anything.
-ghost use Rattle.std.specs.Prelude.{◌≡◌, ◌∷◌, ◌++◌, ℕ, List, Option, length};
+ghost use Rattle.std.specs.Prelude.{◌≡◌, [], ◌∷◌, ◌++◌, ℕ, List, Option, length};
 ghost use Rattle.std.specs.List.{flat_map};
 ghost use Rattle.world_io.specs.Bytes.{Appended};
 ghost use Rattle.scene_model.specs.declared.entry.Made.{Made};
@@ -20,8 +20,11 @@ ghost use Rattle.script_player.specs.Done.{MakesAsked};
 ghost use Rattle.script_player.specs.Undone.{LeavesUndone};
 ghost use Rattle.script_player.specs.Created.{AnswersCreate};
 ghost use Rattle.script_player.specs.Queried.{AnswersQuery};
-ghost use Rattle.script_player.specs.Told.{serial_spans};
-ghost use Rattle.script_player.specs.Legal.{Legal, WritesLegal};
+ghost use Rattle.script_player.specs.Line.{plan_of};
+ghost use Rattle.script_player.specs.Event.{spans_told};
+ghost use Rattle.script_player.specs.Open.{batches_left};
+ghost use Rattle.script_player.specs.Alone.{serial_events};
+ghost use Rattle.script_player.specs.Legal.{IsPlayed, Legal, WritesPlayed};
 
 /// The entries that a script makes are a history: each is possible in the scene after those before it, whatever was
 /// refused on the way. So a report tells of bodies that were created, held, brought in and taken out in an order that
@@ -88,16 +91,19 @@ pub fn refusal_leaves_the_scene()
         → LeavesUndone (scene_at script at) at.command (turn_at script at).entries }
 {}
 
-/// The report of a script is a legal one, with the history that its commands make and with spans that go one after another: each
-/// command is answered right for its span, and the entries that were made in it are those that it asks for.
+/// The report of a script is a legal one up to its end, with the history that its commands make and with spans that go one after
+/// another: each command is answered at its own line and right for its span, the entries that were made in it are those that it
+/// asks for, and nothing is left unfinished. Where no batch is left either, the report is legal as it stands.
 pub fn serial_reports_are_legal()
-    ensures { (script : Script) → Legal script (serial_report script) (serial_spans script) (history_of script.world script.lines) }
+    ensures played { (script : Script) → IsPlayed (plan_of script) (serial_report script) (spans_told (serial_events script)) (history_of script.world script.lines) (serial_events script) [] }
+    ensures legal { (script : Script) → batches_left (serial_events script) ≡ []
+        → Legal (plan_of script) (serial_report script) (spans_told (serial_events script)) (history_of script.world script.lines) }
 {}
 
-/// So what `play` writes is a legal report, whatever host the script is played on; the scene that the host is told by then is the
+/// So what `play` writes is such a report, whatever host the script is played on; the scene that the host is told by then is the
 /// one that the history leads to.
 pub fn what_is_played_is_legal()
     ensures written { (script : Script) (before after : Option (List ℕ)) → Appended before after (serial_report script)
-        → WritesLegal script before after (serial_spans script) (history_of script.world script.lines) }
+        → WritesPlayed (plan_of script) before after (spans_told (serial_events script)) (history_of script.world script.lines) (serial_events script) [] }
     ensures scene { (script : Script) → (table_below (empty_table script.world) script.lines).scene ≡ scene_after script.world.bodies (history_of script.world script.lines) }
 {}

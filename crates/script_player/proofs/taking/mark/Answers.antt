@@ -1,5 +1,4 @@
 use Rattle.std.proofs.Common.{◌∙◌, sym, ap}
-use Rattle.body_ident.specs.Id.{Id}
 use Rattle.script_player.specs.Taking.{mark_refusal}
 use Rattle.script_player.specs.declared.books.Known.{Known}
 use Rattle.script_player.proofs.Marking.{marked_stop}

@@ -41,3 +41,4 @@ pub mod EventsAlone
 pub mod OwnRefusals
 pub mod PlayedAlone
 pub mod StoryAlone
+pub mod Told

@@ -35,7 +35,7 @@ use Rattle.script_player.specs.Alone.{event_alone, events_alone}
 use Rattle.script_player.specs.Legal.{IsRightEvent}
 use Rattle.script_player.proofs.Reporting.{entries_stand}
 use Rattle.script_player.proofs.Refusing.{answered_at}
-use Rattle.script_player.proofs.RightAt.{interval_at, history_up_to, right_at}
+use Rattle.script_player.proofs.RightAt.{history_with, interval_at, history_up_to, right_at}
 use Rattle.script_player.proofs.Entries.{made_in, commands_of_exchanges, made_in-exchanges, entries_own}
 use Rattle.script_player.proofs.OwnRefusals.{own_alone}
 use Rattle.script_player.proofs.EventsAlone.{exchanges_of_events, known_alone, none_open, none_preparing, made_alone_own, held_alone, none_beside, joined_alone, after_alone}
@@ -190,14 +190,17 @@ answer_at script at later place from _ =
     λ i name layer.
     sym (kept_for_alone script p f place from e es later name layer ∙ ap (λ (m : List Entry). kept_by (prepared_from [] es) m name layer) (made_in-exchanges at.above (empty_table script.world))) i in
     let same = exchanges_of_events es 0 0 in
+    let up_to : take (f + length t.entries) (history_of script.world script.lines) ≡ history_with script at = history_up_to script at t.entries [] (sym (append-nil t.entries)) in
     let right : IsRightFor script.world (kept_at script at) 0 (interval_at script at) (exchanges_told earlier) at.command t.reply t.entries =
     subst (λ (above : List Exchange). IsRightFor script.world (kept_at script at) 0 (interval_at script at) above at.command t.reply t.entries) (sym same) (right_at script at) in
     let named : (name : List ℕ) (layer : ℕ) → (kept_at script at name layer).named ≡ has_name name (batches_left earlier) =
     λ name layer. ap (λ (above : List Exchange). has_name name (prepared_from [] above)) (sym same) in (
-      subst (λ (known : List Event). IsRightCommand (plan_of script) (kept_for (plan_of script) earlier item (events_alone place from later)) 0 0 (interval_at script at) known at.command t.reply t.entries)
+      subst (λ (h : List Made). IsRightCommand (plan_of script) (kept_for (plan_of script) earlier item (events_alone place from later)) 0 0 (record { history = h; from = f; to = f + length t.entries }) (known_before item earlier) at.command t.reply t.entries)
+          (sym up_to)
+          (subst (λ (known : List Event). IsRightCommand (plan_of script) (kept_for (plan_of script) earlier item (events_alone place from later)) 0 0 (interval_at script at) known at.command t.reply t.entries)
           (sym (known_alone es p f 0 0 e))
           (subst (λ (k : List ℕ → ℕ → Kept). IsRightCommand (plan_of script) k 0 0 (interval_at script at) earlier at.command t.reply t.entries) kept
-          (command_alone script earlier (kept_at script at) (interval_at script at) at.command t.reply t.entries right named)),
+          (command_alone script earlier (kept_at script at) (interval_at script at) at.command t.reply t.entries right named))),
       refl,
     )
 

@@ -8,6 +8,7 @@ use Rattle.fixed_box.specs.Touch.{Touch}
 use Rattle.shape_test.specs.Touched.{is_touched}
 use Rattle.shape_test.proofs.Arrivals.{is_touched_decides}
 use Rattle.body_ident.specs.Id.{Id, id_of}
+use Rattle.scene_model.specs.declared.entry.Made.{Made}
 use Rattle.scene_model.specs.Scene.{Scene, record_at}
 use Rattle.scene_model.specs.Query.{hits}
 use Rattle.scene_model.specs.History.{Interval, point, IsHit, Fits, IsMet, IsRightAnswer}
@@ -17,7 +18,7 @@ use Rattle.script_text.specs.declared.command.Command.TheVariants as commands
 use Rattle.script_text.specs.declared.script.Script.{Script}
 use Rattle.reply_text.specs.declared.reply.Reply.TheVariants as replies
 use Rattle.script_player.specs.Turn.{turn}
-use Rattle.script_player.specs.Standing.{history_of, Standing, history_at, table_at, turn_at}
+use Rattle.script_player.specs.Standing.{scene_at, history_of, Standing, history_at, table_at, turn_at}
 use Rattle.script_player.specs.Queried.{IsRightReply, AnswersQuery}
 use Rattle.script_player.proofs.Marking.{weaker}
 use Rattle.script_player.proofs.Standing.{is_table_at, point_at}
@@ -44,14 +45,14 @@ right_by f g to from mask bodies interval ids h =
 
 -- ---- the reply where a query stands
 
-right_at : (script : Script) (at : Standing script) (mask : ℕ) (shape : Shape)
-    → IsRightReply script.world.bodies (history_of script.world script.lines) (length (history_at script at)) mask shape
+right_in : (script : Script) (at : Standing script) (history : List Made) → point script.world.bodies history (length (history_at script at)) ≡ scene_at script at
+    → (mask : ℕ) (shape : Shape)
+    → IsRightReply script.world.bodies history (length (history_at script at)) mask shape
     (replies.Hits (hits (is_touched shape) mask (table_at script at).scene))
-right_at script at mask shape =
+right_in script at history same mask shape =
     let bodies = script.world.bodies in
-    let history = history_of script.world script.lines in
     let n = length (history_at script at) in
-    let here = sym (point_at script at) in
+    let here = sym same in
     let found = hits (is_touched shape) mask (point bodies history n) in
     let test : FixBox → Type 0 = λ b. IsTrue (is_touched shape b) in
     record {
@@ -61,13 +62,19 @@ right_at script at mask shape =
           (record { history = history; from = n; to = n }) found (hits_right (is_touched shape) mask bodies history n);
     }
 
-queries : (script : Script) (at : Standing script) (c : Command)
-    → AnswersQuery script.world.bodies (history_of script.world script.lines) (length (history_at script at)) c (turn (table_at script at) c).reply
-queries script at (commands.QueryBox mask bounds) = right_at script at mask (shapes.Box bounds)
-queries script at (commands.QueryPoint mask where_at) = right_at script at mask (shapes.Point where_at)
-queries script at (commands.QueryRay mask segment) = right_at script at mask (shapes.Segment segment)
-queries script at c = tt
+queries : (script : Script) (at : Standing script) (history : List Made) → point script.world.bodies history (length (history_at script at)) ≡ scene_at script at
+    → (c : Command)
+    → AnswersQuery script.world.bodies history (length (history_at script at)) c (turn (table_at script at) c).reply
+queries script at history same (commands.QueryBox mask bounds) = right_in script at history same mask (shapes.Box bounds)
+queries script at history same (commands.QueryPoint mask where_at) = right_in script at history same mask (shapes.Point where_at)
+queries script at history same (commands.QueryRay mask segment) = right_in script at history same mask (shapes.Segment segment)
+queries script at history same c = tt
+
+-- so it is with each history in which that scene stands there
+pub queries_in : (script : Script) (at : Standing script) (history : List Made) → point script.world.bodies history (length (history_at script at)) ≡ scene_at script at
+    → AnswersQuery script.world.bodies history (length (history_at script at)) at.command (turn_at script at).reply
+queries_in script at history same = queries script at history same at.command
 
 pub queries_at : (script : Script) (at : Standing script)
     → AnswersQuery script.world.bodies (history_of script.world script.lines) (length (history_at script at)) at.command (turn_at script at).reply
-queries_at script at = queries script at at.command
+queries_at script at = queries_in script at (history_of script.world script.lines) (point_at script at)

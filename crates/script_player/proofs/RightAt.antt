@@ -1,6 +1,6 @@
 -- Each command is answered right where it stands, for a span of its own entries.
 use Rattle.std.proofs.Common.{◌≡◌, ℕ, ◌+◌, List, [], ◌∷◌, ◌++◌, length, take, fold, Option, option_map, refl, ap, sym, subst, ◌∙◌, append_assoc, length-append, arith}
-use Rattle.std.proofs.lemmas.List.{length-map, map-append}
+use Rattle.std.proofs.lemmas.List.{length-map, map-append, append-nil}
 use Rattle.std.proofs.lemmas.List.Sums.{fold-append}
 use Rattle.std.proofs.Math.Seq.{take-append_seam}
 use Rattle.word_map.specs.declared.config.Config.{Config}
@@ -37,17 +37,37 @@ use Rattle.script_player.proofs.Naming.{name_at, names_at}
 use Rattle.script_player.proofs.Preparing.{kept_in, is_named}
 use Rattle.script_player.proofs.Keeping.{kept_is, batch_is}
 use Rattle.script_player.proofs.Creating.{creates_at}
-use Rattle.script_player.proofs.Querying.{queries_at}
+use Rattle.script_player.proofs.Querying.{queries_in}
 use Rattle.script_player.proofs.Refusing.{command_of, answered_at}
 use Rattle.script_player.proofs.Stopping.{ShowsIn, prepare_right}
 use Rattle.script_player.proofs.StoppedLayers.{add_right}
 use Rattle.script_player.proofs.Changing.{change_right, create_right, finalize_right, abort_right}
 
--- the span of a command in the history of the script
+-- the history up to the end of a command, and its span there
+abbrev pub history_with : (script : Script) → Standing script → List Made
+history_with script at = history_at script at ++ made_alone (turn_at script at).entries
+
 abbrev pub interval_at : (script : Script) → Standing script → Interval
 interval_at script at =
     let from = length (history_at script at) in
-    record { history = history_of script.world script.lines; from = from; to = from + length (turn_at script at).entries }
+    record { history = history_with script at; from = from; to = from + length (turn_at script at).entries }
+
+part_up_to : (script : Script) (at : Standing script) (xs ys : List Entry) → (turn_at script at).entries ≡ xs ++ ys
+    → take (length (history_at script at) + length xs) (history_with script at) ≡ history_at script at ++ made_alone xs
+part_up_to script at xs ys e =
+    let made : Entry → Made = λ entry. record { pass = 0; entry = entry } in
+    let before = history_at script at in
+    let n = length before + length xs in
+    let split : made_alone (turn_at script at).entries ≡ made_alone xs ++ made_alone ys = ap made_alone e ∙ map-append made xs ys in
+    let whole : history_with script at ≡ (before ++ made_alone xs) ++ made_alone ys =
+    ap (λ (m : List Made). before ++ m) split ∙ sym (append_assoc before (made_alone xs) (made_alone ys)) in
+    let size : length (before ++ made_alone xs) ≡ n = length-append before (made_alone xs) ∙ ap (λ (k : ℕ). length before + k) (length-map xs made) in
+    ap (λ (h : List Made). take n h) whole
+    ∙ ap (λ (k : ℕ). take k ((before ++ made_alone xs) ++ made_alone ys)) (sym size)
+    ∙ take-append_seam (before ++ made_alone xs) (made_alone ys)
+
+point_with : (script : Script) (at : Standing script) → point script.world.bodies (history_with script at) (length (history_at script at)) ≡ scene_at script at
+point_with script at = ap (scene_after script.world.bodies) (take-append_seam (history_at script at) (made_alone (turn_at script at).entries))
 
 -- the history is in parts: what stands above the command, its own entries up to one, and the others
 pub history_up_to : (script : Script) (at : Standing script) (xs ys : List Entry) → (turn_at script at).entries ≡ xs ++ ys
@@ -74,8 +94,8 @@ shows_at script at xs ys cause e here =
     let bodies = script.world.bodies in
     let before = history_at script at in
     let n = length before + length xs in
-    let scene : point bodies (history_of script.world script.lines) n ≡ fold after_entry (scene_at script at) xs =
-    ap (scene_after bodies) (history_up_to script at xs ys e)
+    let scene : point bodies (history_with script at) n ≡ fold after_entry (scene_at script at) xs =
+    ap (scene_after bodies) (part_up_to script at xs ys e)
     ∙ fold-append (λ (s : Scene) (m : Made). after_entry s m.entry) (empty_scene bodies) before (made_alone xs)
     ∙ scene_from-made (scene_at script at) xs in
     let size = ap (λ (es : List Entry). length es) e in
@@ -121,9 +141,9 @@ right_by_books script above (commands.Create name layer bounds user) below whole
     let before = history_at script at in
     let t = turn_at script at in
     let Shows = IsCause script.world.bodies (interval_at script at) in
-    let more = entries_stand script at in
-    subst (λ (h : List Made). IsCreatedIn Shows 0 (record { history = h; from = length before; to = length before + length t.entries }) layer bounds user t.reply t.entries) (sym more.1)
-    (create_right before more.0 layer user bounds (scene_at script at) t.entries t.reply Shows (λ c h. shows_at script at [] t.entries c refl h) (creates_at script at) (answered_at script at))
+    subst (λ (h : List Made). IsCreatedIn Shows 0 (record { history = before ++ h; from = length before; to = length before + length t.entries }) layer bounds user t.reply t.entries)
+    (append-nil (made_alone t.entries))
+    (create_right before [] layer user bounds (scene_at script at) t.entries t.reply Shows (λ c h. shows_at script at [] t.entries c refl h) (creates_at script at) (answered_at script at))
 right_by_books script above (commands.Destroy name) below whole = change_at script (stands script above (commands.Destroy name) below whole) changes.Destroy name
 right_by_books script above (commands.Remove name) below whole = change_at script (stands script above (commands.Remove name) below whole) changes.Remove name
 right_by_books script above (commands.Move name bounds) below whole = change_at script (stands script above (commands.Move name bounds) below whole) (changes.Move bounds) name
@@ -163,20 +183,20 @@ right_by_books script above (commands.Abort batch) below whole =
 right_by_books script above (commands.Read name) below whole =
     let at = stands script above (commands.Read name) below whole in
     let n = length (history_at script at) in
-    ((n, omega arith, omega arith, subst (λ (s : Scene). AnswersRead s (id_of_name (exchanges_at script at) name) (turn_at script at).reply) (sym (point_at script at)) (answered_at script at)), refl)
+    ((n, omega arith, omega arith, subst (λ (s : Scene). AnswersRead s (id_of_name (exchanges_at script at) name) (turn_at script at).reply) (sym (point_with script at)) (answered_at script at)), refl)
 right_by_books script above (commands.Multi names) below whole =
     let at = stands script above (commands.Multi names) below whole in
     let n = length (history_at script at) in
-    ((n, omega arith, omega arith, subst (λ (s : Scene). AnswersMulti s (ids_of_names (exchanges_at script at) names) (turn_at script at).reply) (sym (point_at script at)) (answered_at script at)), refl)
+    ((n, omega arith, omega arith, subst (λ (s : Scene). AnswersMulti s (ids_of_names (exchanges_at script at) names) (turn_at script at).reply) (sym (point_with script at)) (answered_at script at)), refl)
 right_by_books script above (commands.QueryBox mask bounds) below whole =
     let at = stands script above (commands.QueryBox mask bounds) below whole in
-    found_at script.world.bodies (history_of script.world script.lines) (length (history_at script at)) mask (shapes.Box bounds) (turn_at script at).reply (queries_at script at)
+    found_at script.world.bodies (history_with script at) (length (history_at script at)) mask (shapes.Box bounds) (turn_at script at).reply (queries_in script at (history_with script at) (point_with script at))
 right_by_books script above (commands.QueryPoint mask point) below whole =
     let at = stands script above (commands.QueryPoint mask point) below whole in
-    found_at script.world.bodies (history_of script.world script.lines) (length (history_at script at)) mask (shapes.Point point) (turn_at script at).reply (queries_at script at)
+    found_at script.world.bodies (history_with script at) (length (history_at script at)) mask (shapes.Point point) (turn_at script at).reply (queries_in script at (history_with script at) (point_with script at))
 right_by_books script above (commands.QueryRay mask segment) below whole =
     let at = stands script above (commands.QueryRay mask segment) below whole in
-    found_at script.world.bodies (history_of script.world script.lines) (length (history_at script at)) mask (shapes.Segment segment) (turn_at script at).reply (queries_at script at)
+    found_at script.world.bodies (history_with script at) (length (history_at script at)) mask (shapes.Segment segment) (turn_at script at).reply (queries_in script at (history_with script at) (point_with script at))
 
 pub right_at : (script : Script) (at : Standing script)
     → IsRightFor script.world (kept_at script at) 0 (interval_at script at) (exchanges_at script at) at.command (turn_at script at).reply (turn_at script at).entries

@@ -39,3 +39,4 @@ pub mod Waits
 pub mod Closing
 pub mod Alone
 pub mod Legal
+pub mod Examples

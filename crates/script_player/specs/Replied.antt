@@ -148,8 +148,9 @@ IsRightOrder plan kept interval known item (Some (Step workers)) (Stepped moved 
     (shifts_of (known_by (exchanges_told known)) (speeds_told known)) item.made item.lanes
 IsRightOrder plan kept interval known item order answer = ⊥
 
+-- the part of the history up to its end
 abbrev pub interval_of : List Made → Event → Interval
-interval_of history item = record { history = history; from = item.span.from; to = item.span.to }
+interval_of history item = record { history = take item.span.to history; from = item.span.from; to = item.span.to }
 
 -- the last answer to an order is right
 abbrev pub IsRightAnswer : Plan → List Made → List Event → Event → List Event → Type 0

@@ -8,6 +8,7 @@
 mod batches;
 mod bodies;
 mod books;
+pub mod examples;
 mod host;
 pub mod laws;
 mod plain_player;

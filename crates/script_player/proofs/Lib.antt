@@ -42,3 +42,4 @@ pub mod OwnRefusals
 pub mod PlayedAlone
 pub mod StoryAlone
 pub mod Told
+pub mod Orders

@@ -1,5 +1,5 @@
 //! What follows from the meaning of scripts. No call here does anything.
-ghost use Rattle.std.specs.Prelude.{◌≡◌, [], ◌∷◌, ◌++◌, ℕ, List, Option, length};
+ghost use Rattle.std.specs.Prelude.{◌≡◌, [], ◌∷◌, ◌++◌, ℕ, List, Option, map, length};
 ghost use Rattle.std.specs.List.{flat_map};
 ghost use Rattle.world_io.specs.Bytes.{Appended};
 ghost use Rattle.scene_model.specs.declared.entry.Made.{Made};
@@ -20,7 +20,8 @@ ghost use Rattle.script_player.specs.Done.{MakesAsked};
 ghost use Rattle.script_player.specs.Undone.{LeavesUndone};
 ghost use Rattle.script_player.specs.Created.{AnswersCreate};
 ghost use Rattle.script_player.specs.Queried.{AnswersQuery};
-ghost use Rattle.script_player.specs.Line.{plan_of};
+ghost use Rattle.script_player.specs.Line.{Plain, plan_of};
+ghost use Rattle.script_player.specs.Meaning.{orders_report};
 ghost use Rattle.script_player.specs.Event.{spans_told};
 ghost use Rattle.script_player.specs.Open.{batches_left};
 ghost use Rattle.script_player.specs.Alone.{serial_events};
@@ -89,6 +90,11 @@ pub fn done_makes_what_was_asked()
 pub fn refusal_leaves_the_scene()
     ensures { (script : Script) (at : Standing script) (refusal : Refusal) → (turn_at script at).reply ≡ Refused refusal
         → LeavesUndone (scene_at script at) at.command (turn_at script at).entries }
+{}
+
+/// The meaning of all orders of a serial script, with updates, steps and velocities, gives the same report for a script of today.
+pub fn orders_mean_what_commands_do()
+    ensures { (script : Script) → orders_report script.world (map (λ command. Plain command) script.lines) ≡ serial_report script }
 {}
 
 /// The report of a script is a legal one up to its end, with the history that its commands make and with spans that go one after

@@ -6,9 +6,9 @@ use Rattle.script_text.specs.declared.script.Script.{Script}
 use Rattle.script_player.specs.Table.{Table, empty_table}
 use Rattle.script_player.specs.Turn.{turn, table_after}
 use Rattle.script_player.specs.Report.{replies_text, table_below, end_text, serial_report}
-use Rattle.script_player.specs.Line.{Order, Plain}
+use Rattle.script_player.specs.Line.{Plain}
 use Rattle.script_player.specs.Shifted.{Speed}
-use Rattle.script_player.specs.Meaning.{Course, course_below, answers_text, orders_report}
+use Rattle.script_player.specs.Meaning.{course_below, answers_text, orders_report}
 
 answers_same : (cs : List Command) (table : Table) (speeds : List Speed)
     → answers_text (record { table = table; speeds = speeds }) (map (λ command. Plain command) cs) ≡ replies_text table cs

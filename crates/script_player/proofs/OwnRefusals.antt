@@ -1,6 +1,6 @@
 -- The refusals that come from the script and the answers above alone, where main gives all commands.
-use Rattle.std.proofs.Common.{◌≡◌, ℕ, true, false, cond, Bool, List, [], ◌∷◌, Option, Some, None, refl, ap, sym, subst, ◌∙◌, inl, inr}
-use Rattle.std.specs.Prelude.{if◌then◌else◌, map, is_some, option_map, option_and_then, ◌||◌}
+use Rattle.std.proofs.Common.{◌≡◌, ℕ, eqb, true, false, cond, Bool, List, [], ◌∷◌, Option, Some, None, refl, ap, sym, subst, ◌∙◌, inl, inr}
+use Rattle.std.specs.Prelude.{filter, not, if◌then◌else◌, map, is_some, option_map, option_and_then, ◌||◌}
 use Rattle.fixed_box.specs.declared.fix_box.FixBox.{FixBox}
 use Rattle.body_ident.specs.Id.{Id}
 use Rattle.scene_model.specs.declared.entry.Entry.{Entry}
@@ -148,8 +148,8 @@ or_false : (b : Bool) → (b || false) ≡ b
 or_false true = refl
 or_false false = refl
 
-taken_is : (name : List ℕ) (left : Bool) (list : List Preparing) → list ≡ [] → (left || is_preparing name list) ≡ left
-taken_is name left list none = ap (λ (ps : List Preparing). left || is_preparing name ps) none ∙ or_false left
+taken_is : (name : List ℕ) (left : Bool) (list : List Preparing) → list ≡ [] → (left || is_preparing name (filter (λ p. not (eqb p.caller 0)) list)) ≡ left
+taken_is name left list none = ap (λ (ps : List Preparing). left || is_preparing name (filter (λ p. not (eqb p.caller 0)) ps)) none ∙ or_false left
 
 pub own_alone : (script : Script) (known : List Event) (kept : List ℕ → ℕ → Kept) (interval : Interval) (scene : Scene) (c : Command) (reply : Reply) (made : List Entry)
     → IsRightFor script.world kept 0 interval (exchanges_told known) c reply made

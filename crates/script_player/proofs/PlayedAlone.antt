@@ -1,6 +1,6 @@
 -- A script that main gives alone is played as the rules ask for.
-use Rattle.std.proofs.Common.{◌≡◌, ℕ, ◌+◌, ◌≤◌, true, false, Bool, List, [], ◌∷◌, ◌++◌, length, take, Option, Some, None, refl, ap, sym, subst, ◌∙◌, length-append, arith}
-use Rattle.std.specs.Prelude.{◌||◌}
+use Rattle.std.proofs.Common.{◌≡◌, ℕ, eqb, ◌+◌, ◌≤◌, true, false, Bool, List, [], ◌∷◌, ◌++◌, length, take, Option, Some, None, refl, ap, sym, subst, ◌∙◌, length-append, arith}
+use Rattle.std.specs.Prelude.{filter, not, ◌||◌}
 use Rattle.std.proofs.lemmas.List.{length-map, map-append, append-nil}
 use Rattle.body_ident.specs.Id.{Id}
 use Rattle.scene_model.specs.declared.entry.Entry.{Entry}
@@ -26,7 +26,7 @@ use Rattle.script_player.specs.Taking.{unmarks}
 use Rattle.script_player.specs.Span.{entries_by}
 use Rattle.script_player.specs.Line.{plan_of}
 use Rattle.script_player.specs.Event.{Event, exchanges_told, known_before, made_by_events}
-use Rattle.script_player.specs.Open.{has_name, batches_left, is_preparing}
+use Rattle.script_player.specs.Open.{Preparing, has_name, batches_left, is_preparing}
 use Rattle.script_player.specs.Ordered.{HasEntriesOf, IsSpan}
 use Rattle.script_player.specs.Held.{held_beside, begun_by, begun_of, joined_above, held_seen}
 use Rattle.script_player.specs.Refusals.{is_name_taken, own_of, own_refusal}
@@ -122,10 +122,10 @@ or_false true = refl
 or_false false = refl
 
 named_alone : (p f : ℕ) (q : Exchange) (es : List Exchange) (name : List ℕ)
-    → is_name_taken name (known_before (event_alone p f q) (events_alone 0 0 es)) ≡ has_name name (prepared_from [] es)
+    → is_name_taken 0 name (known_before (event_alone p f q) (events_alone 0 0 es)) ≡ has_name name (prepared_from [] es)
 named_alone p f q es name =
-    ap (λ (known : List Event). is_name_taken name known) (known_alone es p f 0 0 q)
-    ∙ ap (λ (ps : List _). has_name name (batches_left (events_alone 0 0 es)) || is_preparing name ps) (none_preparing es [] 0 0)
+    ap (λ (known : List Event). is_name_taken 0 name known) (known_alone es p f 0 0 q)
+    ∙ ap (λ (ps : List Preparing). has_name name (batches_left (events_alone 0 0 es)) || is_preparing name (filter (λ p. not (eqb p.caller 0)) ps)) (none_preparing es [] 0 0)
     ∙ or_false (has_name name (batches_left (events_alone 0 0 es)))
     ∙ ap (λ (above : List Exchange). has_name name (prepared_from [] above)) (exchanges_of_events es 0 0)
 

@@ -31,7 +31,7 @@ use Rattle.script_player.specs.Prepared.{Prepared, Kept, kept_at}
 use Rattle.script_player.specs.Queried.{IsRightReply}
 use Rattle.script_player.specs.Refused.{AnswersRead, AnswersMulti}
 use Rattle.script_player.specs.Right.{IsChangedOf, IsFound, IsCreatedIn, IsPreparedOf, IsAddedOf, IsSpent, IsRightFor}
-use Rattle.script_player.proofs.Standing.{is_table_at, point_at, scene_from-made}
+use Rattle.script_player.proofs.Standing.{is_table_at, scene_from-made}
 use Rattle.script_player.proofs.Reporting.{entries_stand}
 use Rattle.script_player.proofs.Naming.{name_at, names_at}
 use Rattle.script_player.proofs.Preparing.{kept_in, is_named}

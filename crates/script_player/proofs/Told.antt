@@ -1,5 +1,5 @@
 -- The small stories are legal, and the changed ones are not.
-use Rattle.std.proofs.Common.{◌≡◌, ℕ, ◌+◌, ◌≤◌, true, false, cond, eqb, Bool, List, [], ◌∷◌, ◌++◌, refl, ap, sym, ◌∙◌, true≢false, arith, All}
+use Rattle.std.proofs.Common.{◌≡◌, ℕ, true, false, cond, eqb, Bool, List, [], ◌∷◌, ◌++◌, refl, ap, sym, ◌∙◌, true≢false, arith}
 use Rattle.std.proofs.lemmas.List.Elements.{All-nil, All-cons}
 use Rattle.fixed_box.specs.declared.fix_box.FixBox.{FixBox}
 use Rattle.fixed_box.specs.Touch.{Touch}
@@ -15,7 +15,7 @@ use Rattle.script_player.specs.Ordered.{IsAfter}
 use Rattle.script_player.specs.Examples.{created, asked, entry_of_a, whole_span, span_before, late_plan, late_history, query_told, create_told, late_told, never_told, late_report, never_report, block_plan, block_history, block_told, block_report, section_create, section_query}
 use Rattle.script_player.specs.Answer.{Replied, Ready}
 use Rattle.reply_text.specs.declared.reply.Reply.TheVariants as replies
-use Rattle.script_player.specs.Legal.{IsRightEvent, IsPlayed, Legal}
+use Rattle.script_player.specs.Legal.{IsPlayed, Legal}
 
 never_so : {X : Type 0} → false ≡ true → X
 never_so h = absurd (true≢false (sym h))
@@ -50,16 +50,23 @@ late_legal bounds =
       told = late_told bounds;
       closing = [];
       played = record {
-        stand = (record { given = record { caller_is = refl; pass_is = refl; given_is = refl; answered_is = refl; order_is = refl }; answer = refl },
-          (record { given = record { caller_is = refl; pass_is = refl; given_is = refl; answered_is = refl; order_is = refl }; answer = refl },
-          (record {
-            task = first;
-            unfinished = refl;
-            goes_on = record { caller = refl; pass = refl; given = refl; answered = refl; order = refl; answer = (refl, tt) };
-            last = refl;
-          },
-          refl)));
-        right = (record {
+        stand = (
+          record { given = record { caller_is = refl; pass_is = refl; given_is = refl; answered_is = refl; order_is = refl }; answer = refl },
+          (
+            record { given = record { caller_is = refl; pass_is = refl; given_is = refl; answered_is = refl; order_is = refl }; answer = refl },
+            (
+              record {
+                task = first;
+                unfinished = refl;
+                goes_on = record { caller = refl; pass = refl; given = refl; answered = refl; order = refl; answer = (refl, tt) };
+                last = refl;
+              },
+              refl,
+            ),
+          ),
+        );
+        right = (
+          record {
             follows = All-nil (IsAfter first);
             span = record { ordered = omega arith; within = omega arith };
             entries = record { own = λ h. never_so h; lanes = tt; none = λ _. (refl, refl) };
@@ -67,25 +74,30 @@ late_legal bounds =
             own = tt;
             waits = tt;
           },
-          (record {
-            follows = All-cons (IsAfter create) first [] (record { ended = λ h _. never_so h; seen = λ other _ _. absurd (other refl); goes_on = λ h _. never_so h }) (All-nil (IsAfter create));
-            span = record { ordered = omega arith; within = omega arith };
-            entries = record { own = λ _. record { before = refl; own = refl }; lanes = tt; none = λ other. absurd (other refl) };
-            answer = λ _. (record { index = 0; entry = refl; place = 0; first = omega arith; last = omega arith; stands = refl; id = refl }, refl);
-            own = refl;
-            waits = λ h. never_so h;
-          },
-          (record {
-            follows = All-cons (IsAfter last) first (create ∷ [])
-                (record { ended = λ h _. never_so h; seen = λ _ _ h. omega (arith, h); goes_on = λ _ _. (refl, omega arith) })
-                (All-cons (IsAfter last) create [] (record { ended = λ _ h. never_so h; seen = λ _ h _. never_so h; goes_on = λ h _. never_so h }) (All-nil (IsAfter last)));
-            span = record { ordered = omega arith; within = omega arith };
-            entries = record { own = λ _. record { before = refl; own = refl }; lanes = tt; none = λ other. absurd (other refl) };
-            answer = λ _. (record { ids = []; listed = refl; right = none_found bounds (late_history bounds); none = refl }, refl);
-            own = refl;
-            waits = λ h. never_so h;
-          },
-          tt)));
+          (
+            record {
+              follows = All-cons (IsAfter create) first [] (record { ended = λ h _. never_so h; seen = λ other _ _. absurd (other refl); goes_on = λ h _. never_so h }) (All-nil (IsAfter create));
+              span = record { ordered = omega arith; within = omega arith };
+              entries = record { own = λ _. record { before = refl; own = refl }; lanes = tt; none = λ other. absurd (other refl) };
+              answer = λ _. (record { index = 0; entry = refl; place = 0; first = omega arith; last = omega arith; stands = refl; id = refl }, refl);
+              own = refl;
+              waits = λ h. never_so h;
+            },
+            (
+              record {
+                follows = All-cons (IsAfter last) first (create ∷ [])
+                    (record { ended = λ h _. never_so h; seen = λ _ _ h. omega (arith, h); goes_on = λ _ _. (refl, omega arith) })
+                    (All-cons (IsAfter last) create [] (record { ended = λ _ h. never_so h; seen = λ _ h _. never_so h; goes_on = λ h _. never_so h }) (All-nil (IsAfter last)));
+                span = record { ordered = omega arith; within = omega arith };
+                entries = record { own = λ _. record { before = refl; own = refl }; lanes = tt; none = λ other. absurd (other refl) };
+                answer = λ _. (record { ids = []; listed = refl; right = none_found bounds (late_history bounds); none = refl }, refl);
+                own = refl;
+                waits = λ h. never_so h;
+              },
+              tt,
+            ),
+          ),
+        );
         lawful = ((refl, omega arith), tt);
         entries = λ pass. late_entries (eqb 0 pass) (eqb 1 pass) (entry_of_a bounds ∷ []);
         spans_are = refl;
@@ -134,7 +146,8 @@ block_legal bounds =
           ),
           refl,
         );
-        right = (record {
+        right = (
+          record {
             follows = All-nil (IsAfter create);
             span = record { ordered = omega arith; within = omega arith };
             entries = record { own = λ _. record { before = refl; own = refl }; lanes = tt; none = λ other. absurd (other refl) };
@@ -142,15 +155,18 @@ block_legal bounds =
             own = refl;
             waits = λ h. never_so h;
           },
-          (record {
-            follows = All-cons (IsAfter query) create [] (record { ended = λ _ h. never_so h; seen = λ _ h _. never_so h; goes_on = λ h _. never_so h }) (All-nil (IsAfter query));
-            span = record { ordered = omega arith; within = omega arith };
-            entries = record { own = λ _. record { before = refl; own = refl }; lanes = tt; none = λ other. absurd (other refl) };
-            answer = λ _. (record { ids = []; listed = refl; right = none_found bounds (block_history bounds); none = refl }, refl);
-            own = refl;
-            waits = λ h. never_so h;
-          },
-          tt));
+          (
+            record {
+              follows = All-cons (IsAfter query) create [] (record { ended = λ _ h. never_so h; seen = λ _ h _. never_so h; goes_on = λ h _. never_so h }) (All-nil (IsAfter query));
+              span = record { ordered = omega arith; within = omega arith };
+              entries = record { own = λ _. record { before = refl; own = refl }; lanes = tt; none = λ other. absurd (other refl) };
+              answer = λ _. (record { ids = []; listed = refl; right = none_found bounds (block_history bounds); none = refl }, refl);
+              own = refl;
+              waits = λ h. never_so h;
+            },
+            tt,
+          ),
+        );
         lawful = ((refl, omega arith), tt);
         entries = λ pass. block_entries (eqb 1 pass) (eqb 2 pass) (entry_of_a bounds ∷ []);
         spans_are = refl;

@@ -1,6 +1,6 @@
 -- The refusals that come from the script and the answers above alone: a name stands for no id, or a batch is there
 -- or is not.
-use Rattle.std.specs.Prelude.{◌≡◌, ℕ, nat_lt, if◌then◌else◌, Bool, ◌||◌, List, [], ◌∷◌, length, Option, Some, None, is_some}
+use Rattle.std.specs.Prelude.{◌==◌, filter, not, ◌≡◌, ℕ, nat_lt, if◌then◌else◌, Bool, ◌||◌, List, [], ◌∷◌, length, Option, Some, None, is_some}
 use Rattle.script_text.specs.declared.command.Command.{Command}
 use Rattle.script_text.specs.declared.command.Command.TheVariants as commands
 use Rattle.reply_text.specs.declared.refusal.Refusal.{Refusal}
@@ -34,12 +34,13 @@ is_worker plan caller = nat_lt (length plan.actors) caller
 abbrev pub batches_for : Plan → ℕ → List Event → List Prepared
 batches_for plan caller known = if is_worker plan caller then batches_of caller known else batches_left known
 
--- a batch has the name, or an order that is not finished prepares one
-abbrev pub is_name_taken : List ℕ → List Event → Bool
-is_name_taken name known = has_name name (batches_left known) || is_preparing name (preparing_of known)
+-- a batch has the name, or an order of another caller that is not finished prepares one
+abbrev pub is_name_taken : ℕ → List ℕ → List Event → Bool
+is_name_taken caller name known =
+    has_name name (batches_left known) || is_preparing name (filter (λ p. not (p.caller == caller)) (preparing_of known))
 
 abbrev pub batch_refusal : Plan → ℕ → List Event → Command → Option Refusal
-batch_refusal plan caller known (commands.Prepare batch layer names) = if is_name_taken batch known then Some refusals.Batch else None
+batch_refusal plan caller known (commands.Prepare batch layer names) = if is_name_taken caller batch known then Some refusals.Batch else None
 batch_refusal plan caller known (commands.Finalize batch) = if has_name batch (batches_for plan caller known) then None else Some refusals.NoBatch
 batch_refusal plan caller known (commands.Abort batch) = if has_name batch (batches_for plan caller known) then None else Some refusals.NoBatch
 batch_refusal plan caller known command = None

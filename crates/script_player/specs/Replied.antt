@@ -82,7 +82,7 @@ IsSpentBy plan caller known batch asked reply made =
 -- what an order sees of batches, with whether a batch of the name is there
 abbrev pub kept_for : Plan → List Event → Event → List Event → List ℕ → ℕ → Kept
 kept_for plan earlier item later name layer =
-    record (held_seen plan earlier item later name layer) { named = is_name_taken name (known_before item earlier) }
+    record (held_seen plan earlier item later name layer) { named = is_name_taken item.caller name (known_before item earlier) }
 
 abbrev pub IsRightCommand : Plan → (List ℕ → ℕ → Kept) → ℕ → ℕ → Interval → List Event → Command → Reply → List Entry → Type 0
 IsRightCommand plan kept caller pass interval known (commands.Multi names) reply made = IsMulti plan.world.bodies interval known names reply made
